@@ -1,0 +1,4 @@
+pub mod NumberSteps
+pub mod Loop
+mod Texts
+mod SignedSteps

@@ -1,0 +1,6 @@
+pub mod Reading
+pub mod Numbers
+pub mod Signed
+pub mod Gives
+pub mod Items
+pub mod Spelling

@@ -1,0 +1,26 @@
+//! Bytes of a WebAssembly file, read from left to right with the place of the first fault, and written.
+//!
+//! A reader gives exactly what the reading function of `specs/` gives, unless memory runs out. What is written is
+//! exactly the spelling of `specs/`. It stands on `values`.
+#![tactic(auto)]
+
+mod counts;
+mod entry;
+mod fault;
+mod items;
+mod number;
+mod reader;
+mod spell;
+mod step;
+
+pub use counts::Counts;
+pub use entry::{Entry, read_entries, read_list};
+pub use fault::ReadFault;
+pub use items::{read_exactly, read_index, read_name};
+pub use number::{push_i32, push_number, push_u32};
+pub use reader::Reader;
+pub use spell::{Spell, write_entries, write_framed, write_list, write_name};
+pub use step::{Step, read_steps};
+
+#[cfg(test)]
+mod tests;

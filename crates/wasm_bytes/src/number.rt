@@ -1,0 +1,79 @@
+//! Numbers in their shortest form (WebAssembly core specification, 5.2.2).
+
+ghost use Rattle.std.specs.Prelude.{◌≡◌, ◌+◌, ◌^◌, ◌<◌, ◌++◌, OnOk};
+ghost use Rattle.wasm_bytes.specs.Numbers.{shortest, number_bytes};
+ghost use Rattle.std.specs.Prelude.{pos};
+ghost use Rattle.std.specs.Int.{int_div_euclid};
+ghost use Rattle.wasm_bytes.specs.Signed.{low_bits, is_digit, shortest_signed, signed_bytes};
+
+use std::alloc::AllocError;
+
+/// Appends the shortest LEB128 form of a number of 32 bits.
+pub fn push_u32(out: &mut Vec<u8>, value: u32) -> Result<(), AllocError>
+    ensures { OnOk result (out.new.items ≡ out.old.items ++ number_bytes value) }
+{
+    push_number(out, value as u64)
+}
+
+/// Appends the shortest LEB128 form of a number of 64 bits.
+#[tactic(auto, unfolding(crate::specs::Numbers::number_bytes))]
+pub fn push_number(out: &mut Vec<u8>, value: u64) -> Result<(), AllocError>
+    ensures { OnOk result (out.new.items ≡ out.old.items ++ number_bytes value) }
+{
+    push_shortest(out, 9, value)
+}
+
+#[tactic(auto, unfolding(crate::specs::Numbers::shortest))]
+fn push_shortest(out: &mut Vec<u8>, more: u32, value: u64) -> Result<(), AllocError>
+    requires { value < 128 ^ (more + 1) }
+    ensures { OnOk result (out.new.items ≡ out.old.items ++ shortest more value) }
+{
+    if more == 0 || value < 128 {
+        out.push(value as u8)?;
+        return Ok(());
+    }
+    out.push((value % 128) as u8 + 128)?;
+    push_shortest(out, more - 1, value / 128)
+}
+
+/// Appends the shortest signed LEB128 form of a number of 32 bits.
+#[tactic(auto, unfolding(crate::specs::Signed::signed_bytes))]
+pub fn push_i32(out: &mut Vec<u8>, value: i32) -> Result<(), AllocError>
+    ensures { OnOk result (out.new.items ≡ out.old.items ++ signed_bytes value) }
+{
+    push_signed(out, 9, value)
+}
+
+#[tactic(auto, unfolding(crate::specs::Signed::shortest_signed))]
+fn push_signed(out: &mut Vec<u8>, more: u32, value: i32) -> Result<(), AllocError>
+    ensures { OnOk result (out.new.items ≡ out.old.items ++ shortest_signed more value) }
+{
+    if more == 0 || is_digit(value) {
+        out.push(low_bits(value))?;
+        return Ok(());
+    }
+    out.push(low_bits(value) + 128)?;
+    push_signed(out, more - 1, high_bits(value))
+}
+
+/// The low seven bits.
+fn low_bits(value: i32) -> u8
+    ensures value { result ≡ low_bits value }
+    ensures bound { result < 128 }
+{
+    value.rem_euclid(128) as u8
+}
+
+/// All bits but the low seven.
+fn high_bits(value: i32) -> i32
+    ensures { result ≡ int_div_euclid value (pos 128) }
+{
+    value.div_euclid(128)
+}
+
+/// Seven bits with a sign are enough.
+fn is_digit(value: i32) -> bool
+    ensures { result ≡ is_digit value }
+{
+    -64 <= value && value < 64
+}

@@ -1,0 +1,114 @@
+//! What a module holds, by ids (WebAssembly core specification, 2.5).
+use values::{Seq, Text};
+use wasm_file::{
+    Body, FuncId, GlobalId, ImportId, Limits, MemoryId, Op, TableId, TagId, TypeId, ValType,
+};
+
+/// A function. It has an import or a body.
+#[derive(Debug, Drop)]
+pub struct Func {
+    pub ty: TypeId,
+    /// Its name in the name section.
+    pub name: Option<Text>,
+    pub import: Option<ImportId>,
+    pub body: Option<Body>,
+}
+
+/// A table.
+#[derive(Debug, Drop)]
+pub struct Table {
+    pub elem: ValType,
+    pub limits: Limits,
+    pub import: Option<ImportId>,
+}
+
+/// A memory.
+#[derive(Debug, Drop)]
+pub struct Memory {
+    pub limits: Limits,
+    pub import: Option<ImportId>,
+}
+
+/// A global variable. One that is imported has no initial expression.
+#[derive(Debug, Drop)]
+pub struct GlobalVar {
+    pub ty: ValType,
+    pub mutable: bool,
+    pub import: Option<ImportId>,
+    pub init: Seq<Op>,
+}
+
+/// A tag of exceptions.
+#[derive(Debug, Drop)]
+pub struct Tag {
+    pub ty: TypeId,
+    pub import: Option<ImportId>,
+}
+
+/// What an import brings in.
+#[derive(Clone, Copy, Debug, PartialEq, Eq, PartialOrd, Ord, Hash)]
+pub enum ImportKind {
+    Func(FuncId),
+    Table(TableId),
+    Memory(MemoryId),
+    Global(GlobalId),
+    Tag(TagId),
+}
+
+/// An import: the module and the name that it asks for, and what it brings in.
+#[derive(Debug, Drop)]
+pub struct Import {
+    pub module: Text,
+    pub name: Text,
+    pub kind: ImportKind,
+}
+
+/// Where an element segment goes.
+#[derive(Debug, Drop)]
+pub enum ElemPlace {
+    Passive,
+    Declared,
+    /// Into a table, from the place that an expression gives.
+    Active(TableId, Seq<Op>),
+}
+
+/// An element segment: functions, or an expression for each entry.
+#[derive(Debug, Drop)]
+pub struct Elem {
+    pub place: ElemPlace,
+    pub ty: ValType,
+    pub funcs: Seq<FuncId>,
+    pub exprs: Seq<Seq<Op>>,
+}
+
+/// A data segment. One that is active has a memory and an expression for its place.
+#[derive(Debug, Drop)]
+pub struct Segment {
+    pub place: Option<(MemoryId, Seq<Op>)>,
+    pub bytes: Seq<u8>,
+}
+
+/// How a module is read and written.
+#[derive(Clone, Copy, Debug, PartialEq, Eq)]
+pub struct ParseConfig {
+    /// Keeps the custom sections `.debug_*`.
+    pub keep_debug: bool,
+    /// Writes the name section.
+    pub names: bool,
+    /// Writes the producers section.
+    pub producers: bool,
+}
+
+/// A tool or language of the producers section, with its version.
+#[derive(Debug, Drop)]
+pub struct ProducerValue {
+    pub name: Text,
+    pub version: Text,
+}
+
+/// A field of the producers section.
+#[derive(Debug, Drop)]
+pub struct ProducerField {
+    pub name: Text,
+    pub values: Seq<ProducerValue>,
+}
