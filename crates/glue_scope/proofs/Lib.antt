@@ -1,0 +1,16 @@
+pub mod Among
+pub mod ByKind
+pub mod Drawn
+mod Edges
+pub mod FirstFree
+pub mod Idents
+mod KeySets
+pub mod Linked
+pub mod Lists
+mod LiteralReads
+mod NoteSteps
+mod NumberMaps
+mod PastEnds
+pub mod Samples
+mod Scopes
+pub mod Spaced

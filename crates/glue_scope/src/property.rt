@@ -1,0 +1,72 @@
+//! Properties, by their names and by computed keys.
+ghost use Rattle.std.specs.Prelude.{◌≡◌, ◌++◌, ◌==◌, IfOk, OnOk};
+ghost use Rattle.glue_scope.specs.Limits.{first_passes, last_passes, is_computed};
+ghost use Rattle.glue_scope.specs.Properties.{property_parts, segment_words};
+
+use crate::ident::is_valid_ident;
+use crate::word::Word;
+use std::alloc::{AllocError, Global};
+use values::Text;
+
+#[tactic(auto, using(crate::proofs::Edges::first_none, crate::proofs::Edges::first_some))]
+fn begins_with(bytes: &[u8], byte: u8) -> bool
+    ensures { result ≡ first_passes (λ b. b == byte) bytes.now }
+{
+    match bytes.first() {
+        None => false,
+        Some(first) => *first == byte,
+    }
+}
+
+#[tactic(auto, using(crate::proofs::Edges::last_none, crate::proofs::Edges::last_some))]
+fn ends_with(bytes: &[u8], byte: u8) -> bool
+    ensures { result ≡ last_passes (λ b. b == byte) bytes.now }
+{
+    match bytes.last() {
+        None => false,
+        Some(last) => *last == byte,
+    }
+}
+
+/// Whether the text has the form of a computed property key: it begins with `[`, ends with `]` and has two bytes or more.
+pub fn is_computed_key(name: &str) -> bool
+    ensures computed { result ≡ is_computed name.now }
+{
+    let bytes = name.as_bytes();
+    begins_with(bytes, b'[') && ends_with(bytes, b']')
+}
+
+/// Adds the access of a property: `.name`, or `["name"]` where the name is no identifier.
+#[tactic(auto, unfolding(crate::specs::Properties::segment_words))]
+fn push_segment(alloc: Global, words: &mut Vec<Word>, segment: &str) -> Result<(), AllocError>
+    ensures { OnOk result (words.new.items ≡ words.old.items ++ segment_words segment.now) }
+{
+    let text = Text::from_str(alloc, segment)?;
+    if is_valid_ident(segment) {
+        words.push(Word::Punct(6))?;
+        words.push(Word::Prop(text))?;
+        return Ok(());
+    }
+    words.push(Word::Punct(4))?;
+    words.push(Word::Text(text))?;
+    words.push(Word::Punct(5))?;
+    Ok(())
+}
+
+/// The words that access a property after an object.
+///
+/// A computed key is spliced whole. Any other name is split at its dots, and each part is accessed in turn.
+#[tactic(auto, unfolding(crate::specs::Properties::property_parts))]
+pub fn property_words(alloc: Global, name: &str) -> Result<Vec<Word>, AllocError>
+    ensures words { IfOk result (λ words. words.items ≡ property_parts name.now) }
+{
+    let mut words = Vec::new(alloc);
+    if is_computed_key(name) {
+        words.push(Word::Splice(Text::from_str(alloc, name)?))?;
+        return Ok(words);
+    }
+    for segment in name.split('.') {
+        push_segment(alloc, &mut words, segment)?;
+    }
+    Ok(words)
+}

@@ -1,0 +1,31 @@
+//! The description of a module's imports and exports, and the settings of a call.
+//!
+//! A description says by adapters how values pass between JavaScript and WebAssembly. Contracts see each of these
+//! types by its fields, with texts as their UTF-8 bytes and lists as lists.
+//!
+//! Stands on `wasm_core` and `glue_scope`.
+#![tactic(auto)]
+
+mod adapter;
+mod aux;
+mod description;
+mod import;
+mod name_tests;
+mod names;
+mod settings;
+#[cfg(test)]
+mod tests;
+
+pub use adapter::{
+    Adapter, AdapterId, AdapterJsImportKind, AdapterKind, AdapterType, Instruction,
+    NonstandardWitSection, VectorKind,
+};
+pub use aux::{
+    AuxDynamicUnion, AuxDynamicUnionVariant, AuxEnum, AuxExport, AuxExportKind,
+    AuxExportedMethodKind, AuxReceiverKind, AuxStringEnum, AuxStruct, StaticSlot, WasmBindgenAux,
+};
+pub use description::{Description, Lowered};
+pub use import::{AuxImport, AuxValue, Intrinsic, JsImport, JsImportName};
+pub use name_tests::{is_fixed_name, is_host_name, live_count};
+pub use names::{EMSCRIPTEN_HOSTS, HELPER_NAMES, HOSTS, MEMORY_NAMES, TABLE_NAMES, TARGET_NAMES};
+pub use settings::{EncodeInto, Settings, Target};
