@@ -1,0 +1,5 @@
+mod Drawing
+mod Functions
+pub mod Passing
+mod Runs
+mod Stacks

@@ -1,0 +1,47 @@
+//! From steps to a function.
+ghost use Rattle.std.specs.Prelude.{◌≡◌, [], IfOk};
+ghost use Rattle.glue_binding.specs.Binding.{IsBoundFunction};
+
+use crate::body::body_of;
+use crate::draw::{draw, reserve_outer, temporaries_of};
+use crate::step::Step;
+use glue_heap::{JsFunction, function_words_of};
+use glue_scope::Names;
+use std::alloc::{AllocError, Global};
+use values::{Seq, Text};
+
+/// The JavaScript function of an adapter's steps, with parameters that are drawn for the wanted names.
+///
+/// Where a step names a parameter that isn't there, or finds no operand, the empty name stands for it, whose value is `undefined`:
+/// the text is no JavaScript then. The steps of a checked adapter never come there. The only error is want of memory. Documentation
+/// and TypeScript signature are empty.
+pub fn bind<N: Names>(
+    alloc: Global,
+    steps: &[Step],
+    wanted: &[Text],
+) -> Result<JsFunction, AllocError>
+    ensures function { IfOk result (λ f. IsBoundFunction steps.now wanted.now f) }
+{
+    let mut scope = N::new(alloc);
+    reserve_outer(&mut scope, steps)?;
+    let params = draw(alloc, &mut scope, wanted)?;
+    let others = temporaries_of(alloc, steps)?;
+    let temps = draw(alloc, &mut scope, others.as_slice())?;
+    let tree = body_of(alloc, steps, params.as_slice(), temps.as_slice())?;
+    let words = function_words_of(alloc, params.as_slice(), tree.as_slice())?;
+    Ok(JsFunction {
+        params,
+        tree,
+        words,
+        ts_sig: empty(alloc),
+        ts_doc: empty(alloc),
+        js_doc: empty(alloc),
+    })
+}
+
+/// An empty text.
+fn empty(alloc: Global) -> Text
+    ensures { result ≡ [] }
+{
+    Text::new(String::new(alloc))
+}

@@ -1,0 +1,5 @@
+pub mod Value
+pub mod Term
+pub mod TreeMeaning
+pub mod Plainly
+pub mod Spelling
