@@ -1,0 +1,4 @@
+pub mod Causes
+pub mod Listing
+pub mod Memory
+pub mod Taking

@@ -1,0 +1,5 @@
+pub mod Stripped
+pub mod Laying
+pub mod Rows
+pub mod Characters
+pub mod Parts

@@ -1,0 +1,3 @@
+pub mod Lists
+pub mod Sections
+pub mod Utf8

@@ -1,0 +1,4 @@
+pub mod Reading
+pub mod Thin
+pub mod Document
+pub mod Lowering

@@ -1,0 +1,135 @@
+//! Lowering a module.
+ghost use Rattle.std.specs.Prelude.{◌≡◌, ◌≢◌, ◌≤◌, ◌++◌, [], ◌∷◌, ℕ, IfOk, IfSome, None, Some, option_map};
+ghost use Rattle.std.specs.declared.option.Option.{Option};
+ghost use Rattle.wasm_core.specs.Contents.{Contents};
+ghost use Rattle.glue_ends.specs.Causes.{Rose};
+ghost use Rattle.glue_shared.specs.declared.description.Lowered.{Lowered};
+ghost use Rattle.glue_shared.specs.declared.settings.Settings.{Settings};
+ghost use Rattle.glue_lower.specs.Lowering.{described_by, glue_sections, listed, lowered, lowered_of};
+
+use crate::document::read_description;
+use crate::reads::LowerFault;
+use glue_shared::{Description, Lowered, NonstandardWitSection, Settings, WasmBindgenAux};
+use std::alloc::Global;
+use wasm_core::{Custom, Module};
+
+/// What gives a module its description.
+pub trait Lowering {
+    /// What it would give now for these settings and this module, or nothing; where it tells.
+    ghost told: { Self → Settings → Contents → Option (Option Lowered) };
+
+    /// How often it has failed. It never falls.
+    ghost faults: { Self → ℕ };
+
+    /// The module, from which the description was taken, and the description. `Failed` where there is none.
+    fn lower(
+        &mut self,
+        alloc: Global,
+        settings: &Settings,
+        module: Module,
+    ) -> Result<Lowered, LowerFault>
+        ensures ok { IfOk result (λ l. IfSome (told self.old settings.now «module») (λ t. t ≡ Some l)) }
+        ensures failed { result ≡ Err LowerFault.Failed → Rose (faults self.old) (faults self.new) }
+        ensures nothing { result ≡ Err LowerFault.Failed → IfSome (told self.old settings.now «module») (λ t. t ≡ None) }
+        ensures later { faults self.old ≤ faults self.new };
+}
+
+/// Reads the description as JSON in the custom section `__wbg_glue`, and tells what it gives.
+#[derive(Drop)]
+pub struct JsonLowering {
+    faults: u64,
+}
+
+impl JsonLowering {
+    pub fn new() -> JsonLowering {
+        JsonLowering { faults: 0 }
+    }
+}
+
+impl Lowering for JsonLowering {
+    ghost told = { λ _ settings m. Some (lowered_of settings m) };
+
+    ghost faults = { λ s. s.faults };
+
+    fn lower(
+        &mut self,
+        alloc: Global,
+        settings: &Settings,
+        module: Module,
+    ) -> Result<Lowered, LowerFault>
+        ensures ok { IfOk result (λ l. lowered_of settings.now «module» ≡ Some l) }
+        ensures failed { result ≡ Err LowerFault.Failed → Rose self.old.faults self.new.faults }
+        ensures nothing { result ≡ Err LowerFault.Failed → lowered_of settings.now «module» ≡ None }
+        ensures later { self.old.faults ≤ self.new.faults }
+
+        // The count stays at any other answer.
+        ensures still { result ≢ Err LowerFault.Failed → self.new.faults ≡ self.old.faults }
+    {
+        let lowered = read_module(alloc, settings, module);
+        if let Err(LowerFault::Failed) = lowered {
+            self.faults = self.faults.saturating_add(1);
+        }
+        lowered
+    }
+}
+
+// The section that holds the description, or none. Fails where there are two.
+fn glue_section(customs: &[Custom]) -> Result<Option<&Custom>, LowerFault>
+    ensures ok { IfOk result (λ s. glue_sections customs.now ≡ listed (option_map (λ c. c.now) s)) }
+    ensures failed { result ≡ Err LowerFault.Failed → described_by (glue_sections customs.now) ≡ None }
+    ensures memory { result ≢ Err LowerFault.OutOfMemory }
+{
+    let mut found = None;
+    for custom in customs {
+        if custom.name.as_str() == "__wbg_glue" {
+            if found.is_some() {
+                return Err(LowerFault::Failed);
+            }
+            found = Some(custom);
+        }
+    }
+    Ok(found)
+}
+
+// What the custom sections describe.
+fn read_customs(alloc: Global, customs: &[Custom]) -> Result<Option<Description>, LowerFault>
+    ensures ok { IfOk result (λ d. described_by (glue_sections customs.now) ≡ Some d) }
+    ensures failed { result ≡ Err LowerFault.Failed → described_by (glue_sections customs.now) ≡ None }
+{
+    match glue_section(customs)? {
+        Some(section) => read_description(alloc, section.bytes.as_slice()),
+        None => Ok(Some(Description::empty(alloc))),
+    }
+}
+
+// A module with its description, or with an empty one.
+fn with_description(alloc: Global, module: Module, description: Option<Description>) -> Lowered
+    ensures { result ≡ lowered «module» description }
+{
+    match description {
+        Some(Description { wit, aux }) => Lowered {
+            module,
+            wit,
+            aux,
+            is_read: true,
+        },
+        None => Lowered {
+            module,
+            wit: NonstandardWitSection::empty(alloc),
+            aux: WasmBindgenAux::empty(alloc),
+            is_read: false,
+        },
+    }
+}
+
+// The module without the section, and its description.
+#[tactic(auto, unfolding(crate::specs::Lowering::lowered_of))]
+fn read_module(alloc: Global, settings: &Settings, module: Module) -> Result<Lowered, LowerFault>
+    ensures ok { IfOk result (λ l. lowered_of settings.now «module» ≡ Some l) }
+    ensures failed { result ≡ Err LowerFault.Failed → lowered_of settings.now «module» ≡ None }
+{
+    let mut module = module;
+    let description = read_customs(alloc, module.customs())?;
+    module.remove_custom("__wbg_glue");
+    Ok(with_description(alloc, module, description))
+}
