@@ -1,0 +1,50 @@
+#!/usr/bin/env python3
+"""Writes a WebAssembly module of N functions to standard output: make.py N > MODULE
+
+The module has one type, (i32, i32) -> i32, and N functions that add their two arguments. It has no import, no export
+and no custom section. Every number is written in its shortest form. The format is the binary format of the
+WebAssembly core specification, section 5.
+"""
+
+import sys
+
+PREAMBLE = b"\0asm\1\0\0\0"
+TYPE, FUNCTION, CODE = 1, 3, 10
+ADD_TYPE = bytes([0x60, 2, 0x7F, 0x7F, 1, 0x7F])
+# No locals; local.get 0, local.get 1, i32.add, end.
+ADD_BODY = bytes([0, 0x20, 0, 0x20, 1, 0x6A, 0x0B])
+
+
+def leb128(value):
+    """The shortest unsigned LEB128 form of a number."""
+    out = bytearray()
+    while value > 0x7F:
+        out.append(value & 0x7F | 0x80)
+        value >>= 7
+    out.append(value)
+    return bytes(out)
+
+
+def section(number, count, entries):
+    """A section that holds a list: its number, its length, the count and the entries."""
+    content = leb128(count) + entries
+    return bytes([number]) + leb128(len(content)) + content
+
+
+def module(count):
+    """A module of `count` functions."""
+    body = leb128(len(ADD_BODY)) + ADD_BODY
+    return b"".join(
+        [
+            PREAMBLE,
+            section(TYPE, 1, ADD_TYPE),
+            section(FUNCTION, count, leb128(0) * count),
+            section(CODE, count, body * count),
+        ]
+    )
+
+
+if __name__ == "__main__":
+    if len(sys.argv) != 2 or not sys.argv[1].isdecimal():
+        sys.exit(__doc__.splitlines()[0])
+    sys.stdout.buffer.write(module(int(sys.argv[1])))

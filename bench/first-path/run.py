@@ -1,0 +1,110 @@
+#!/usr/bin/env python3
+"""Measures the program on modules of 100,000, 300,000 and 1,000,000 functions, and prints a table.
+
+The program is crates/glue_program/out/glue_program, which the script `glue` at the top of the repository builds.
+"""
+
+import math
+import os
+import subprocess
+import sys
+import tempfile
+import time
+from pathlib import Path
+
+HERE = Path(__file__).resolve().parent
+PROGRAM = HERE.parents[1] / "crates/glue_program/out/glue_program"
+COMMAND = [str(PROGRAM), "--target", "deno"]
+SIZES = [100_000, 300_000, 1_000_000]
+RUNS = 5
+PIECE = 1 << 16
+# The producers section that the program adds: `processed-by` with `wasm-bindgen` and its version.
+ADDED = 48
+
+
+def make(count, path):
+    """Writes the module of `count` functions to a file, in a process of its own (see `run`)."""
+    with path.open("wb") as out:
+        subprocess.run([sys.executable, str(HERE / "make.py"), str(count)], stdout=out, check=True)
+
+
+def check(path):
+    """Runs the program once, and stops where the module that it prints doesn't begin with the one that it read."""
+    with path.open("rb") as module, path.open("rb") as digits:
+        with subprocess.Popen(COMMAND, stdin=module, stdout=subprocess.PIPE) as child:
+            header = child.stdout.readline().decode().rstrip("\n")
+            wanted = f"file out_bg.wasm hex {path.stat().st_size + ADDED}"
+            same = header == wanted
+            while same and (piece := digits.read(PIECE)):
+                same = child.stdout.read(2 * len(piece)) == piece.hex().encode()
+            while child.stdout.read(PIECE):
+                pass
+    if not same or child.returncode != 0:
+        sys.exit(f"{path.name}: status {child.returncode}, first line: {header}")
+
+
+def run(path):
+    """One run: seconds by the wall clock, and the program's peak resident memory in bytes.
+
+    Linux counts what this process held at the start of the program as the program's, so this process stays small.
+    """
+    with path.open("rb") as module:
+        begin = time.perf_counter()
+        child = subprocess.Popen(COMMAND, stdin=module, stdout=subprocess.DEVNULL)
+        _, status, usage = os.wait4(child.pid, 0)
+        seconds = time.perf_counter() - begin
+    child.returncode = os.waitstatus_to_exitcode(status)
+    if child.returncode != 0:
+        sys.exit(f"{path.name}: status {child.returncode}")
+    return seconds, usage.ru_maxrss * 1024
+
+
+def exponent(before, after, name):
+    """How a figure grows between two sizes: 1 where it grows as the number of functions does."""
+    return math.log(after[name] / before[name]) / math.log(after["count"] / before["count"])
+
+
+def measure(count, folder):
+    """The figures of one size: the least of the runs, of the seconds and of the memory."""
+    path = folder / f"{count}.wasm"
+    make(count, path)
+    check(path)
+    runs = [run(path) for _ in range(RUNS)]
+    return {
+        "count": count,
+        "bytes": path.stat().st_size,
+        "seconds": min(seconds for seconds, _ in runs),
+        "memory": min(memory for _, memory in runs),
+    }
+
+
+def row(figures, before):
+    """A line of the table."""
+    growth = ["", ""]
+    if before is not None:
+        growth = [f"{exponent(before, figures, name):.2f}" for name in ("seconds", "memory")]
+    cells = [
+        f"{figures['count']:,}",
+        f"{figures['bytes']:,}",
+        f"{figures['seconds']:.3f}",
+        f"{figures['memory'] / 2**20:.1f}",
+        *growth,
+    ]
+    return "| " + " | ".join(cells) + " |"
+
+
+def main():
+    if not PROGRAM.exists():
+        sys.exit("the program is not built: run the script `glue` at the top of the repository once")
+    print("| functions | bytes | seconds | peak MiB | exponent, seconds | exponent, memory |")
+    print("|---:|---:|---:|---:|---:|---:|")
+    before = None
+    with tempfile.TemporaryDirectory() as folder:
+        for count in SIZES:
+            figures = measure(count, Path(folder))
+            print(row(figures, before), flush=True)
+            before = figures
+
+
+if __name__ == "__main__":
+    main()

@@ -1,0 +1,16 @@
+mod Answered
+mod Calling
+mod Fits
+mod Fixed
+mod FixedItems
+mod FixedNames
+mod Forms
+mod ItemLists
+mod Made
+mod Named
+mod Own
+mod Passing
+mod Public
+mod Resolved
+mod Wanted
+mod Whole

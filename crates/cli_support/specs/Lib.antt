@@ -1,0 +1,11 @@
+pub mod Check
+pub mod Defined
+pub mod Generating
+pub mod Items
+pub mod Keys
+pub mod Linked
+pub mod Plan
+pub mod Published
+pub mod Resolving
+pub mod RoleWords
+pub mod Targets

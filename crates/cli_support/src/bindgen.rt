@@ -1,0 +1,434 @@
+//! The generator: what is set, the input, and the call that makes an output of them.
+ghost use Rattle.std.specs.Prelude.{◌≡◌, ◌≢◌, ◌↔◌, IsTrue, IfOk, ◌≤◌, IfErr, IsErr, OnOk, OnErr, Ok, Err, Some, None, codes, false, option_map, string_bytes, true, map};
+ghost use Rattle.std.specs.List.{list_all};
+ghost use Rattle.wasm_core.specs.Contents.{Contents};
+ghost use Rattle.wasm_core.specs.Parsing.{module_of};
+ghost use Rattle.glue_ends.specs.Causes.{Rose};
+ghost use Rattle.glue_scope.specs.Words.{printed};
+ghost use Rattle.glue_shared.specs.declared.settings.Settings.{Settings};
+ghost use Rattle.glue_shared.specs.declared.description.Lowered.{Lowered};
+ghost use Rattle.cli_support.specs.declared.fault.Fault.{Fault};
+ghost use Rattle.wasm_core.specs.declared.types.Import.{Import};
+ghost use Rattle.cli_support.specs.Resolving.{entry_at};
+ghost use Rattle.cli_support.specs.Check.{is_built as is_built_form};
+ghost use Rattle.cli_support.specs.Items.{IsGlue};
+ghost use Rattle.cli_support.specs.Generating.{Input, settings_of as the_settings, is_stem as the_stem_test, reading, prepared, is_deno as the_deno_test, is_stem_byte as stem_byte, glue_module, after_reading, after_lowering, after_parsing, after_input, answer_to, answer_of, moved, moved_one, rewritten, IsMadeOf, IsFaultOf, IsKept, IsPlain, Answers, stem_of, fault_of};
+
+use crate::check::is_built;
+use crate::fault::Fault;
+use crate::items::glue_items;
+use crate::output::Output;
+use glue_lower::{LowerFault, Lowering};
+use glue_scope::{IdentScope, Item, print};
+use glue_shared::{AdapterId, EncodeInto, Lowered, Settings, Target};
+use std::alloc::{AllocError, Global};
+use std::marker::Model;
+use thiserror::Error;
+use values::{Duplicate, Seq, Text};
+use wasm_core::{ImportId, Module, ParseConfig, ParseFault};
+
+/// No input was handed in.
+#[derive(Clone, Copy, Debug, PartialEq, Eq)]
+pub struct NoInput;
+
+/// Why a setter refuses.
+#[derive(Debug, Drop, PartialEq, Eq, Error)]
+pub enum SetFault {
+    /// A target stands already.
+    #[error("ModeTwice")]
+    ModeTwice,
+    /// Memory ran out.
+    #[error("OutOfMemory")]
+    OutOfMemory,
+}
+
+/// What is set for the next call, and its input.
+#[derive(Debug, Drop)]
+pub struct Bindgen {
+    target: Target,
+    externref: bool,
+    multi_value: bool,
+    encode_into: EncodeInto,
+    /// The name that the files begin with, and a module's bytes.
+    input: Option<(Text, Seq<u8>)>,
+}
+
+impl Model for Bindgen {
+    ghost use Rattle.cli_support.specs.Generating.{Configured};
+
+    ghost Value = { Configured };
+
+    ghost view = { λ b. record { target = b.target; externref = b.externref; multi_value = b.multi_value; encode_into = b.encode_into; input = b.input } };
+}
+
+fn is_stem_byte(b: u8) -> bool
+    ensures test { result ≡ stem_byte b }
+{
+    b.is_ascii_alphanumeric() || b == b'_' || b == b'-' || b == b'.'
+}
+
+// Whether each of the bytes is one of a name for files.
+fn are_stem_bytes(bytes: &[u8]) -> bool
+    ensures test { result ≡ list_all stem_byte bytes.now }
+{
+    bytes.iter().all(|b| is_stem_byte(*b))
+}
+
+// Whether the name is one for files: ASCII letters, digits, `_`, `-` and `.`, and at least one of them.
+fn is_stem(name: &str) -> bool
+    ensures test { result ≡ the_stem_test name.now }
+{
+    match name.as_bytes().split_first() {
+        None => false,
+        Some((first, rest)) => is_stem_byte(*first) && are_stem_bytes(rest),
+    }
+}
+
+// Whether the files are for Deno.
+fn is_deno(target: &Target) -> bool
+    ensures test { result ≡ the_deno_test target.now }
+{
+    matches!(target, Target::Deno)
+}
+
+// How a byte input is read: sections `.debug_*` go, names and producers stay.
+fn parse_config() -> ParseConfig
+    ensures config { result ≡ reading }
+{
+    ParseConfig {
+        keep_debug: false,
+        names: true,
+        producers: true,
+    }
+}
+
+// The fault of what isn't built yet.
+fn not_built(alloc: Global, what: &str) -> Fault
+    ensures fault { IsFaultOf result (Err (Fault.NotBuilt what.now)) }
+    ensures later { result ≢ Fault.Lower }
+{
+    match Text::from_str(alloc, what) {
+        Ok(what) => Fault::NotBuilt { what },
+        Err(_) => Fault::OutOfMemory,
+    }
+}
+
+// The fault of a module that isn't read.
+fn parse_fault(alloc: Global, fault: ParseFault) -> Fault
+    ensures fault { IsFaultOf result (Err (fault_of fault)) }
+    ensures later { result ≢ Fault.Lower }
+{
+    match fault {
+        ParseFault::Parse { place } => Fault::Parse { place },
+        ParseFault::NotBuilt => not_built(alloc, "module"),
+        ParseFault::OutOfMemory => Fault::OutOfMemory,
+    }
+}
+
+// The module with the entry of this program among its producers.
+fn prepare(alloc: Global, module: Module) -> Result<Module, AllocError>
+    ensures prepared { IfOk result (λ m. m ≡ prepared «module») }
+{
+    let mut module = module;
+    module.add_processed_by(alloc, "wasm-bindgen", "0.2.130")?;
+    Ok(module)
+}
+
+// The name of the module that own imports move to.
+fn glue_module_name(alloc: Global, stem: &str) -> Result<String, AllocError>
+    ensures name { IfOk result (λ name. string_bytes name ≡ glue_module stem.now) }
+{
+    let mut name = String::from_str(alloc, "./")?;
+    name.push_str(stem)?;
+    name.push_str("_bg.js")?;
+    Ok(name)
+}
+
+// The name of the import at a place.
+fn import_name(alloc: Global, module: &Module, place: u32) -> Result<Option<Text>, AllocError>
+    ensures name { IfOk result (λ name. name ≡ option_map (λ (i : Import). i.name) (entry_at module.now.imports place)) }
+{
+    match module.imports().get(place as usize) {
+        Some(Some(import)) => Ok(Some(import.name.copy(alloc)?)),
+        _ => Ok(None),
+    }
+}
+
+// Moves the import at a place to the glue file's module.
+fn move_import(alloc: Global, module: &mut Module, stem: &str, place: u32) -> Result<(), AllocError>
+    ensures moved { OnOk result (module.new ≡ moved_one stem.now place (entry_at module.old.imports place) module.old) }
+{
+    let name = import_name(alloc, module, place)?;
+    if let Some(name) = name {
+        let home = glue_module_name(alloc, stem)?;
+        module.set_import(alloc, ImportId(place), home.as_str(), name.as_str())?;
+    }
+    Ok(())
+}
+
+// Moves the imports that adapters implement to the glue file's module.
+fn move_imports(
+    alloc: Global,
+    module: Module,
+    stem: &str,
+    pairs: &[(ImportId, AdapterId)],
+) -> Result<Module, AllocError>
+    ensures moved { IfOk result (λ m. m ≡ moved stem.now (map (λ pair. pair.0.0) pairs.now) «module») }
+{
+    let mut module = module;
+    for pair in pairs {
+        move_import(alloc, &mut module, stem, pair.0.0)?;
+    }
+    Ok(module)
+}
+
+// The module that is written of a description that is built: its own imports are those that adapters implement.
+fn rewrite(alloc: Global, settings: &Settings, lowered: Lowered) -> Result<Module, AllocError>
+    requires plain { IsPlain settings.now }
+    requires built { is_built_form settings.now lowered ≡ true }
+    ensures rewritten { IfOk result (λ m. m ≡ rewritten settings.now lowered) }
+{
+    move_imports(
+        alloc,
+        lowered.module,
+        settings.stem.as_str(),
+        lowered.wit.implements.as_slice(),
+    )
+}
+
+// Makes an output of items and a description.
+fn assemble(
+    alloc: Global,
+    settings: Settings,
+    lowered: Lowered,
+    items: Seq<Item>,
+) -> Result<Output, AllocError>
+    requires plain { IsPlain settings }
+    requires built { is_built_form settings lowered ≡ true }
+    requires drawn { IsGlue settings lowered items }
+    ensures made { IfOk result (λ o. IsMadeOf settings lowered o) }
+{
+    let js = Text::new(print(alloc, items.as_slice())?);
+    let module = rewrite(alloc, &settings, lowered)?;
+    Ok(Output::new(settings, items, js, module))
+}
+
+// The items of a description, where it is built.
+#[tactic(auto, using(crate::proofs::Answered::unbuilt_fault, crate::proofs::Answered::unresolved_fault))]
+fn draw(alloc: Global, settings: &Settings, lowered: &Lowered) -> Result<Seq<Item>, Fault>
+    ensures built { IfOk result (λ items. is_built_form settings.now lowered.now ≡ true) }
+    ensures drawn { IfOk result (λ items. IsGlue settings.now lowered.now items) }
+    ensures cause { IfErr result (λ f. IsFaultOf f (after_reading settings.now lowered.now)) }
+    ensures later { result ≢ Err Fault.Lower }
+{
+    match is_built(alloc, settings, lowered) {
+        Err(_) => Err(Fault::OutOfMemory),
+        Ok(false) => Err(not_built(alloc, "description")),
+        Ok(true) => match glue_items::<IdentScope>(alloc, settings, lowered) {
+            Err(_) => Err(Fault::OutOfMemory),
+            Ok(None) => Err(not_built(alloc, "description")),
+            Ok(Some(items)) => Ok(items),
+        },
+    }
+}
+
+// Makes an output of a description, where it is built.
+#[tactic(auto, using(crate::proofs::Answered::made_answer))]
+fn make(alloc: Global, settings: Settings, lowered: Lowered) -> Result<Output, Fault>
+    requires plain { IsPlain settings }
+    ensures made { IfOk result (λ o. Answers settings (Ok o) (Some (after_reading settings lowered))) }
+    ensures cause { IfErr result (λ f. Answers settings (Err f) (Some (after_reading settings lowered))) }
+    ensures later { result ≢ Err Fault.Lower }
+{
+    match draw(alloc, &settings, &lowered) {
+        Err(fault) => Err(fault),
+        Ok(items) => match assemble(alloc, settings, lowered, items) {
+            Err(_) => Err(Fault::OutOfMemory),
+            Ok(output) => Ok(output),
+        },
+    }
+}
+
+// Lowers a module, and makes an output of what is told.
+#[tactic(auto, using(crate::proofs::Answered::lowered_made, crate::proofs::Answered::lowered_fault, crate::proofs::Answered::failed_answer, crate::proofs::Answered::memory))]
+fn lower_and_make<L: Lowering>(
+    alloc: Global,
+    settings: Settings,
+    module: Module,
+    lowering: &mut L,
+) -> Result<Output, Fault>
+    requires plain { IsPlain settings }
+    ensures made { IfOk result (λ o. Answers settings (Ok o) (after_lowering settings (L.told lowering.old settings «module»))) }
+    ensures cause { IfErr result (λ f. Answers settings (Err f) (after_lowering settings (L.told lowering.old settings «module»))) }
+    ensures lower { result ≡ Err Fault.Lower → Rose (L.faults lowering.old) (L.faults lowering.new) }
+    ensures later { L.faults lowering.old ≤ L.faults lowering.new }
+{
+    match lowering.lower(alloc, &settings, module) {
+        Ok(lowered) => make(alloc, settings, lowered),
+        Err(LowerFault::Failed) => Err(Fault::Lower),
+        Err(LowerFault::OutOfMemory) => Err(Fault::OutOfMemory),
+    }
+}
+
+// Makes an output of a module that was read.
+#[tactic(auto, using(crate::proofs::Answered::deno_made, crate::proofs::Answered::deno_fault, crate::proofs::Answered::other_target_answer, crate::proofs::Answered::memory, crate::proofs::Answered::plain_settings))]
+fn generate_from<L: Lowering>(
+    alloc: Global,
+    settings: Settings,
+    module: Module,
+    lowering: &mut L,
+) -> Result<Output, Fault>
+    requires kept { IsKept settings }
+    ensures made { IfOk result (λ o. Answers settings (Ok o) (after_parsing (L.told lowering.old settings) settings (Ok «module»))) }
+    ensures cause { IfErr result (λ f. Answers settings (Err f) (after_parsing (L.told lowering.old settings) settings (Ok «module»))) }
+    ensures lower { result ≡ Err Fault.Lower → Rose (L.faults lowering.old) (L.faults lowering.new) }
+    ensures later { L.faults lowering.old ≤ L.faults lowering.new }
+{
+    if !is_deno(&settings.target) {
+        return Err(not_built(alloc, "target"));
+    }
+    match prepare(alloc, module) {
+        Err(_) => Err(Fault::OutOfMemory),
+        Ok(module) => lower_and_make(alloc, settings, module, lowering),
+    }
+}
+
+// Makes an output of a module's bytes.
+#[tactic(auto, using(crate::proofs::Answered::read_made, crate::proofs::Answered::read_fault, crate::proofs::Answered::unread_answer, crate::proofs::Answered::stem_answer))]
+fn generate_bytes<L: Lowering>(
+    alloc: Global,
+    settings: Settings,
+    bytes: &[u8],
+    lowering: &mut L,
+) -> Result<Output, Fault>
+    requires kept { IsKept settings }
+    ensures made { IfOk result (λ o. Answers settings (Ok o) (after_input (L.told lowering.old) settings bytes.now)) }
+    ensures cause { IfErr result (λ f. Answers settings (Err f) (after_input (L.told lowering.old) settings bytes.now)) }
+    ensures lower { result ≡ Err Fault.Lower → Rose (L.faults lowering.old) (L.faults lowering.new) }
+    ensures later { L.faults lowering.old ≤ L.faults lowering.new }
+{
+    if !is_stem(settings.stem.as_str()) {
+        return Err(Fault::BadStem);
+    }
+    match Module::parse(alloc, bytes, &parse_config()) {
+        Ok(module) => generate_from(alloc, settings, module, lowering),
+        Err(fault) => Err(parse_fault(alloc, fault)),
+    }
+}
+
+impl Bindgen {
+    ghost use Rattle.cli_support.specs.Generating.{Configured, fresh, with_deno, is_free};
+
+    /// The settings at the start: a bundler's files, and whether reference types and several results are taken to be there.
+    pub fn new(externref: bool, multi_value: bool) -> Bindgen
+        ensures fresh { result ≡ fresh externref multi_value }
+    {
+        Bindgen {
+            target: Target::Bundler {
+                browser_only: false,
+            },
+            externref,
+            multi_value,
+            encode_into: EncodeInto::Test,
+            input: None,
+        }
+    }
+
+    /// Makes files for Deno, where `enable` says so. `ModeTwice` comes exactly where a target other than the bundler's stands,
+    /// and changes nothing.
+    pub fn deno(&mut self, enable: bool) -> Result<(), SetFault>
+        ensures ok { OnOk result (self.new ≡ with_deno enable self.old) }
+        ensures refused { OnErr result (self.new ≡ self.old) }
+        ensures cause { IsErr result ↔ (is_free enable self.old.target ≡ false) }
+        ensures twice { OnErr result (result ≡ Err SetFault.ModeTwice) }
+    {
+        if !enable {
+            return Ok(());
+        }
+        match self.target {
+            Target::Bundler { browser_only: _ } => {
+                self.target = Target::Deno;
+                self.encode_into = EncodeInto::Always;
+                Ok(())
+            }
+            _ => Err(SetFault::ModeTwice),
+        }
+    }
+
+    /// Hands in a module's bytes, and the name that its files begin with, in place of an earlier input.
+    /// Where memory runs out the bytes are dropped, and the earlier input stays.
+    pub fn input_bytes(
+        &mut self,
+        alloc: Global,
+        name: &str,
+        bytes: Vec<u8>,
+    ) -> Result<(), AllocError>
+        ensures ok { OnOk result (self.new ≡ record self.old { input = Some (name.now, bytes.items) }) }
+        ensures refused { OnErr result (self.new ≡ self.old) }
+    {
+        let stem = Text::from_str(alloc, name)?;
+        self.input = Some((stem, Seq::from_vec(bytes)));
+        Ok(())
+    }
+
+    /// The name that was handed in with the input.
+    pub fn stem(&self) -> Result<&str, NoInput>
+        ensures ok { IfOk result (λ stem. option_map (λ input. input.0) self.now.input ≡ Some stem.now) }
+        ensures err { OnErr result (self.now.input ≡ None) }
+    {
+        match &self.input {
+            Some(input) => Ok(input.0.as_str()),
+            None => Err(NoInput),
+        }
+    }
+
+    // The settings of a call whose files begin with the name.
+    fn settings(&self, alloc: Global, stem: &Text) -> Result<Settings, AllocError>
+        ensures settings { IfOk result (λ settings. settings ≡ the_settings self.now stem.now) }
+    {
+        Ok(Settings {
+            stem: stem.copy(alloc)?,
+            target: self.target.copy(alloc)?,
+            debug: false,
+            typescript: false,
+            omit_imports: false,
+            export_wasm: false,
+            externref: self.externref,
+            multi_value: self.multi_value,
+            encode_into: self.encode_into,
+            omit_default_module_path: true,
+            ts_typed_array_buffers: false,
+            split_linked_modules: false,
+            js_string_builtins: false,
+            reset_state: false,
+            force_abort: false,
+        })
+    }
+
+    /// Makes the glue file and the module that goes with it. Whatever it answers, the settings and the input stay.
+    ///
+    /// The first of these decides: `NoInput` without input; `BadStem` where the name is empty or holds anything beside ASCII
+    /// letters, digits, `_`, `-` and `.`; `Parse` where the bytes are no module, with the offset of the first fault; `NotBuilt`
+    /// with `module` where the module isn't of a form that is built, with `target` where the target isn't; `Lower` where the
+    /// lowering failed; `NotBuilt` with `description` where the description isn't of a form that is built.
+    #[tactic(auto, using(crate::proofs::Answered::input_made, crate::proofs::Answered::input_fault, crate::proofs::Answered::no_input, crate::proofs::Answered::memory, crate::proofs::Answered::kept_settings))]
+    pub fn generate_output<L: Lowering>(
+        &mut self,
+        alloc: Global,
+        lowering: &mut L,
+    ) -> Result<Output, Fault>
+        ensures kept { self.new ≡ self.old }
+        ensures made { IfOk result (λ o. Answers (the_settings self.old (stem_of self.old.input)) (Ok o) (answer_of (L.told lowering.old) self.old)) }
+        ensures cause { IfErr result (λ f. Answers (the_settings self.old (stem_of self.old.input)) (Err f) (answer_of (L.told lowering.old) self.old)) }
+        ensures lower { result ≡ Err Fault.Lower → Rose (L.faults lowering.old) (L.faults lowering.new) }
+        ensures later { L.faults lowering.old ≤ L.faults lowering.new }
+    {
+        match &self.input {
+            None => Err(Fault::NoInput),
+            Some(input) => match self.settings(alloc, &input.0) {
+                Err(_) => Err(Fault::OutOfMemory),
+                Ok(settings) => generate_bytes(alloc, settings, input.1.as_slice(), lowering),
+            },
+        }
+    }
+}

@@ -1,0 +1,32 @@
+//! The generator: a module's bytes and what is set go in, the glue file and the module that goes with it come out.
+//!
+//! `Bindgen::generate_output` parses the module, has its description read, and makes the items of the glue file; `Output::files`
+//! plans the files. Promised: each fault has its cause in one order; the items are linked with the module that is written, define
+//! each own import once by its adapter's function, and publish exactly the described tree; the module is the one that was read but
+//! for its own imports and its producers.
+//!
+//! Stands on `wasm_core`, `glue_lower`, `glue_binding`, `glue_scope`, `glue_shared`, `glue_layout` and `glue_ends`.
+#![tactic(auto)]
+
+mod bindgen;
+mod check;
+mod fault;
+mod items;
+mod output;
+mod resolving;
+mod targets;
+#[cfg(test)]
+mod tests;
+
+pub use bindgen::{Bindgen, NoInput, SetFault};
+pub use fault::Fault;
+pub use glue_ends::{
+    MemSink, MemSource, PlannedFile, ReadEnd, ReadFailed, Sink, Source, Stop, WriteEnd, WriteFault,
+    read_whole, write_files,
+};
+pub use glue_layout::reset_indentation;
+pub use glue_lower::{JsonLowering, LowerFault, Lowering};
+pub use items::glue_items;
+pub use output::Output;
+pub use resolving::adapter_steps;
+pub use targets::{FRAME_END, FRAME_START, Kind, LOADING, Piece, frame_items, loading_item};

@@ -1,0 +1,125 @@
+//! What a call makes, and the files that are planned of it.
+ghost use Rattle.std.specs.Prelude.{◌≡◌, ◌++◌, codes, IfOk, Err, Some, None, true, false, string_bytes};
+ghost use Rattle.wasm_core.specs.Emission.{bytes_of, too_large};
+ghost use Rattle.glue_layout.specs.Layout.{indented};
+ghost use Rattle.cli_support.specs.Plan.{plan_of};
+
+use glue_ends::PlannedFile;
+use glue_layout::reset_indentation;
+use glue_scope::Item;
+use glue_shared::Settings;
+use std::alloc::{AllocError, Global};
+use std::marker::Model;
+use values::{Seq, Text};
+use wasm_core::{EmitFault, Module};
+
+/// What a call made: the items of the glue file, their text, and the module that goes with it.
+#[derive(Debug, Drop)]
+pub struct Output {
+    settings: Settings,
+    items: Seq<Item>,
+    js: Text,
+    module: Module,
+}
+
+impl Model for Output {
+    ghost use Rattle.cli_support.specs.Generating.{Made};
+
+    ghost Value = { Made };
+
+    ghost view = { λ o. record { settings = o.settings; items = o.items; js = o.js; «module» = o.«module» } };
+}
+
+// The stem with an ending.
+fn path_of(alloc: Global, stem: &Text, ending: &str) -> Result<Text, AllocError>
+    ensures path { IfOk result (λ path. path ≡ stem.now ++ ending.now) }
+{
+    let mut path = Text::from_str(alloc, stem.as_str())?;
+    path.push_str(ending)?;
+    Ok(path)
+}
+
+// The bytes of a text.
+fn bytes_of_text(text: String) -> Seq<u8>
+    ensures bytes { result ≡ string_bytes text }
+{
+    Seq::from_vec(text.into_bytes())
+}
+
+impl Output {
+    pub(crate) fn new(settings: Settings, items: Seq<Item>, js: Text, module: Module) -> Output
+        ensures made { result ≡ record { settings = settings; items = items; js = js; «module» = «module» } }
+    {
+        Output {
+            settings,
+            items,
+            js,
+            module,
+        }
+    }
+
+    /// The text of the glue file, before its lines are indented.
+    pub fn js(&self) -> &str
+        ensures js { result.now ≡ self.now.js }
+    {
+        self.js.as_str()
+    }
+
+    /// The text of the file that a bundler starts from. No other target has one.
+    pub fn start(&self) -> Option<&str>
+        ensures none { result ≡ None }
+    {
+        None
+    }
+
+    /// The module that the glue file loads.
+    pub fn wasm(&self) -> &Module
+        ensures wasm { result.now ≡ self.now.«module» }
+    {
+        &self.module
+    }
+
+    /// The items that the glue file prints, in order.
+    pub fn items(&self) -> &[Item]
+        ensures items { result.now ≡ self.now.items }
+    {
+        self.items.as_slice()
+    }
+
+    // The module's file.
+    fn module_file(&self, alloc: Global) -> Result<PlannedFile, EmitFault>
+        ensures ok { IfOk result (λ file. (file ≡ record { path = self.now.settings.stem ++ codes "_bg.wasm"; bytes = bytes_of self.now.«module»; is_text = false }) × (too_large self.now.«module» ≡ None)) }
+        ensures err { (section : _) → result ≡ Err (EmitFault.TooLarge section) → too_large self.now.«module» ≡ Some section }
+    {
+        let bytes = self.module.emit(alloc)?;
+        Ok(PlannedFile {
+            path: path_of(alloc, &self.settings.stem, "_bg.wasm")?,
+            bytes: Seq::from_vec(bytes),
+            is_text: false,
+        })
+    }
+
+    // The glue file.
+    fn glue_file(&self, alloc: Global) -> Result<PlannedFile, AllocError>
+        ensures file { IfOk result (λ file. file ≡ record { path = self.now.settings.stem ++ codes ".js"; bytes = indented self.now.js; is_text = true }) }
+    {
+        let text = reset_indentation(alloc, self.js.as_str())?;
+        Ok(PlannedFile {
+            path: path_of(alloc, &self.settings.stem, ".js")?,
+            bytes: bytes_of_text(text),
+            is_text: true,
+        })
+    }
+
+    /// The files to be written, in order. `TooLarge` comes exactly where a section of the module passes 4,294,967,295 bytes,
+    /// and names the first.
+    pub fn files(&self, alloc: Global) -> Result<Seq<PlannedFile>, EmitFault>
+        ensures ok { IfOk result (λ files. (files ≡ plan_of self.now) × (too_large self.now.«module» ≡ None)) }
+        ensures err { (section : _) → result ≡ Err (EmitFault.TooLarge section) → too_large self.now.«module» ≡ Some section }
+    {
+        let mut files = Seq::new(alloc);
+        files.push(self.module_file(alloc)?)?;
+        files.push(self.glue_file(alloc)?)?;
+        Ok(files)
+    }
+}

@@ -1,0 +1,26 @@
+-- What an output is, for a module's bytes.
+use Rattle.std.specs.Prelude.{◌≡◌, ℕ, List, true, false, codes, Some, Ok}
+use Rattle.wasm_core.specs.Contents.{Contents}
+use Rattle.wasm_core.specs.Parsing.{module_of}
+use Rattle.glue_shared.specs.declared.settings.Settings.{Settings}
+use Rattle.glue_shared.specs.declared.description.Lowered.{Lowered}
+use Rattle.glue_lower.specs.Lowering.{lowered_of}
+use Rattle.cli_support.specs.Generating.{Made, Configured, settings_of, fresh, with_deno, reading, prepared, IsMadeOf}
+
+-- what the words `--target deno` set
+abbrev pub deno : Configured
+deno = with_deno true (fresh false false)
+
+-- the settings of the program's call
+abbrev pub deno_settings : Settings
+deno_settings = settings_of deno (codes "out")
+
+-- The output is made of the description in the module that the bytes are: its items are linked with its module, define each own
+-- import once, by a function that means its adapter, and publish exactly the described tree; its text prints the items; and its
+-- module is the one that was read, with its own imports moved and this program among its producers.
+pub record IsOutputOf (bytes : List ℕ) (o : Made) : Type 0 where
+  pub «module» : Contents
+  pub read : module_of reading bytes ≡ Ok «module»
+  pub description : Lowered
+  pub told : lowered_of deno_settings (prepared «module») ≡ Some description
+  pub made : IsMadeOf deno_settings description o

@@ -1,0 +1,3 @@
+pub mod Headline
+pub mod Outcome
+pub mod Running

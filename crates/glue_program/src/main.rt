@@ -1,0 +1,26 @@
+//! The program: reads a module on standard input, and prints the listing of the files that are made of it.
+//!
+//! Its words are `--target deno`. It ends with the status of `run`, whose contract holds the whole promise: where the status is 0,
+//! what was written is the listing of files whose items are linked with their module, define each own import once by a function
+//! that means its adapter, and publish exactly the described tree.
+//!
+//! Stands on `cli_support`. Trusted are standard input and output, of whose bytes nothing is known.
+#![tactic(auto)]
+
+mod run;
+#[cfg(test)]
+mod tests;
+
+use crate::run::run;
+use cli_support::{ReadEnd, WriteEnd};
+use std::io;
+use std::process::ExitCode;
+
+fn main(rt: HostRuntime) -> io::Result<ExitCode> {
+    let alloc = rt.alloc();
+    let words: Vec<String> = std::env::args(&rt)?.skip(1).collect(alloc)?;
+    let mut source = ReadEnd::new(rt.reader());
+    let mut sink = WriteEnd::new(io::writer(&rt));
+    let ran = run(alloc, words.as_slice(), &mut source, &mut sink);
+    Ok(ExitCode::from(ran.status))
+}
