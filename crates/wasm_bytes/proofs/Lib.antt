@@ -2,3 +2,5 @@ pub mod NumberSteps
 pub mod Loop
 mod Texts
 mod SignedSteps
+pub mod ReadAgain
+pub mod ReadFinds

@@ -65,36 +65,36 @@ until_ends n i step x s (faults.Parse place) lt some h =
 
 -- ---- entries up to the first step that gives none
 
-pub collects_more : {A : Type 0} (step : Input → Result (Option A × Input) ℕ) (front : List A) (n i : ℕ) (s : Input) (x : A) (t : Input) (total : Result (List A × Input) ℕ) → i < n → step s ≡ Ok (Some x, t)
-    → with_front front (collected (n - i) step s) ≡ total → with_front (front ++ x ∷ []) (collected (n - (i + 1)) step t) ≡ total
+pub collects_more : {A S : Type 0} (step : S → Input → Result ((Option A × S) × Input) ℕ) (front : List A) (n i : ℕ) (state : S) (s : Input) (x : A) (next : S) (t : Input) (total : Result (List A × Input) ℕ) → i < n → step state s ≡ Ok ((Some x, next), t)
+    → with_front front (collected (n - i) step state s) ≡ total → with_front (front ++ x ∷ []) (collected (n - (i + 1)) step next t) ≡ total
 unfolding collected
-collects_more step front n i s x t total lt h so_far =
+collects_more step front n i state s x next t total lt h so_far =
     let k : n - i ≡ suc (n - (i + 1)) = omega arith in
-    let one : with_front front (collected (n - i) step s) ≡ with_front (front ++ x ∷ []) (collected (n - (i + 1)) step t) = rw (k, h) (regroup front x (collected (n - (i + 1)) step t)) in
+    let one : with_front front (collected (n - i) step state s) ≡ with_front (front ++ x ∷ []) (collected (n - (i + 1)) step next t) = rw (k, h) (regroup front x (collected (n - (i + 1)) step next t)) in
     sym one ∙ so_far
 
-pub collects_all : {A : Type 0} (step : Input → Result (Option A × Input) ℕ) (front : List A) (n i : ℕ) (s t : Input) (total : Result (List A × Input) ℕ) → i < n → step s ≡ Ok (None, t)
-    → with_front front (collected (n - i) step s) ≡ total → total ≡ Ok (front, t)
+pub collects_all : {A S : Type 0} (step : S → Input → Result ((Option A × S) × Input) ℕ) (front : List A) (n i : ℕ) (state : S) (s : Input) (next : S) (t : Input) (total : Result (List A × Input) ℕ) → i < n → step state s ≡ Ok ((None, next), t)
+    → with_front front (collected (n - i) step state s) ≡ total → total ≡ Ok (front, t)
 unfolding collected
-collects_all step front n i s t total lt h so_far =
+collects_all step front n i state s next t total lt h so_far =
     let k : n - i ≡ suc (n - (i + 1)) = omega arith in
-    let one : with_front front (collected (n - i) step s) ≡ Ok (front, t) = rw (k, h) (ap (λ xs. Ok (xs, t)) (append-nil front)) in
+    let one : with_front front (collected (n - i) step state s) ≡ Ok (front, t) = rw (k, h) (ap (λ xs. Ok (xs, t)) (append-nil front)) in
     sym so_far ∙ one
 
-pub collects_fault : {A : Type 0} (step : Input → Result (Option A × Input) ℕ) (e : ReadFault) (front : List A) (n i : ℕ) (s : Input) (total : Result (List A × Input) ℕ) → i < n → Fails e (step s)
-    → with_front front (collected (n - i) step s) ≡ total → Fails e total
+pub collects_fault : {A S : Type 0} (step : S → Input → Result ((Option A × S) × Input) ℕ) (e : ReadFault) (front : List A) (n i : ℕ) (state : S) (s : Input) (total : Result (List A × Input) ℕ) → i < n → Fails e (step state s)
+    → with_front front (collected (n - i) step state s) ≡ total → Fails e total
 unfolding collected
-collects_fault step faults.OutOfMemory front n i s total lt h so_far = tt
-collects_fault step (faults.Parse place) front n i s total lt h so_far =
+collects_fault step faults.OutOfMemory front n i state s total lt h so_far = tt
+collects_fault step (faults.Parse place) front n i state s total lt h so_far =
     let k : n - i ≡ suc (n - (i + 1)) = omega arith in
-    let one : with_front front (collected (n - i) step s) ≡ Err place = rw (k, h) refl in
+    let one : with_front front (collected (n - i) step state s) ≡ Err place = rw (k, h) refl in
     sym so_far ∙ one
 
-pub collects_out : {A : Type 0} (step : Input → Result (Option A × Input) ℕ) (front : List A) (n i : ℕ) (s : Input) (total : Result (List A × Input) ℕ) → n ≤ i → with_front front (collected (n - i) step s) ≡ total → total ≡ Err (end_of s)
+pub collects_out : {A S : Type 0} (step : S → Input → Result ((Option A × S) × Input) ℕ) (front : List A) (n i : ℕ) (state : S) (s : Input) (total : Result (List A × Input) ℕ) → n ≤ i → with_front front (collected (n - i) step state s) ≡ total → total ≡ Err (end_of s)
 unfolding collected
-collects_out step front n i s total le so_far =
+collects_out step front n i state s total le so_far =
     let k : n - i ≡ 0 = omega arith in
-    let one : with_front front (collected (n - i) step s) ≡ Err (end_of s) = rw k refl in
+    let one : with_front front (collected (n - i) step state s) ≡ Err (end_of s) = rw k refl in
     sym so_far ∙ one
 
 -- ---- an entry for each of these

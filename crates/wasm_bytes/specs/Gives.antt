@@ -23,6 +23,11 @@ abbrev pub GivesState : {A : Type 0} → Result (Unit {0}) ReadFault → A → I
 GivesState (Ok _) state after read = read ≡ Ok (state, after)
 GivesState (Err e) state after read = Fails e read
 
+-- The same of a call that answers a value and changes a state.
+abbrev pub GivesBoth : {A S : Type 0} → Result A ReadFault → S → Input → Result ((A × S) × Input) ℕ → Type 0
+GivesBoth (Ok x) state after read = read ≡ Ok ((x, state), after)
+GivesBoth (Err e) state after read = Fails e read
+
 -- The same of a call that reads all of its bytes.
 abbrev pub Decodes : {A : Type 0} → Result A ReadFault → Result A ℕ → Type 0
 Decodes (Ok x) read = read ≡ Ok x

@@ -18,6 +18,10 @@ unsigned_from start (suc more) last = do
 unfoldable pub number32 : Input → Result (ℕ × Input) ℕ
 number32 s = unsigned_from s.place 4 16 s
 
+-- a number of 64 bits
+unfoldable pub number64 : Input → Result (ℕ × Input) ℕ
+number64 s = unsigned_from s.place 9 2 s
+
 -- the shortest form of a number, in at most so many bytes behind the first
 unfoldable pub shortest : ℕ → ℕ → List ℕ
 shortest zero n = n ∷ []

@@ -67,6 +67,14 @@ framed n content = do
   inside ← frame n
   within inside content
 
+-- the next n bytes, as far as they are there, to be read by themselves
+abbrev pub part : ℕ → Input → Input
+part n s = record { place = s.place; bytes = take n s.bytes }
+
+-- Like framed, but read from left to right as far as the bytes are there: that some are missing is found behind the content.
+abbrev pub filled : {A : Type 0} → ℕ → (Input → Result (A × Input) ℕ) → Input → Result (A × Input) ℕ
+filled n content s = followed (content (part n s)) (λ x rest. followed (nothing_left rest) (λ _ _. followed (frame n s) (λ _ after. Ok (x, after))))
+
 -- so many entries, one after another
 unfoldable pub entries : {A : Type 0} → ℕ → (Input → Result (A × Input) ℕ) → Input → Result (List A × Input) ℕ
 entries zero entry = pure []
@@ -97,10 +105,10 @@ abbrev pub gathered : {A : Type 0} → Option A → (Input → Result (List A ×
 gathered None others s = Ok ([], s)
 gathered (Some x) others s = followed (others s) (λ xs rest. Ok (x ∷ xs, rest))
 
--- entries up to the first step that gives none, at most so many
-unfoldable pub collected : {A : Type 0} → ℕ → (Input → Result (Option A × Input) ℕ) → Input → Result (List A × Input) ℕ
-collected zero step s = Err (end_of s)
-collected (suc n) step s = followed (step s) (λ found. gathered found (collected n step))
+-- Entries up to the first step that gives none, at most so many. Each step sees a state and leaves one.
+unfoldable pub collected : {A S : Type 0} → ℕ → (S → Input → Result ((Option A × S) × Input) ℕ) → S → Input → Result (List A × Input) ℕ
+collected zero step state s = Err (end_of s)
+collected (suc n) step state s = followed (step state s) (λ found. gathered found.0 (collected n step found.1))
 
 -- an entry for each of these, one after another
 unfoldable pub for_each : {A B : Type 0} → List A → (A → Input → Result (B × Input) ℕ) → Input → Result (List B × Input) ℕ

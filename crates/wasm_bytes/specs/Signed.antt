@@ -23,8 +23,17 @@ signed_from start (suc more) room = do
     high ← signed_from start more room
     pure (pos (b - 128) +ℤ (pos 128 *ℤ high)))
 
+-- a signed number of 32 bits
 unfoldable pub signed32 : Input → Result (ℤ × Input) ℕ
 signed32 s = signed_from s.place 4 8 s
+
+-- a signed number of 33 bits
+unfoldable pub signed33 : Input → Result (ℤ × Input) ℕ
+signed33 s = signed_from s.place 4 16 s
+
+-- a signed number of 64 bits
+unfoldable pub signed64 : Input → Result (ℤ × Input) ℕ
+signed64 s = signed_from s.place 9 1 s
 
 -- within so many on each side of 0
 abbrev pub IsWithin : ℕ → ℤ → Type 0

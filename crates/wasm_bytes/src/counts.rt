@@ -8,6 +8,7 @@ pub struct Counts {
     pub globals: u32,
     pub tags: u32,
     pub elems: u32,
+    /// The data segments that a body can name: as many as the data count section tells.
     pub segments: u32,
     /// The parameters and locals of the body that is read.
     pub locals: u64,

@@ -1,8 +1,9 @@
 //! Items that many entries share.
 
-ghost use Rattle.std.specs.Prelude.{◌==◌};
+ghost use Rattle.std.specs.Prelude.{◌≢◌, ◌==◌, IfErr};
 ghost use Rattle.wasm_bytes.specs.Items.{name, index, exactly};
-ghost use Rattle.wasm_bytes.specs.Gives.{Gives};
+ghost use Rattle.wasm_bytes.specs.Gives.{Gives, GivesBy};
+ghost use Rattle.wasm_bytes.specs.declared.fault.ReadFault.TheVariants.{OutOfMemory};
 
 use crate::fault::ReadFault;
 use crate::reader::Reader;
@@ -11,15 +12,23 @@ use values::Text;
 
 /// A name: its length in bytes and that many bytes of UTF-8 (WebAssembly core specification, 5.2.4).
 #[tactic(auto, unfolding(crate::specs::Items::name))]
-pub fn read_name(reader: &mut Reader<'_>, alloc: Global) -> Result<Text, ReadFault>
-    ensures { Gives result reader.new (name reader.old) }
+pub fn read_text<'a>(reader: &mut Reader<'a>) -> Result<&'a str, ReadFault>
+    ensures value { GivesBy (λ text. text.now) result reader.new (name reader.old) }
+    ensures sure { IfErr result (λ e. e ≢ OutOfMemory) }
 {
     let place = reader.place();
     let len = reader.number32()?;
     match str::from_utf8(reader.raw(len as usize)?) {
-        Ok(text) => Ok(Text::from_str(alloc, text)?),
+        Ok(text) => Ok(text),
         Err(_) => Err(ReadFault::Parse { place }),
     }
+}
+
+/// A name that is kept.
+pub fn read_name(reader: &mut Reader<'_>, alloc: Global) -> Result<Text, ReadFault>
+    ensures { Gives result reader.new (name reader.old) }
+{
+    Ok(Text::from_str(alloc, read_text(reader)?)?)
 }
 
 /// An index below the number of its kind (WebAssembly core specification, 5.5.1).

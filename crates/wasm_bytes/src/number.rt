@@ -37,15 +37,22 @@ fn push_shortest(out: &mut Vec<u8>, more: u32, value: u64) -> Result<(), AllocEr
 }
 
 /// Appends the shortest signed LEB128 form of a number of 32 bits.
-#[tactic(auto, unfolding(crate::specs::Signed::signed_bytes))]
 pub fn push_i32(out: &mut Vec<u8>, value: i32) -> Result<(), AllocError>
+    ensures { OnOk result (out.new.items ≡ out.old.items ++ signed_bytes value) }
+{
+    push_i64(out, value as i64)
+}
+
+/// Appends the shortest signed LEB128 form of a number of 64 bits.
+#[tactic(auto, unfolding(crate::specs::Signed::signed_bytes))]
+pub fn push_i64(out: &mut Vec<u8>, value: i64) -> Result<(), AllocError>
     ensures { OnOk result (out.new.items ≡ out.old.items ++ signed_bytes value) }
 {
     push_signed(out, 9, value)
 }
 
 #[tactic(auto, unfolding(crate::specs::Signed::shortest_signed))]
-fn push_signed(out: &mut Vec<u8>, more: u32, value: i32) -> Result<(), AllocError>
+fn push_signed(out: &mut Vec<u8>, more: u32, value: i64) -> Result<(), AllocError>
     ensures { OnOk result (out.new.items ≡ out.old.items ++ shortest_signed more value) }
 {
     if more == 0 || is_digit(value) {
@@ -57,7 +64,7 @@ fn push_signed(out: &mut Vec<u8>, more: u32, value: i32) -> Result<(), AllocErro
 }
 
 /// The low seven bits.
-fn low_bits(value: i32) -> u8
+fn low_bits(value: i64) -> u8
     ensures value { result ≡ low_bits value }
     ensures bound { result < 128 }
 {
@@ -65,14 +72,14 @@ fn low_bits(value: i32) -> u8
 }
 
 /// All bits but the low seven.
-fn high_bits(value: i32) -> i32
+fn high_bits(value: i64) -> i64
     ensures { result ≡ int_div_euclid value (pos 128) }
 {
     value.div_euclid(128)
 }
 
 /// Seven bits with a sign are enough.
-fn is_digit(value: i32) -> bool
+fn is_digit(value: i64) -> bool
     ensures { result ≡ is_digit value }
 {
     -64 <= value && value < 64

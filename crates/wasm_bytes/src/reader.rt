@@ -1,11 +1,12 @@
 //! Reading bytes from left to right.
 
-ghost use Rattle.std.specs.Prelude.{◌≡◌, pos, ◌+ℤ◌, ◌*ℤ◌, FitsSigned, ◌-◌, ◌⊎◌, IsTrue, ◌+◌, ◌*◌, ◌^◌, ◌<◌, ◌≤◌, length, IfOk};
-ghost use Rattle.wasm_bytes.specs.Reading.{Input, byte, raw, frame, nothing_left, remaining, end_of};
-ghost use Rattle.wasm_bytes.specs.Numbers.{unsigned_from, number32};
+ghost use Rattle.std.specs.Prelude.{◌≡◌, ◌≢◌, pos, ◌+ℤ◌, ◌*ℤ◌, FitsSigned, ◌-◌, ◌⊎◌, IsTrue, ◌+◌, ◌*◌, ◌^◌, ◌<◌, ◌≤◌, length, IfOk, IfErr};
+ghost use Rattle.wasm_bytes.specs.Reading.{Input, byte, raw, frame, part, nothing_left, remaining, end_of, value_of};
+ghost use Rattle.wasm_bytes.specs.Numbers.{unsigned_from, number32, number64};
 ghost use Rattle.std.specs.Int.{w64};
-ghost use Rattle.wasm_bytes.specs.Signed.{signed_from, signed32, signed_digit, last_allowed, IsWithin};
-ghost use Rattle.wasm_bytes.specs.Gives.{Gives, GivesBy};
+ghost use Rattle.wasm_bytes.specs.Signed.{signed_from, signed32, signed33, signed64, signed_digit, last_allowed, IsWithin};
+ghost use Rattle.wasm_bytes.specs.Gives.{Gives, GivesBy, Decodes};
+ghost use Rattle.wasm_bytes.specs.declared.fault.ReadFault.TheVariants.{OutOfMemory};
 
 use crate::fault::ReadFault;
 use std::marker::Model;
@@ -52,6 +53,7 @@ impl<'a> Reader<'a> {
     pub fn byte(&mut self) -> Result<u8, ReadFault>
         ensures value { Gives result self.new (byte self.old) }
         ensures bound { IfOk result (λ b. b < 256) }
+        ensures sure { IfErr result (λ e. e ≢ OutOfMemory) }
     {
         match self.bytes {
             [] => Err(ReadFault::Parse { place: self.place }),
@@ -63,9 +65,20 @@ impl<'a> Reader<'a> {
         }
     }
 
+    /// The next byte, which stays to be read.
+    pub fn peek(&self) -> Result<u8, ReadFault>
+        ensures { Decodes result (value_of (byte self.now)) }
+    {
+        match self.bytes {
+            [] => Err(ReadFault::Parse { place: self.place }),
+            [first, ..] => Ok(*first),
+        }
+    }
+
     /// The next bytes, so many.
     pub fn raw(&mut self, len: usize) -> Result<&'a [u8], ReadFault>
-        ensures { GivesBy (λ x. x.now) result self.new (raw len self.old) }
+        ensures value { GivesBy (λ x. x.now) result self.new (raw len self.old) }
+        ensures sure { IfErr result (λ e. e ≢ OutOfMemory) }
     {
         if self.bytes.len() < len {
             return Err(ReadFault::Parse { place: self.end() });
@@ -93,9 +106,26 @@ impl<'a> Reader<'a> {
         Ok(inside)
     }
 
+    /// The next bytes, so many or as far as they are there, to be read by themselves. They stay to be passed.
+    #[tactic(auto, using(std::proofs::lemmas::List::take_all))]
+    pub fn part(&self, len: usize) -> Reader<'a>
+        ensures { result ≡ part len self.now }
+    {
+        let bytes = if len < self.bytes.len() {
+            &self.bytes[..len]
+        } else {
+            self.bytes
+        };
+        Reader {
+            place: self.place,
+            bytes,
+        }
+    }
+
     /// Nothing is left over.
     pub fn finish(&mut self) -> Result<(), ReadFault>
-        ensures { Gives result self.new (nothing_left self.old) }
+        ensures value { Gives result self.new (nothing_left self.old) }
+        ensures sure { IfErr result (λ e. e ≢ OutOfMemory) }
     {
         if self.bytes.is_empty() {
             Ok(())
@@ -110,6 +140,7 @@ impl<'a> Reader<'a> {
         requires fits { last * 128 ^ more ≤ 2 ^ 64 }
         ensures value { Gives result self.new (unsigned_from start more last self.old) }
         ensures bound { IfOk result (λ value. value < last * 128 ^ more) }
+        ensures sure { IfErr result (λ e. e ≢ OutOfMemory) }
     {
         let byte = self.byte()?;
         if more == 0 {
@@ -128,10 +159,20 @@ impl<'a> Reader<'a> {
     /// A number of 32 bits.
     #[tactic(auto, unfolding(crate::specs::Numbers::number32))]
     pub fn number32(&mut self) -> Result<u32, ReadFault>
-        ensures { Gives result self.new (number32 self.old) }
+        ensures value { Gives result self.new (number32 self.old) }
+        ensures sure { IfErr result (λ e. e ≢ OutOfMemory) }
     {
         let start = self.place;
         Ok(self.unsigned(start, 4, 16)? as u32)
+    }
+
+    /// A number of 64 bits.
+    #[tactic(auto, unfolding(crate::specs::Numbers::number64))]
+    pub fn number64(&mut self) -> Result<u64, ReadFault>
+        ensures { Gives result self.new (number64 self.old) }
+    {
+        let start = self.place;
+        self.unsigned(start, 9, 2)
     }
 
     #[tactic(auto, unfolding(crate::specs::Signed::signed_from))]
@@ -163,6 +204,25 @@ impl<'a> Reader<'a> {
     {
         let start = self.place;
         Ok(self.signed(start, 4, 8)? as i32)
+    }
+
+    /// A signed number of 33 bits.
+    #[tactic(auto, unfolding(crate::specs::Signed::signed33))]
+    pub fn signed33(&mut self) -> Result<i64, ReadFault>
+        ensures value { Gives result self.new (signed33 self.old) }
+        ensures bound { IfOk result (IsWithin (2 ^ 32)) }
+    {
+        let start = self.place;
+        self.signed(start, 4, 16)
+    }
+
+    /// A signed number of 64 bits.
+    #[tactic(auto, unfolding(crate::specs::Signed::signed64))]
+    pub fn signed64(&mut self) -> Result<i64, ReadFault>
+        ensures { Gives result self.new (signed64 self.old) }
+    {
+        let start = self.place;
+        self.signed(start, 9, 1)
     }
 
     /// All bytes that are left.

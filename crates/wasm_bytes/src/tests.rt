@@ -1,6 +1,6 @@
 use crate::{
-    ReadFault, Reader, push_i32, push_number, push_u32, read_exactly, read_index, read_name,
-    write_framed, write_name,
+    ReadFault, Reader, push_i32, push_i64, push_number, push_u32, read_exactly, read_index,
+    read_name, write_framed, write_name,
 };
 use std::test::Fail;
 
@@ -58,6 +58,52 @@ fn signed_numbers_are_written_and_read(rt: HostRuntime) -> Result<(), Fail> {
 }
 
 #[test]
+fn wide_numbers_are_written_and_read(rt: HostRuntime) -> Result<(), Fail> {
+    let cases: [(i64, &[u8]); 6] = [
+        (0, b"\0"),
+        (-64, b"\x40"),
+        (1 << 32, b"\x80\x80\x80\x80\x10"),
+        (-(1 << 32), b"\x80\x80\x80\x80\x70"),
+        (i64::MAX, b"\xff\xff\xff\xff\xff\xff\xff\xff\xff\0"),
+        (i64::MIN, b"\x80\x80\x80\x80\x80\x80\x80\x80\x80\x7f"),
+    ];
+    for (value, want) in cases {
+        let mut out = Vec::new(rt.alloc());
+        push_i64(&mut out, value)?;
+        assert!(rt; out.as_slice() == want);
+        let found = Reader::new(want).signed64();
+        assert!(rt; found.is_ok_and(|found| found == value));
+    }
+    let most = b"\xff\xff\xff\xff\xff\xff\xff\xff\xff\x01";
+    assert!(rt;
+        Reader::new(most)
+            .number64()
+            .is_ok_and(|found| found == u64::MAX)
+    );
+    let least = b"\x80\x80\x80\x80\x70";
+    let mut reader = Reader::new(least);
+    assert!(rt; reader.peek().is_ok_and(|first| first == 0x80));
+    assert!(rt; reader.signed33().is_ok_and(|found| found == -(1 << 32)));
+    assert!(rt;
+        reader
+            .peek()
+            .is_err_and(|e| e == ReadFault::Parse { place: 5 })
+    );
+    Ok(())
+}
+
+#[test]
+fn wide_numbers_have_limits(rt: HostRuntime) {
+    // One bit too many for 64 bits without a sign, for 64 bits with one, and for 33 bits with one.
+    let unsigned = Reader::new(b"\xff\xff\xff\xff\xff\xff\xff\xff\xff\x02").number64();
+    assert!(rt; unsigned.is_err_and(|e| e == ReadFault::Parse { place: 0 }));
+    let signed = Reader::new(b"\x80\x80\x80\x80\x80\x80\x80\x80\x80\x01").signed64();
+    assert!(rt; signed.is_err_and(|e| e == ReadFault::Parse { place: 0 }));
+    let short = Reader::new(b"\x80\x80\x80\x80\x20").signed33();
+    assert!(rt; short.is_err_and(|e| e == ReadFault::Parse { place: 0 }));
+}
+
+#[test]
 fn wrong_numbers_are_refused_at_their_place(rt: HostRuntime) {
     // The bytes after one of 0, and the place of the fault.
     let cases: [(&[u8], u64); 4] = [
@@ -111,4 +157,15 @@ fn a_name_is_utf8(rt: HostRuntime) {
     assert!(rt; wrong.is_err_and(|e| e == ReadFault::Parse { place: 0 }));
     let short = read_name(&mut Reader::new(b"\x02a"), rt.alloc());
     assert!(rt; short.is_err_and(|e| e == ReadFault::Parse { place: 2 }));
+}
+
+#[test]
+fn a_part_stays_to_be_passed(rt: HostRuntime) {
+    let mut reader = Reader::new(b"\x02ab!");
+    let mut part = reader.part(3);
+    assert!(rt; crate::read_text(&mut part).is_ok_and(|text| text == "ab"));
+    assert!(rt; part.finish().is_ok());
+    assert_eq!(rt; reader.part(9).len(), 4);
+    assert!(rt; reader.frame(3).is_ok());
+    assert_eq!(rt; reader.place(), 3);
 }

@@ -1,0 +1,353 @@
+//! Writing types and code (WebAssembly core specification, 5.3 and 5.4).
+
+ghost use Rattle.std.specs.Prelude.{◌≡◌, ◌∷◌, ◌++◌, map, OnOk};
+ghost use Rattle.std.specs.List.{flat_map};
+ghost use Rattle.wasm_bytes.specs.Numbers.{number_bytes};
+ghost use Rattle.wasm_bytes.specs.Spelling.{list_bytes};
+ghost use Rattle.wasm_ops.specs.Locals.{joined_runs};
+ghost use Rattle.wasm_ops.specs.Numbers.{renumbered_block_type, renumbered_catch, renumbered_arg, renumbered_op, renumbered_ops, renumbered_body, number_at};
+ghost use Rattle.wasm_ops.specs.Spelling.{val_type_bytes, func_type_bytes, block_type_bytes, catch_bytes, mem_arg_bytes, coded, op_bytes, run_bytes, expression_bytes, code_bytes};
+
+use crate::locals::join_runs;
+use crate::ops::{BlockType, Body, Catch, MemArg, Numbering, Op};
+use crate::types::{FuncType, ValType};
+use std::alloc::{AllocError, Global};
+use values::Seq;
+use wasm_bytes::{Spell, push_i32, push_i64, push_number, push_u32, write_framed, write_list};
+
+impl Spell for ValType {
+    ghost spelled = { val_type_bytes };
+
+    #[tactic(auto, unfolding(crate::specs::Spelling::val_type_bytes))]
+    fn write(&self, out: &mut Vec<u8>) -> Result<(), AllocError> {
+        out.push(self.code())?;
+        Ok(())
+    }
+}
+
+impl Spell for FuncType {
+    ghost spelled = { func_type_bytes };
+
+    #[tactic(auto, unfolding(crate::specs::Spelling::func_type_bytes))]
+    fn write(&self, out: &mut Vec<u8>) -> Result<(), AllocError> {
+        out.push(0x60)?;
+        write_list(self.params.as_slice(), out)?;
+        write_list(self.results.as_slice(), out)
+    }
+}
+
+/// The number of a place, 0 where there is none.
+pub fn number_at(numbers: &Seq<u32>, place: u32) -> u32
+    ensures { result ≡ number_at numbers.now place }
+{
+    match numbers.get(place as usize) {
+        Some(number) => *number,
+        None => 0,
+    }
+}
+
+/// Appends a byte and a number.
+fn push_coded(out: &mut Vec<u8>, code: u8, number: u32) -> Result<(), AllocError>
+    ensures { OnOk result (out.new.items ≡ out.old.items ++ coded code number) }
+{
+    out.push(code)?;
+    push_u32(out, number)
+}
+
+/// Appends a byte and two numbers.
+fn push_coded_pair(out: &mut Vec<u8>, code: u8, first: u32, second: u32) -> Result<(), AllocError>
+    ensures { OnOk result (out.new.items ≡ out.old.items ++ (coded code first ++ number_bytes second)) }
+{
+    push_coded(out, code, first)?;
+    push_u32(out, second)
+}
+
+/// Appends the prefix of operators in bulk, the number of one, and two numbers that follow.
+fn push_bulk(out: &mut Vec<u8>, code: u32, first: u32, second: u32) -> Result<(), AllocError>
+    ensures { OnOk result (out.new.items ≡ out.old.items ++ (coded 0xFC code ++ (number_bytes first ++ number_bytes second))) }
+{
+    push_coded(out, 0xFC, code)?;
+    push_u32(out, first)?;
+    push_u32(out, second)
+}
+
+#[tactic(auto, unfolding(crate::specs::Spelling::block_type_bytes))]
+fn write_block_type(out: &mut Vec<u8>, numbers: &Numbering, ty: BlockType) -> Result<(), AllocError>
+    ensures { OnOk result (out.new.items ≡ out.old.items ++ block_type_bytes (renumbered_block_type numbers.now ty)) }
+{
+    match ty {
+        BlockType::Empty => {
+            out.push(0x40)?;
+            Ok(())
+        }
+        BlockType::Value(ty) => {
+            out.push(ty.code())?;
+            Ok(())
+        }
+        BlockType::Index(ty) => push_i64(out, number_at(&numbers.types, ty.0) as i64),
+    }
+}
+
+#[tactic(auto, unfolding(crate::specs::Spelling::catch_bytes))]
+fn write_catch(out: &mut Vec<u8>, numbers: &Numbering, clause: Catch) -> Result<(), AllocError>
+    ensures { OnOk result (out.new.items ≡ out.old.items ++ catch_bytes (renumbered_catch numbers.now clause)) }
+{
+    match clause {
+        Catch::Tag(code, tag, label) => {
+            push_coded_pair(out, code, number_at(&numbers.tags, tag.0), label)
+        }
+        Catch::All(code, label) => push_coded(out, code, label),
+    }
+}
+
+fn write_each_catch(
+    out: &mut Vec<u8>,
+    numbers: &Numbering,
+    clauses: &[Catch],
+) -> Result<(), AllocError>
+    ensures { OnOk result (out.new.items ≡ out.old.items ++ flat_map catch_bytes (map (renumbered_catch numbers.now) clauses.now)) }
+{
+    for clause in clauses {
+        write_catch(out, numbers, *clause)?;
+    }
+    Ok(())
+}
+
+fn write_each_label(out: &mut Vec<u8>, labels: &[u32]) -> Result<(), AllocError>
+    ensures { OnOk result (out.new.items ≡ out.old.items ++ flat_map number_bytes labels.now) }
+{
+    for label in labels {
+        push_u32(out, *label)?;
+    }
+    Ok(())
+}
+
+#[tactic(auto, unfolding(crate::specs::Spelling::mem_arg_bytes))]
+fn write_mem_arg(out: &mut Vec<u8>, numbers: &Numbering, arg: MemArg) -> Result<(), AllocError>
+    ensures { OnOk result (out.new.items ≡ out.old.items ++ mem_arg_bytes (renumbered_arg numbers.now arg)) }
+{
+    let memory = number_at(&numbers.memories, arg.memory.0);
+    if memory == 0 {
+        push_u32(out, arg.align)?;
+        return push_number(out, arg.offset);
+    }
+    push_number(out, arg.align as u64 + 64)?;
+    push_u32(out, memory)?;
+    push_number(out, arg.offset)
+}
+/// Appends a list of labels.
+#[tactic(auto, unfolding(wasm_bytes::specs::Spelling::list_bytes))]
+fn write_labels(out: &mut Vec<u8>, labels: &[u32]) -> Result<(), AllocError>
+    ensures { OnOk result (out.new.items ≡ out.old.items ++ list_bytes number_bytes labels.now) }
+{
+    push_number(out, labels.len() as u64)?;
+    write_each_label(out, labels)
+}
+
+/// Appends a list of catch clauses.
+#[tactic(auto, unfolding(wasm_bytes::specs::Spelling::list_bytes))]
+fn write_catches(
+    out: &mut Vec<u8>,
+    numbers: &Numbering,
+    clauses: &[Catch],
+) -> Result<(), AllocError>
+    ensures { OnOk result (out.new.items ≡ out.old.items ++ list_bytes catch_bytes (map (renumbered_catch numbers.now) clauses.now)) }
+{
+    push_number(out, clauses.len() as u64)?;
+    write_each_catch(out, numbers, clauses)
+}
+
+/// Appends the prefix of vector operators, the number of one, a memory argument and what follows it.
+fn write_simd_mem(
+    out: &mut Vec<u8>,
+    numbers: &Numbering,
+    code: u32,
+    arg: MemArg,
+    lane: &[u8],
+) -> Result<(), AllocError>
+    ensures { OnOk result (out.new.items ≡ out.old.items ++ (coded 0xFD code ++ (mem_arg_bytes (renumbered_arg numbers.now arg) ++ lane.now))) }
+{
+    push_coded(out, 0xFD, code)?;
+    write_mem_arg(out, numbers, arg)?;
+    out.extend_from_slice(lane)
+}
+
+/// Appends a byte, a number and raw bytes.
+fn push_coded_bytes(
+    out: &mut Vec<u8>,
+    code: u8,
+    number: u32,
+    bytes: &[u8],
+) -> Result<(), AllocError>
+    ensures { OnOk result (out.new.items ≡ out.old.items ++ (coded code number ++ bytes.now)) }
+{
+    push_coded(out, code, number)?;
+    out.extend_from_slice(bytes)
+}
+
+/// Appends a byte and raw bytes.
+fn push_bytes(out: &mut Vec<u8>, code: u8, bytes: &[u8]) -> Result<(), AllocError>
+    ensures { OnOk result (out.new.items ≡ out.old.items ++ code ∷ bytes.now) }
+{
+    out.push(code)?;
+    out.extend_from_slice(bytes)
+}
+
+/// Appends an operator with the numbers of what it names.
+#[tactic(auto, unfolding(crate::specs::Spelling::op_bytes, crate::specs::Spelling::val_type_bytes, crate::specs::Numbers::renumbered_op))]
+fn write_op(out: &mut Vec<u8>, numbers: &Numbering, op: &Op) -> Result<(), AllocError>
+    ensures { OnOk result (out.new.items ≡ out.old.items ++ op_bytes (renumbered_op numbers.now op.now)) }
+{
+    match op {
+        Op::Plain(code) => push_bytes(out, *code, &[]),
+        Op::Block(code, ty) => {
+            out.push(*code)?;
+            write_block_type(out, numbers, *ty)
+        }
+        Op::Tag(code, tag) => push_coded(out, *code, number_at(&numbers.tags, tag.0)),
+        Op::Label(code, label) => push_coded(out, *code, *label),
+        Op::BrTable(labels, label) => {
+            out.push(0x0E)?;
+            write_labels(out, labels.as_slice())?;
+            push_u32(out, *label)
+        }
+        Op::Func(code, func) => push_coded(out, *code, number_at(&numbers.funcs, func.0)),
+        Op::Indirect(code, ty, table) => {
+            let ty = number_at(&numbers.types, ty.0);
+            push_coded_pair(out, *code, ty, number_at(&numbers.tables, table.0))
+        }
+        Op::Select(types) => {
+            out.push(0x1C)?;
+            write_list(types.as_slice(), out)
+        }
+        Op::TryTable(ty, clauses) => {
+            out.push(0x1F)?;
+            write_block_type(out, numbers, *ty)?;
+            write_catches(out, numbers, clauses.as_slice())
+        }
+        Op::Local(code, local) => push_coded(out, *code, *local),
+        Op::Global(code, global) => {
+            push_coded(out, *code, number_at(&numbers.globals, global.0))
+        }
+        Op::Table(code, table) => push_coded(out, *code, number_at(&numbers.tables, table.0)),
+        Op::Mem(code, arg) => {
+            out.push(*code)?;
+            write_mem_arg(out, numbers, *arg)
+        }
+        Op::Memory(code, memory) => {
+            push_coded(out, *code, number_at(&numbers.memories, memory.0))
+        }
+        Op::Const32(value) => {
+            out.push(0x41)?;
+            push_i32(out, *value)
+        }
+        Op::Const64(value) => {
+            out.push(0x42)?;
+            push_i64(out, *value)
+        }
+        Op::Raw4(bytes) => push_bytes(out, 0x43, bytes),
+        Op::Raw8(bytes) => push_bytes(out, 0x44, bytes),
+        Op::RefNull(ty) => push_bytes(out, 0xD0, &[ty.code()]),
+        Op::FcPlain(code) => push_coded(out, 0xFC, *code),
+        Op::MemoryInit(segment, memory) => {
+            let segment = number_at(&numbers.segments, segment.0);
+            push_bulk(out, 8, segment, number_at(&numbers.memories, memory.0))
+        }
+        Op::DataDrop(segment) => {
+            push_coded_pair(out, 0xFC, 9, number_at(&numbers.segments, segment.0))
+        }
+        Op::MemoryCopy(to, from) => {
+            let to = number_at(&numbers.memories, to.0);
+            push_bulk(out, 10, to, number_at(&numbers.memories, from.0))
+        }
+        Op::MemoryFill(memory) => {
+            push_coded_pair(out, 0xFC, 11, number_at(&numbers.memories, memory.0))
+        }
+        Op::TableInit(elem, table) => {
+            let elem = number_at(&numbers.elems, elem.0);
+            push_bulk(out, 12, elem, number_at(&numbers.tables, table.0))
+        }
+        Op::ElemDrop(elem) => push_coded_pair(out, 0xFC, 13, number_at(&numbers.elems, elem.0)),
+        Op::TableCopy(to, from) => {
+            let to = number_at(&numbers.tables, to.0);
+            push_bulk(out, 14, to, number_at(&numbers.tables, from.0))
+        }
+        Op::FcTable(code, table) => {
+            push_coded_pair(out, 0xFC, *code, number_at(&numbers.tables, table.0))
+        }
+        Op::Simd(code) => push_coded(out, 0xFD, *code),
+        Op::SimdMem(code, arg) => write_simd_mem(out, numbers, *code, *arg, &[]),
+        Op::SimdMemLane(code, arg, lane) => write_simd_mem(out, numbers, *code, *arg, &[*lane]),
+        Op::SimdBytes(code, bytes) => push_coded_bytes(out, 0xFD, *code, bytes),
+        Op::SimdLane(code, lane) => push_coded_bytes(out, 0xFD, *code, &[*lane]),
+    }
+}
+
+/// Appends operators with the numbers of what they name, one after another.
+fn write_each_op(out: &mut Vec<u8>, numbers: &Numbering, ops: &[Op]) -> Result<(), AllocError>
+    ensures { OnOk result (out.new.items ≡ out.old.items ++ flat_map op_bytes (renumbered_ops numbers.now ops.now)) }
+{
+    for op in ops {
+        write_op(out, numbers, op)?;
+    }
+    Ok(())
+}
+
+/// Appends operators with the numbers of what they name, and the one that ends them.
+#[tactic(auto, unfolding(crate::specs::Spelling::expression_bytes))]
+pub fn write_expression(
+    out: &mut Vec<u8>,
+    numbers: &Numbering,
+    ops: &[Op],
+) -> Result<(), AllocError>
+    ensures { OnOk result (out.new.items ≡ out.old.items ++ expression_bytes (renumbered_ops numbers.now ops.now)) }
+{
+    write_each_op(out, numbers, ops)?;
+    out.push(0x0B)?;
+    Ok(())
+}
+
+/// Appends a run of locals of one type.
+#[tactic(auto, unfolding(crate::specs::Spelling::run_bytes))]
+fn write_run(out: &mut Vec<u8>, run: (u32, ValType)) -> Result<(), AllocError>
+    ensures { OnOk result (out.new.items ≡ out.old.items ++ run_bytes run) }
+{
+    push_u32(out, run.0)?;
+    out.push(run.1.code())?;
+    Ok(())
+}
+
+fn write_each_run(out: &mut Vec<u8>, runs: &[(u32, ValType)]) -> Result<(), AllocError>
+    ensures { OnOk result (out.new.items ≡ out.old.items ++ flat_map run_bytes runs.now) }
+{
+    for run in runs {
+        write_run(out, *run)?;
+    }
+    Ok(())
+}
+
+/// Appends a list of runs of locals, where neighbours of one type are joined.
+#[tactic(auto, unfolding(wasm_bytes::specs::Spelling::list_bytes))]
+fn write_runs(out: &mut Vec<u8>, alloc: Global, runs: &[(u32, ValType)]) -> Result<(), AllocError>
+    ensures { OnOk result (out.new.items ≡ out.old.items ++ list_bytes run_bytes (joined_runs runs.now)) }
+{
+    let joined = join_runs(alloc, runs)?;
+    push_number(out, joined.len() as u64)?;
+    write_each_run(out, joined.as_slice())
+}
+
+/// Appends a body behind its length, with the numbers of what it names.
+#[tactic(auto, unfolding(crate::specs::Spelling::code_bytes, crate::specs::Spelling::body_bytes))]
+pub fn write_code(
+    out: &mut Vec<u8>,
+    alloc: Global,
+    numbers: &Numbering,
+    body: &Body,
+) -> Result<(), AllocError>
+    ensures { OnOk result (out.new.items ≡ out.old.items ++ code_bytes (renumbered_body numbers.now body.now)) }
+{
+    let mut content = Vec::new(alloc);
+    write_runs(&mut content, alloc, body.locals.as_slice())?;
+    write_expression(&mut content, numbers, body.ops.as_slice())?;
+    write_framed(out, content.as_slice())
+}
