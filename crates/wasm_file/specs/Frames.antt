@@ -1,5 +1,5 @@
 -- The frames of a file's sections: id, length and, of a custom section, its name. What else is in them isn't read.
-use Rattle.std.specs.Prelude.{ℕ, List, [], ◌∷◌, ◌++◌, length, Option, Some, None, Result, Ok, Err, nat_le, ◌==◌, if◌then◌else◌}
+use Rattle.std.specs.Prelude.{ℕ, List, [], ◌∷◌, ◌++◌, length, Option, Some, None, Result, Ok, nat_le, ◌==◌, if◌then◌else◌}
 use Rattle.wasm_bytes.specs.Reading.{Input, followed, ◌>>=◌, pure, byte, allowed, frame, until_end, value_of}
 use Rattle.wasm_bytes.specs.Numbers.{number32}
 use Rattle.wasm_bytes.specs.Items.{name, exactly}
@@ -49,17 +49,6 @@ unfoldable pub next_frame : List Section → Input → Result (List Section × I
 next_frame found = do
   f ← section_frame
   pure (found ++ f ∷ [])
-
--- one section that is read and not kept
-unfoldable pub passed_frame : {A : Type 0} → A → Input → Result (A × Input) ℕ
-passed_frame x = do
-  _ ← section_frame
-  pure x
-
--- whether a reading has a value, or the place of its fault
-abbrev pub checked : {A : Type 0} → Result A ℕ → Result (Unit {0}) ℕ
-checked (Ok x) = Ok tt
-checked (Err place) = Err place
 
 -- the preamble, and sections up to the end
 unfoldable pub all_frames : Input → Result (List Section × Input) ℕ

@@ -1,6 +1,7 @@
-pub mod Types
 pub mod Frames
-pub mod Code
+pub mod Entries
 pub mod Parts
+pub mod Sections
 pub mod Grammar
+pub mod Customs
 pub mod Spelling

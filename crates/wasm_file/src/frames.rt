@@ -1,7 +1,7 @@
 //! The frames of a file's sections (WebAssembly core specification, 5.5.2).
 
-ghost use Rattle.wasm_file.specs.Frames.{preamble, frame_name, section_frame, next_frame, passed_frame, checked, frames_of};
-ghost use Rattle.wasm_bytes.specs.Gives.{Gives, Decodes, DecodesBy};
+ghost use Rattle.wasm_file.specs.Frames.{preamble, frame_name, section_frame, next_frame, frames_of};
+ghost use Rattle.wasm_bytes.specs.Gives.{Gives, DecodesBy};
 
 use crate::entries::Section;
 use std::alloc::Global;
@@ -87,20 +87,6 @@ impl Step for Frames {
     }
 }
 
-/// Sections that are read and not kept.
-#[derive(Drop)]
-struct Passed;
-
-impl Step for Passed {
-    ghost step = { passed_frame };
-
-    #[tactic(auto, unfolding(crate::specs::Frames::passed_frame))]
-    fn read_step(&mut self, reader: &mut Reader<'_>, alloc: Global) -> Result<(), ReadFault> {
-        drop(read_frame(reader, alloc)?);
-        Ok(())
-    }
-}
-
 /// The sections of a file in order: the preamble, frames and names of custom sections are read, and nothing else.
 /// Their order isn't tested. A file of any length is read. The fault's place is that of an id above 13, of a number or
 /// name that isn't allowed, or the end of the bytes, where a frame is longer than the rest.
@@ -116,15 +102,4 @@ pub fn read_frames(alloc: Global, bytes: &[u8]) -> Result<Vec<Section>, ReadFaul
     read_steps(&mut found, &mut reader, alloc)?;
     let Frames { sections } = found;
     Ok(sections)
-}
-
-/// Whether the frames read, as `read_frames` reads them. Nothing is kept.
-#[tactic(auto, unfolding(crate::specs::Frames::frames_of, crate::specs::Frames::all_frames))]
-pub fn check_frames(alloc: Global, bytes: &[u8]) -> Result<(), ReadFault>
-    ensures read { Decodes result (checked (frames_of bytes.now)) }
-{
-    let mut reader = Reader::new(bytes);
-    read_preamble(&mut reader)?;
-    read_steps(&mut Passed, &mut reader, alloc)?;
-    Ok(())
 }

@@ -1,79 +1,183 @@
-//! Reading entries (WebAssembly core specification, 5.5).
+//! Reading the entries of sections (WebAssembly core specification, 5.5).
 
-ghost use Rattle.std.specs.Prelude.{◌≡◌};
-ghost use Rattle.wasm_file.specs.Grammar.{val_type, func_type, type_index, import_type, «import», export_item, «export», custom};
+ghost use Rattle.std.specs.Prelude.{◌≡◌, ◌==◌, nat_lt};
 ghost use Rattle.wasm_bytes.specs.Gives.{Gives};
+ghost use Rattle.wasm_bytes.specs.Reading.{allowed, byte};
+ghost use Rattle.wasm_bytes.specs.Numbers.{number32};
+ghost use Rattle.wasm_file.specs.Entries.{has_bit, limit, maximum, limits, memory_type, table_type, mutability, tag_type, import_of, import_type, «import», export_of, export_item, «export», global_entry, are_elem_flags, elem_table, elem_place, elem_type, elem_entries, elem, are_segment_flags, segment_memory, segment_place, blob, segment, custom};
 
-use crate::code::read_func_index;
-use crate::entries::{Custom, Export, ExportItem, FileImport, ImportType, MOST};
-use crate::ids::TypeId;
-use crate::types::{FuncType, ValType};
+use crate::entries::{
+    Custom, Elem, ElemPlace, Export, ExportItem, FileGlobal, FileImport, ImportType, Segment,
+    TableType,
+};
 use std::alloc::Global;
 use values::Seq;
-use wasm_bytes::{
-    Counts, Entry, ReadFault, Reader, read_exactly, read_index, read_list, read_name,
+use wasm_bytes::{Counts, Entry, ReadFault, Reader, read_entries, read_exactly, read_name};
+use wasm_ops::{
+    FuncId, GlobalId, Limits, MemoryId, Op, TableId, TagId, TypeId, ValType, read_initial,
+    read_initials, read_ref_type,
 };
 
-impl Entry for ValType {
-    ghost grammar = { λ _. val_type };
+/// The greatest limit of a memory.
+const MEMORY_LIMIT: u64 = 9_223_372_036_854_775_807;
 
-    #[tactic(auto, unfolding(crate::specs::Grammar::val_type))]
-    fn read(
-        reader: &mut Reader<'_>,
-        _alloc: Global,
-        _counts: &Counts,
-    ) -> Result<ValType, ReadFault> {
-        let place = reader.place();
-        match ValType::from_code(reader.byte()?) {
-            Some(ty) => Ok(ty),
-            None => Err(ReadFault::Parse { place }),
-        }
+/// Whether a bit of a byte of flags is set.
+fn has_bit(flags: u8, bit: u8) -> bool
+    ensures { result ≡ has_bit bit flags }
+{
+    flags & bit != 0
+}
+
+/// One byte below a bound.
+fn read_byte_below(reader: &mut Reader<'_>, bound: u8) -> Result<u8, ReadFault>
+    ensures { Gives result reader.new (allowed (λ b. nat_lt b bound) byte reader.old) }
+{
+    let place = reader.place();
+    let found = reader.byte()?;
+    if found < bound {
+        Ok(found)
+    } else {
+        Err(ReadFault::Parse { place })
     }
 }
 
-impl Entry for FuncType {
-    ghost grammar = { λ _. func_type };
+/// A limit, at most the greatest.
+#[tactic(auto, unfolding(crate::specs::Entries::limit))]
+fn read_limit(reader: &mut Reader<'_>, greatest: u64, wide: bool) -> Result<u64, ReadFault>
+    ensures { Gives result reader.new (limit greatest wide reader.old) }
+{
+    let place = reader.place();
+    let found = if wide {
+        reader.number64()?
+    } else {
+        reader.number32()? as u64
+    };
+    if found <= greatest {
+        Ok(found)
+    } else {
+        Err(ReadFault::Parse { place })
+    }
+}
 
-    #[tactic(auto, unfolding(crate::specs::Grammar::func_type))]
+/// A second limit, where the flags tell of one.
+#[tactic(auto, unfolding(crate::specs::Entries::maximum))]
+fn read_maximum(reader: &mut Reader<'_>, greatest: u64, flags: u8) -> Result<Option<u64>, ReadFault>
+    ensures { Gives result reader.new (maximum greatest flags reader.old) }
+{
+    if has_bit(flags, 1) {
+        Ok(Some(read_limit(reader, greatest, has_bit(flags, 4))?))
+    } else {
+        Ok(None)
+    }
+}
+
+/// Limits, each at most the greatest (WebAssembly core specification, 5.3.8).
+#[tactic(auto, unfolding(crate::specs::Entries::limits))]
+fn read_limits(reader: &mut Reader<'_>, greatest: u64) -> Result<Limits, ReadFault>
+    ensures { Gives result reader.new (limits greatest reader.old) }
+{
+    let flags = read_byte_below(reader, 8)?;
+    let wide = has_bit(flags, 4);
+    let min = read_limit(reader, greatest, wide)?;
+    let max = read_maximum(reader, greatest, flags)?;
+    Ok(Limits {
+        min,
+        max,
+        shared: has_bit(flags, 2),
+        wide,
+    })
+}
+
+/// The limits of a memory (WebAssembly core specification, 5.3.9).
+#[tactic(auto, unfolding(crate::specs::Entries::memory_type))]
+pub(crate) fn read_memory_type(reader: &mut Reader<'_>) -> Result<Limits, ReadFault>
+    ensures { Gives result reader.new (memory_type reader.old) }
+{
+    read_limits(reader, MEMORY_LIMIT)
+}
+
+impl Entry for TableType {
+    ghost grammar = { λ _. table_type };
+
+    #[tactic(auto, unfolding(crate::specs::Entries::table_type))]
     fn read(
         reader: &mut Reader<'_>,
         alloc: Global,
         counts: &Counts,
-    ) -> Result<FuncType, ReadFault> {
-        read_exactly(reader, 0x60)?;
-        let params = read_list(MOST, reader, alloc, counts)?;
-        let results = read_list(1, reader, alloc, counts)?;
-        Ok(FuncType { params, results })
+    ) -> Result<TableType, ReadFault> {
+        let elem = read_ref_type(reader, alloc, counts)?;
+        let limits = read_limits(reader, u64::MAX)?;
+        Ok(TableType { elem, limits })
     }
 }
 
-impl Entry for TypeId {
-    ghost grammar = { type_index };
+/// Whether a global can be set (WebAssembly core specification, 5.3.11).
+#[tactic(auto, unfolding(crate::specs::Entries::mutability))]
+fn read_mutability(reader: &mut Reader<'_>) -> Result<bool, ReadFault>
+    ensures { Gives result reader.new (mutability reader.old) }
+{
+    Ok(read_byte_below(reader, 2)? == 1)
+}
 
-    #[tactic(auto, unfolding(crate::specs::Grammar::type_index))]
-    fn read(reader: &mut Reader<'_>, _alloc: Global, counts: &Counts) -> Result<TypeId, ReadFault> {
-        Ok(TypeId(read_index(reader, counts.types as u64)?))
+/// The type of a tag.
+#[tactic(auto, unfolding(crate::specs::Entries::tag_type))]
+pub(crate) fn read_tag_type(
+    reader: &mut Reader<'_>,
+    alloc: Global,
+    counts: &Counts,
+) -> Result<TypeId, ReadFault>
+    ensures { Gives result reader.new (tag_type counts.now reader.old) }
+{
+    read_exactly(reader, 0)?;
+    TypeId::read(reader, alloc, counts)
+}
+
+/// What an import of a kind asks for.
+#[tactic(auto, unfolding(crate::specs::Entries::import_of))]
+fn read_import_of(
+    kind: u8,
+    place: u64,
+    reader: &mut Reader<'_>,
+    alloc: Global,
+    counts: &Counts,
+) -> Result<ImportType, ReadFault>
+    ensures { Gives result reader.new (import_of counts.now place kind reader.old) }
+{
+    match kind {
+        0 => Ok(ImportType::Func(TypeId::read(reader, alloc, counts)?)),
+        1 => {
+            let table = TableType::read(reader, alloc, counts)?;
+            Ok(ImportType::Table(table.elem, table.limits))
+        }
+        2 => Ok(ImportType::Memory(read_memory_type(reader)?)),
+        3 => {
+            let ty = ValType::read(reader, alloc, counts)?;
+            Ok(ImportType::Global(ty, read_mutability(reader)?))
+        }
+        4 => Ok(ImportType::Tag(read_tag_type(reader, alloc, counts)?)),
+        _ => Err(ReadFault::Parse { place }),
     }
 }
 
 impl Entry for ImportType {
     ghost grammar = { import_type };
 
-    #[tactic(auto, unfolding(crate::specs::Grammar::import_type))]
+    #[tactic(auto, unfolding(crate::specs::Entries::import_type))]
     fn read(
         reader: &mut Reader<'_>,
         alloc: Global,
         counts: &Counts,
     ) -> Result<ImportType, ReadFault> {
-        read_exactly(reader, 0)?;
-        Ok(ImportType::Func(TypeId::read(reader, alloc, counts)?))
+        let place = reader.place();
+        let kind = reader.byte()?;
+        read_import_of(kind, place, reader, alloc, counts)
     }
 }
 
 impl Entry for FileImport {
     ghost grammar = { «import» };
 
-    #[tactic(auto, unfolding(crate::specs::Grammar::import))]
+    #[tactic(auto, unfolding(crate::specs::Entries::import))]
     fn read(
         reader: &mut Reader<'_>,
         alloc: Global,
@@ -86,24 +190,46 @@ impl Entry for FileImport {
     }
 }
 
+/// What an export of a kind gives out.
+#[tactic(auto, unfolding(crate::specs::Entries::export_of))]
+fn read_export_of(
+    kind: u8,
+    place: u64,
+    reader: &mut Reader<'_>,
+    alloc: Global,
+    counts: &Counts,
+) -> Result<ExportItem, ReadFault>
+    ensures { Gives result reader.new (export_of counts.now place kind reader.old) }
+{
+    match kind {
+        0 => Ok(ExportItem::Func(FuncId::read(reader, alloc, counts)?)),
+        1 => Ok(ExportItem::Table(TableId::read(reader, alloc, counts)?)),
+        2 => Ok(ExportItem::Memory(MemoryId::read(reader, alloc, counts)?)),
+        3 => Ok(ExportItem::Global(GlobalId::read(reader, alloc, counts)?)),
+        4 => Ok(ExportItem::Tag(TagId::read(reader, alloc, counts)?)),
+        _ => Err(ReadFault::Parse { place }),
+    }
+}
+
 impl Entry for ExportItem {
     ghost grammar = { export_item };
 
-    #[tactic(auto, unfolding(crate::specs::Grammar::export_item))]
+    #[tactic(auto, unfolding(crate::specs::Entries::export_item))]
     fn read(
         reader: &mut Reader<'_>,
-        _alloc: Global,
+        alloc: Global,
         counts: &Counts,
     ) -> Result<ExportItem, ReadFault> {
-        read_exactly(reader, 0)?;
-        Ok(ExportItem::Func(read_func_index(reader, counts)?))
+        let place = reader.place();
+        let kind = reader.byte()?;
+        read_export_of(kind, place, reader, alloc, counts)
     }
 }
 
 impl Entry for Export {
     ghost grammar = { «export» };
 
-    #[tactic(auto, unfolding(crate::specs::Grammar::export))]
+    #[tactic(auto, unfolding(crate::specs::Entries::export))]
     fn read(reader: &mut Reader<'_>, alloc: Global, counts: &Counts) -> Result<Export, ReadFault> {
         let name = read_name(reader, alloc)?;
         let item = ExportItem::read(reader, alloc, counts)?;
@@ -111,8 +237,205 @@ impl Entry for Export {
     }
 }
 
-/// A name and all bytes after it.
-#[tactic(auto, unfolding(crate::specs::Grammar::custom))]
+impl Entry for FileGlobal {
+    ghost grammar = { global_entry };
+
+    #[tactic(auto, unfolding(crate::specs::Entries::global_entry))]
+    fn read(
+        reader: &mut Reader<'_>,
+        alloc: Global,
+        counts: &Counts,
+    ) -> Result<FileGlobal, ReadFault> {
+        let ty = ValType::read(reader, alloc, counts)?;
+        let mutable = read_mutability(reader)?;
+        let init = read_initial(reader, alloc, counts)?;
+        Ok(FileGlobal { ty, mutable, init })
+    }
+}
+
+/// The flags of an element segment. 0 and 4 mean table 0, which must be there.
+fn read_elem_flags(reader: &mut Reader<'_>, counts: &Counts) -> Result<u32, ReadFault>
+    ensures { Gives result reader.new (allowed (are_elem_flags counts.now) number32 reader.old) }
+{
+    let place = reader.place();
+    let flags = reader.number32()?;
+    if flags < 8 && (0 < counts.tables || !(flags == 0 || flags == 4)) {
+        Ok(flags)
+    } else {
+        Err(ReadFault::Parse { place })
+    }
+}
+
+/// The table of an active element segment.
+#[tactic(auto, unfolding(crate::specs::Entries::elem_table))]
+fn read_elem_table(
+    flags: u32,
+    reader: &mut Reader<'_>,
+    alloc: Global,
+    counts: &Counts,
+) -> Result<TableId, ReadFault>
+    ensures { Gives result reader.new (elem_table counts.now flags reader.old) }
+{
+    if flags == 2 || flags == 6 {
+        TableId::read(reader, alloc, counts)
+    } else {
+        Ok(TableId(0))
+    }
+}
+
+/// Where an element segment goes.
+#[tactic(auto, unfolding(crate::specs::Entries::elem_place))]
+fn read_elem_place(
+    flags: u32,
+    reader: &mut Reader<'_>,
+    alloc: Global,
+    counts: &Counts,
+) -> Result<ElemPlace, ReadFault>
+    ensures { Gives result reader.new (elem_place counts.now flags reader.old) }
+{
+    if flags == 1 || flags == 5 {
+        return Ok(ElemPlace::Passive);
+    }
+    if flags == 3 || flags == 7 {
+        return Ok(ElemPlace::Declared);
+    }
+    let table = read_elem_table(flags, reader, alloc, counts)?;
+    let offset = read_initial(reader, alloc, counts)?;
+    Ok(ElemPlace::Active(table, offset))
+}
+
+/// The type of an element segment's entries.
+#[tactic(auto, unfolding(crate::specs::Entries::elem_type))]
+fn read_elem_type(
+    flags: u32,
+    reader: &mut Reader<'_>,
+    alloc: Global,
+    counts: &Counts,
+) -> Result<ValType, ReadFault>
+    ensures { Gives result reader.new (elem_type flags reader.old) }
+{
+    if flags == 0 || flags == 4 {
+        return Ok(ValType::FuncRef);
+    }
+    if flags < 4 {
+        read_exactly(reader, 0)?;
+        return Ok(ValType::FuncRef);
+    }
+    read_ref_type(reader, alloc, counts)
+}
+
+/// The functions of an element segment, and its expressions: one of the lists is empty.
+#[tactic(auto, unfolding(crate::specs::Entries::elem_entries))]
+fn read_elem_entries(
+    flags: u32,
+    reader: &mut Reader<'_>,
+    alloc: Global,
+    counts: &Counts,
+) -> Result<(Seq<FuncId>, Seq<Seq<Op>>), ReadFault>
+    ensures { Gives result reader.new (elem_entries counts.now flags reader.old) }
+{
+    let count = reader.number32()?;
+    if flags < 4 {
+        let funcs = read_entries(count, reader, alloc, counts)?;
+        Ok((funcs, Seq::new(alloc)))
+    } else {
+        let exprs = read_initials(count, reader, alloc, counts)?;
+        Ok((Seq::new(alloc), exprs))
+    }
+}
+
+impl Entry for Elem {
+    ghost grammar = { elem };
+
+    /// An element segment (WebAssembly core specification, 5.5.12).
+    #[tactic(auto, unfolding(crate::specs::Entries::elem))]
+    fn read(reader: &mut Reader<'_>, alloc: Global, counts: &Counts) -> Result<Elem, ReadFault> {
+        let flags = read_elem_flags(reader, counts)?;
+        let place = read_elem_place(flags, reader, alloc, counts)?;
+        let ty = read_elem_type(flags, reader, alloc, counts)?;
+        let (funcs, exprs) = read_elem_entries(flags, reader, alloc, counts)?;
+        Ok(Elem {
+            place,
+            ty,
+            funcs,
+            exprs,
+        })
+    }
+}
+
+/// The flags of a data segment. 0 means memory 0, which must be there.
+fn read_segment_flags(reader: &mut Reader<'_>, counts: &Counts) -> Result<u32, ReadFault>
+    ensures { Gives result reader.new (allowed (are_segment_flags counts.now) number32 reader.old) }
+{
+    let place = reader.place();
+    let flags = reader.number32()?;
+    if flags < 3 && (0 < counts.memories || flags != 0) {
+        Ok(flags)
+    } else {
+        Err(ReadFault::Parse { place })
+    }
+}
+
+/// The memory of an active data segment.
+#[tactic(auto, unfolding(crate::specs::Entries::segment_memory))]
+fn read_segment_memory(
+    flags: u32,
+    reader: &mut Reader<'_>,
+    alloc: Global,
+    counts: &Counts,
+) -> Result<MemoryId, ReadFault>
+    ensures { Gives result reader.new (segment_memory counts.now flags reader.old) }
+{
+    if flags == 2 {
+        MemoryId::read(reader, alloc, counts)
+    } else {
+        Ok(MemoryId(0))
+    }
+}
+
+/// Where a data segment goes.
+#[tactic(auto, unfolding(crate::specs::Entries::segment_place))]
+fn read_segment_place(
+    flags: u32,
+    reader: &mut Reader<'_>,
+    alloc: Global,
+    counts: &Counts,
+) -> Result<Option<(MemoryId, Seq<Op>)>, ReadFault>
+    ensures { Gives result reader.new (segment_place counts.now flags reader.old) }
+{
+    if flags == 1 {
+        return Ok(None);
+    }
+    let memory = read_segment_memory(flags, reader, alloc, counts)?;
+    let offset = read_initial(reader, alloc, counts)?;
+    Ok(Some((memory, offset)))
+}
+
+/// A length and that many bytes.
+#[tactic(auto, unfolding(crate::specs::Entries::blob))]
+fn read_blob(reader: &mut Reader<'_>, alloc: Global) -> Result<Seq<u8>, ReadFault>
+    ensures { Gives result reader.new (blob reader.old) }
+{
+    let len = reader.number32()?;
+    let bytes = reader.raw(len as usize)?;
+    Ok(Seq::from_vec(Vec::from_slice(alloc, bytes)?))
+}
+
+impl Entry for Segment {
+    ghost grammar = { segment };
+
+    /// A data segment (WebAssembly core specification, 5.5.14).
+    #[tactic(auto, unfolding(crate::specs::Entries::segment))]
+    fn read(reader: &mut Reader<'_>, alloc: Global, counts: &Counts) -> Result<Segment, ReadFault> {
+        let flags = read_segment_flags(reader, counts)?;
+        let place = read_segment_place(flags, reader, alloc, counts)?;
+        let bytes = read_blob(reader, alloc)?;
+        Ok(Segment { place, bytes })
+    }
+}
+
+/// A custom section: a name and all bytes after it (WebAssembly core specification, 5.5.3).
+#[tactic(auto, unfolding(crate::specs::Entries::custom))]
 pub(crate) fn read_custom(reader: &mut Reader<'_>, alloc: Global) -> Result<Custom, ReadFault>
     ensures { Gives result reader.new (custom reader.old) }
 {

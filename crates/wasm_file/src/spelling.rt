@@ -1,45 +1,59 @@
 //! Writing entries and sections (WebAssembly core specification, 5.5).
 
 ghost use Rattle.std.specs.Prelude.{◌≡◌, ◌++◌, OnOk};
-ghost use Rattle.std.specs.List.{flat_map};
-ghost use Rattle.wasm_file.specs.Spelling.{val_type_bytes, func_type_bytes, type_id_bytes, import_type_bytes, item_bytes, export_bytes, custom_bytes, op_bytes, run_bytes, body_bytes, code_bytes, section_bytes};
+ghost use Rattle.wasm_file.specs.Spelling.{truth_bit, has_max, limits_flag, limits_bytes, table_bytes, global_type_bytes, tag_bytes, import_type_bytes, item_bytes, custom_bytes, value_bytes, field_bytes, section_bytes};
 
-use crate::entries::{Body, Custom, Export, ExportItem, ImportType};
-use crate::ids::TypeId;
-use crate::ops::Op;
-use crate::types::{FuncType, ValType};
-use std::alloc::{AllocError, Global};
-use wasm_bytes::{
-    Spell, push_i32, push_number, push_u32, write_entries, write_framed, write_list, write_name,
-};
+use crate::entries::{Custom, ExportItem, ImportType, ProducerField, ProducerValue, TableType};
+use std::alloc::AllocError;
+use wasm_bytes::{Spell, push_number, push_u32, write_framed, write_list, write_name};
+use wasm_ops::{Limits, TypeId, ValType};
 
-impl Spell for ValType {
-    ghost spelled = { val_type_bytes };
+/// The flag of limits: a bit for a maximum, one for a shared one, one for a wide one.
+fn limits_flag(limits: &Limits) -> u8
+    ensures { result ≡ limits_flag limits.now }
+{
+    u8::from(limits.max.is_some()) + 2 * u8::from(limits.shared) + 4 * u8::from(limits.wide)
+}
 
-    #[tactic(auto, unfolding(crate::specs::Spelling::val_type_bytes))]
-    fn write(&self, out: &mut Vec<u8>) -> Result<(), AllocError> {
-        out.push(self.code())?;
-        Ok(())
+/// Appends limits (WebAssembly core specification, 5.3.11).
+#[tactic(auto, unfolding(crate::specs::Spelling::limits_bytes))]
+pub fn write_limits(out: &mut Vec<u8>, limits: &Limits) -> Result<(), AllocError>
+    ensures { OnOk result (out.new.items ≡ out.old.items ++ limits_bytes limits.now) }
+{
+    out.push(limits_flag(limits))?;
+    push_number(out, limits.min)?;
+    match limits.max {
+        Some(max) => push_number(out, max),
+        None => Ok(()),
     }
 }
 
-impl Spell for FuncType {
-    ghost spelled = { func_type_bytes };
-
-    #[tactic(auto, unfolding(crate::specs::Spelling::func_type_bytes))]
-    fn write(&self, out: &mut Vec<u8>) -> Result<(), AllocError> {
-        out.push(0x60)?;
-        write_list(self.params.as_slice(), out)?;
-        write_list(self.results.as_slice(), out)
-    }
+/// Appends the type of a global: a value type, and whether it can be set (WebAssembly core specification, 5.3.14).
+#[tactic(auto, unfolding(crate::specs::Spelling::global_type_bytes))]
+pub fn write_global_type(out: &mut Vec<u8>, ty: ValType, mutable: bool) -> Result<(), AllocError>
+    ensures { OnOk result (out.new.items ≡ out.old.items ++ global_type_bytes ty mutable) }
+{
+    out.push(ty.code())?;
+    out.push(u8::from(mutable))?;
+    Ok(())
 }
 
-impl Spell for TypeId {
-    ghost spelled = { type_id_bytes };
+/// Appends a tag: a byte 0 and a type (WebAssembly core specification, 5.3.16).
+#[tactic(auto, unfolding(crate::specs::Spelling::tag_bytes))]
+pub fn write_tag(out: &mut Vec<u8>, ty: TypeId) -> Result<(), AllocError>
+    ensures { OnOk result (out.new.items ≡ out.old.items ++ tag_bytes ty) }
+{
+    out.push(0)?;
+    push_u32(out, ty.0)
+}
 
-    #[tactic(auto, unfolding(crate::specs::Spelling::type_id_bytes))]
+impl Spell for TableType {
+    ghost spelled = { table_bytes };
+
+    #[tactic(auto, unfolding(crate::specs::Spelling::table_bytes))]
     fn write(&self, out: &mut Vec<u8>) -> Result<(), AllocError> {
-        push_u32(out, self.0)
+        out.push(self.elem.code())?;
+        write_limits(out, &self.limits)
     }
 }
 
@@ -53,7 +67,26 @@ impl Spell for ImportType {
                 out.push(0)?;
                 push_u32(out, ty.0)
             }
-            _ => Ok(()),
+            ImportType::Table(elem, limits) => {
+                out.push(1)?;
+                let table = TableType {
+                    elem: *elem,
+                    limits: *limits,
+                };
+                table.write(out)
+            }
+            ImportType::Memory(limits) => {
+                out.push(2)?;
+                write_limits(out, limits)
+            }
+            ImportType::Global(ty, mutable) => {
+                out.push(3)?;
+                write_global_type(out, *ty, *mutable)
+            }
+            ImportType::Tag(ty) => {
+                out.push(4)?;
+                write_tag(out, *ty)
+            }
         }
     }
 }
@@ -75,61 +108,24 @@ impl Spell for ExportItem {
     }
 }
 
-impl Spell for Export {
-    ghost spelled = { export_bytes };
+impl Spell for ProducerValue {
+    ghost spelled = { value_bytes };
 
-    #[tactic(auto, unfolding(crate::specs::Spelling::export_bytes))]
+    #[tactic(auto, unfolding(crate::specs::Spelling::value_bytes))]
     fn write(&self, out: &mut Vec<u8>) -> Result<(), AllocError> {
         write_name(out, self.name.as_str())?;
-        self.item.write(out)
+        write_name(out, self.version.as_str())
     }
 }
 
-impl Spell for Op {
-    ghost spelled = { op_bytes };
+impl Spell for ProducerField {
+    ghost spelled = { field_bytes };
 
-    #[tactic(auto, unfolding(crate::specs::Spelling::op_bytes))]
+    #[tactic(auto, unfolding(crate::specs::Spelling::field_bytes))]
     fn write(&self, out: &mut Vec<u8>) -> Result<(), AllocError> {
-        match self {
-            Op::Plain(code) => {
-                out.push(*code)?;
-                Ok(())
-            }
-            Op::Func(code, func) => {
-                out.push(*code)?;
-                push_u32(out, func.0)
-            }
-            Op::Local(code, local) => {
-                out.push(*code)?;
-                push_u32(out, *local)
-            }
-            Op::Const32(value) => {
-                out.push(0x41)?;
-                push_i32(out, *value)
-            }
-            _ => Ok(()),
-        }
+        write_name(out, self.name.as_str())?;
+        write_list(self.values.as_slice(), out)
     }
-}
-
-/// A run of locals of one type.
-#[tactic(auto, unfolding(crate::specs::Spelling::run_bytes))]
-fn write_run(out: &mut Vec<u8>, run: &(u32, ValType)) -> Result<(), AllocError>
-    ensures { OnOk result (out.new.items ≡ out.old.items ++ run_bytes run.now) }
-{
-    push_u32(out, run.0)?;
-    out.push(run.1.code())?;
-    Ok(())
-}
-
-/// Runs of locals, one after another.
-fn write_runs(out: &mut Vec<u8>, runs: &[(u32, ValType)]) -> Result<(), AllocError>
-    ensures { OnOk result (out.new.items ≡ out.old.items ++ flat_map run_bytes runs.now) }
-{
-    for run in runs {
-        write_run(out, run)?;
-    }
-    Ok(())
 }
 
 /// Appends a custom section's content: its name and its bytes.
@@ -139,28 +135,6 @@ pub fn write_custom(out: &mut Vec<u8>, custom: &Custom) -> Result<(), AllocError
 {
     write_name(out, custom.name.as_str())?;
     out.extend_from_slice(custom.bytes.as_slice())
-}
-
-/// Appends the runs of locals, the operators, and the one that closes the body.
-#[tactic(auto, unfolding(crate::specs::Spelling::body_bytes, wasm_bytes::specs::Spelling::list_bytes))]
-fn write_body(out: &mut Vec<u8>, body: &Body) -> Result<(), AllocError>
-    ensures { OnOk result (out.new.items ≡ out.old.items ++ body_bytes body.now) }
-{
-    push_number(out, body.locals.len() as u64)?;
-    write_runs(out, body.locals.as_slice())?;
-    write_entries(body.ops.as_slice(), out)?;
-    out.push(0x0B)?;
-    Ok(())
-}
-
-/// Appends a body behind its length.
-#[tactic(auto, unfolding(crate::specs::Spelling::code_bytes))]
-pub fn write_code(out: &mut Vec<u8>, alloc: Global, body: &Body) -> Result<(), AllocError>
-    ensures { OnOk result (out.new.items ≡ out.old.items ++ code_bytes body.now) }
-{
-    let mut bytes = Vec::new(alloc);
-    write_body(&mut bytes, body)?;
-    write_framed(out, &bytes)
 }
 
 /// Appends a section: its id, and its content behind its length.
