@@ -1,7 +1,7 @@
 -- A module by ids: an id is a place in a list, and what is dropped leaves its place empty.
 use Rattle.std.specs.Prelude.{ℕ, List, Option, Some, None, slice_get}
-use Rattle.wasm_file.specs.declared.ids.FuncId.{FuncId}
-use Rattle.wasm_file.specs.declared.types.FuncType.{FuncType}
+use Rattle.wasm_ops.specs.declared.ids.FuncId.{FuncId}
+use Rattle.wasm_ops.specs.declared.types.FuncType.{FuncType}
 use Rattle.wasm_file.specs.declared.entries.Export.{Export}
 use Rattle.wasm_file.specs.declared.entries.Custom.{Custom}
 use Rattle.wasm_core.specs.declared.types.Func.{Func}
@@ -10,9 +10,9 @@ use Rattle.wasm_core.specs.declared.types.Memory.{Memory}
 use Rattle.wasm_core.specs.declared.types.GlobalVar.{GlobalVar}
 use Rattle.wasm_core.specs.declared.types.Tag.{Tag}
 use Rattle.wasm_core.specs.declared.types.Import.{Import}
-use Rattle.wasm_core.specs.declared.types.Elem.{Elem}
-use Rattle.wasm_core.specs.declared.types.Segment.{Segment}
-use Rattle.wasm_core.specs.declared.types.ProducerField.{ProducerField}
+use Rattle.wasm_file.specs.declared.entries.Elem.{Elem}
+use Rattle.wasm_file.specs.declared.entries.Segment.{Segment}
+use Rattle.wasm_file.specs.declared.entries.ProducerField.{ProducerField}
 use Rattle.wasm_core.specs.declared.types.ParseConfig.{ParseConfig}
 
 pub record Contents : Type 0 where

@@ -1,123 +1,256 @@
--- The bytes of a module.
-use Rattle.std.specs.Prelude.{ℕ, Bool, not, ◌||◌, ◌==◌, List, [], ◌∷◌, ◌++◌, length, map, codes, Option, Some, None, is_some, slice_get, nat_lt, if◌then◌else◌}
-use Rattle.std.specs.List.{flat_map, filter_map}
-use Rattle.wasm_bytes.specs.Numbers.{number_bytes}
-use Rattle.wasm_bytes.specs.Spelling.{list_bytes, name_bytes}
+-- The bytes of a module: the lists that a file has of it, and their spelling.
+use Rattle.std.specs.Prelude.{ℕ, ◌==◌, ◌&&◌, ◌||◌, Bool, true, false, not, List, [], ◌∷◌, ◌++◌, length, map, count_by, codes, Option, Some, None, is_some, slice_get, nat_lt, if◌then◌else◌}
+use Rattle.std.specs.List.{flat_map, filter_map, enumerate_from}
+use Rattle.wasm_bytes.specs.Spelling.{list_bytes}
+use Rattle.wasm_ops.specs.Numbers.{number_at, renumbered_ops, renumbered_body}
+use Rattle.wasm_ops.specs.declared.ids.DataId.{DataId}
+use Rattle.wasm_ops.specs.declared.ids.FuncId.{FuncId}
+use Rattle.wasm_ops.specs.declared.ids.ImportId.{ImportId}
+use Rattle.wasm_ops.specs.declared.ids.MemoryId.{MemoryId}
+use Rattle.wasm_ops.specs.declared.ids.TypeId.{TypeId}
+use Rattle.wasm_ops.specs.declared.ops.Body.{Body}
+use Rattle.wasm_ops.specs.declared.ops.Numbering.{Numbering}
+use Rattle.wasm_ops.specs.declared.ops.Op.{Op}
+use Rattle.wasm_ops.specs.declared.types.Limits.{Limits}
 use Rattle.wasm_file.specs.Frames.{preamble_bytes}
-use Rattle.wasm_file.specs.Spelling.{func_type_bytes, type_id_bytes, import_bytes, export_bytes, code_bytes, custom_bytes, section_bytes}
-use Rattle.wasm_file.specs.declared.ids.TypeId.{TypeId}
-use Rattle.wasm_file.specs.declared.entries.Body.{Body}
+use Rattle.wasm_file.specs.Spelling.{field_bytes, names_bytes, section_bytes, part_sections}
 use Rattle.wasm_file.specs.declared.entries.Custom.{Custom}
+use Rattle.wasm_file.specs.declared.entries.Elem.{Elem}
+use Rattle.wasm_file.specs.declared.entries.ElemPlace.{ElemPlace}
+use Rattle.wasm_file.specs.declared.entries.ElemPlace.TheVariants as places
+use Rattle.wasm_file.specs.declared.entries.Export.{Export}
+use Rattle.wasm_file.specs.declared.entries.ExportItem.{ExportItem}
+use Rattle.wasm_file.specs.declared.entries.ExportItem.TheVariants as items
+use Rattle.wasm_file.specs.declared.entries.FileGlobal.{FileGlobal}
 use Rattle.wasm_file.specs.declared.entries.FileImport.{FileImport}
 use Rattle.wasm_file.specs.declared.entries.ImportType.{ImportType}
 use Rattle.wasm_file.specs.declared.entries.ImportType.TheVariants as asked
+use Rattle.wasm_file.specs.declared.entries.Names.{Names}
+use Rattle.wasm_file.specs.declared.entries.Parts.{Parts}
+use Rattle.wasm_file.specs.declared.entries.Segment.{Segment}
+use Rattle.wasm_file.specs.declared.entries.TableType.{TableType}
 use Rattle.wasm_core.specs.declared.types.Func.{Func}
+use Rattle.wasm_core.specs.declared.types.GlobalVar.{GlobalVar}
 use Rattle.wasm_core.specs.declared.types.Import.{Import}
 use Rattle.wasm_core.specs.declared.types.ImportKind.{ImportKind}
 use Rattle.wasm_core.specs.declared.types.ImportKind.TheVariants as kinds
-use Rattle.wasm_core.specs.declared.types.ProducerField.{ProducerField}
-use Rattle.wasm_core.specs.declared.types.ProducerValue.{ProducerValue}
+use Rattle.wasm_core.specs.declared.types.Memory.{Memory}
+use Rattle.wasm_core.specs.declared.types.Table.{Table}
+use Rattle.wasm_core.specs.declared.types.Tag.{Tag}
 use Rattle.wasm_core.specs.Contents.{Contents}
+use Rattle.wasm_core.specs.Renumbering.{numbering}
 
--- the entries that are there, in the order of their ids
+-- ---- entries of a file
+
+-- the entries that are there, in the order of their places
 abbrev pub live : {A : Type 0} → List (Option A) → List A
 live xs = filter_map (λ x. x) xs
 
--- the type of a function
-abbrev pub type_in : Option (Option Func) → TypeId
-type_in (Some (Some f)) = f.ty
-type_in _ = record { 0 = 0 }
+-- what stands in the file for an entry of one's own, none for an imported one
+abbrev pub own : {A : Type 0} → Option ImportId → A → Option A
+own None x = Some x
+own (Some i) x = None
 
--- what an import asks for; of the kinds only functions are built
-abbrev pub import_type_in : List (Option Func) → ImportKind → ImportType
-import_type_in funcs (kinds.Func func) = asked.Func (type_in (slice_get funcs func.0))
-import_type_in funcs _ = asked.Func (record { 0 = 0 })
+-- the type by its number
+abbrev pub file_type : Numbering → TypeId → TypeId
+file_type n ty = record { 0 = number_at n.types ty.0 }
 
--- an import as a file has it
-abbrev pub file_import : List (Option Func) → Import → FileImport
-file_import funcs i = record { «module» = i.«module»; name = i.name; ty = import_type_in funcs i.kind }
+abbrev pub file_func : Numbering → FuncId → FuncId
+file_func n func = record { 0 = number_at n.funcs func.0 }
 
--- the imports that are there, as a file has them
-abbrev pub file_import_at : List (Option Func) → Option Import → Option FileImport
-file_import_at funcs (Some i) = Some (file_import funcs i)
-file_import_at funcs None = None
+-- what an import of a function that is there asks for, and so on
+abbrev pub func_asked : Numbering → Option (Option Func) → Option ImportType
+func_asked n (Some (Some f)) = Some (asked.Func (file_type n f.ty))
+func_asked n _ = None
 
-abbrev pub file_imports : List (Option Func) → List (Option Import) → List FileImport
-file_imports funcs imports = filter_map (file_import_at funcs) imports
+abbrev pub table_asked : Option (Option Table) → Option ImportType
+table_asked (Some (Some t)) = Some (asked.Table t.elem t.limits)
+table_asked _ = None
 
--- a function that is there and has a body
-abbrev pub own_at : Option Func → Option (TypeId × Body)
-own_at (Some f) = with_body f.ty f.body
-  where
-    with_body : TypeId → Option Body → Option (TypeId × Body)
-    with_body ty (Some b) = Some (ty, b)
-    with_body ty None = None
-own_at None = None
+abbrev pub memory_asked : Option (Option Memory) → Option ImportType
+memory_asked (Some (Some x)) = Some (asked.Memory x.limits)
+memory_asked _ = None
 
-unfoldable pub is_own : Option Func → Bool
-is_own f = is_some (own_at f)
+abbrev pub global_asked : Option (Option GlobalVar) → Option ImportType
+global_asked (Some (Some g)) = Some (asked.Global g.ty g.mutable)
+global_asked _ = None
 
--- the types and the bodies of the functions that aren't imported
-abbrev pub own_funcs : List (Option Func) → List (TypeId × Body)
-own_funcs funcs = filter_map own_at funcs
+abbrev pub tag_asked : Numbering → Option (Option Tag) → Option ImportType
+tag_asked n (Some (Some t)) = Some (asked.Tag (file_type n t.ty))
+tag_asked n _ = None
 
-abbrev pub own_type_bytes : TypeId × Body → List ℕ
-own_type_bytes f = type_id_bytes f.0
+-- what an import asks for: the type of its item, none where the item isn't there
+unfoldable pub import_asked : Contents → Numbering → ImportKind → Option ImportType
+import_asked m n (kinds.Func i) = func_asked n (slice_get m.funcs i.0)
+import_asked m n (kinds.Table i) = table_asked (slice_get m.tables i.0)
+import_asked m n (kinds.Memory i) = memory_asked (slice_get m.memories i.0)
+import_asked m n (kinds.Global i) = global_asked (slice_get m.globals i.0)
+import_asked m n (kinds.Tag i) = tag_asked n (slice_get m.tags i.0)
 
-abbrev pub own_code_bytes : TypeId × Body → List ℕ
-own_code_bytes f = code_bytes f.1
+abbrev pub import_of_type : Import → Option ImportType → Option FileImport
+import_of_type i (Some ty) = Some (record { «module» = i.«module»; name = i.name; ty = ty })
+import_of_type i None = None
 
--- the bytes of an entry, where there is one
-abbrev pub some_bytes : {A : Type 0} → (A → List ℕ) → Option A → List ℕ
-some_bytes spell (Some x) = spell x
-some_bytes spell None = []
+-- an import with the type of its item, none where the item isn't there
+abbrev pub file_import : Contents → Numbering → Import → Option FileImport
+file_import m n i = import_of_type i (import_asked m n i.kind)
 
--- a section of so many entries with these bytes, none without any
-abbrev pub counted_section : ℕ → ℕ → List ℕ → List (ℕ × List ℕ)
-counted_section id count entries = if count == 0 then [] else (id, number_bytes count ++ entries) ∷ []
+-- the body, where there is none one without locals and operators
+abbrev pub body_or_empty : Option Body → Body
+body_or_empty (Some b) = b
+body_or_empty None = record { locals = []; ops = [] }
 
--- a section of a list, none where the list is empty
-unfoldable pub list_section : {A : Type 0} → ℕ → (A → List ℕ) → List A → List (ℕ × List ℕ)
-list_section id spell xs = counted_section id (length xs) (flat_map spell xs)
+abbrev pub own_type : Numbering → Func → Option TypeId
+own_type n f = own f.«import» (file_type n f.ty)
 
-unfoldable pub value_bytes : ProducerValue → List ℕ
-value_bytes v = name_bytes v.name ++ name_bytes v.version
+abbrev pub own_body : Numbering → Func → Option Body
+own_body n f = own f.«import» (renumbered_body n (body_or_empty f.body))
 
-unfoldable pub field_bytes : ProducerField → List ℕ
-field_bytes f = name_bytes f.name ++ list_bytes value_bytes f.values
+abbrev pub own_table : Table → Option TableType
+own_table t = own t.«import» (record { elem = t.elem; limits = t.limits })
 
--- the custom section of producers, none where it is empty or not wanted
-unfoldable pub producers_section : Bool → List ProducerField → List (ℕ × List ℕ)
-producers_section wanted fields =
-    if not wanted || length fields == 0 then [] else (0, name_bytes (codes "producers") ++ list_bytes field_bytes fields) ∷ []
+abbrev pub own_memory : Memory → Option Limits
+own_memory x = own x.«import» x.limits
 
--- the sections of the module's lists. An id is its number: nothing is dropped, and imported functions come first.
-unfoldable pub list_sections : Contents → List (ℕ × List ℕ)
-list_sections m = list_section 1 func_type_bytes (live m.types)
-    ++ (list_section 2 import_bytes (file_imports m.funcs m.imports)
-    ++ (list_section 3 own_type_bytes (own_funcs m.funcs)
-    ++ (list_section 7 export_bytes (live m.exports)
-    ++ list_section 10 own_code_bytes (own_funcs m.funcs))))
+abbrev pub own_tag : Numbering → Tag → Option TypeId
+own_tag n t = own t.«import» (file_type n t.ty)
 
-abbrev pub custom_section : Custom → ℕ × List ℕ
-custom_section c = (0, custom_bytes c)
+abbrev pub own_global : Numbering → GlobalVar → Option FileGlobal
+own_global n g = own g.«import» (record { ty = g.ty; mutable = g.mutable; init = renumbered_ops n g.init })
+
+-- what is exported, by its number
+abbrev pub file_item : Numbering → ExportItem → ExportItem
+file_item n (items.Func i) = items.Func (record { 0 = number_at n.funcs i.0 })
+file_item n (items.Table i) = items.Table (record { 0 = number_at n.tables i.0 })
+file_item n (items.Memory i) = items.Memory (record { 0 = number_at n.memories i.0 })
+file_item n (items.Global i) = items.Global (record { 0 = number_at n.globals i.0 })
+file_item n (items.Tag i) = items.Tag (record { 0 = number_at n.tags i.0 })
+
+abbrev pub file_export : Numbering → Export → Export
+file_export n e = record { name = e.name; item = file_item n e.item }
+
+abbrev pub file_place : Numbering → ElemPlace → ElemPlace
+file_place n (places.Active table init) = places.Active (record { 0 = number_at n.tables table.0 }) (renumbered_ops n init)
+file_place n places.Passive = places.Passive
+file_place n places.Declared = places.Declared
+
+-- an element segment with the numbers of what it names
+abbrev pub file_elem : Numbering → Elem → Elem
+file_elem n e = record { place = file_place n e.place; ty = e.ty; funcs = map (file_func n) e.funcs; exprs = map (renumbered_ops n) e.exprs }
+
+abbrev pub file_segment_place : Numbering → Option (MemoryId × List Op) → Option (MemoryId × List Op)
+file_segment_place n (Some p) = Some (record { 0 = number_at n.memories p.0.0 }, renumbered_ops n p.1)
+file_segment_place n None = None
+
+-- a data segment with the numbers of what it names
+abbrev pub file_segment : Numbering → Segment → Segment
+file_segment n s = record { place = file_segment_place n s.place; bytes = s.bytes }
+
+abbrev pub file_start : Numbering → Option FuncId → Option FuncId
+file_start n (Some func) = Some (file_func n func)
+file_start n None = None
+
+-- the number of segments, none without any
+abbrev pub some_count : ℕ → Option ℕ
+some_count n = if n == 0 then None else Some n
+
+-- ---- custom sections
+
+-- a number with a name, none without one
+abbrev pub with_number : ℕ → Option (List ℕ) → Option (FuncId × List ℕ)
+with_number i (Some name) = Some (record { 0 = i }, name)
+with_number i None = None
+
+-- it is imported, or it isn't, as is asked
+abbrev pub is_asked : Bool → Option ImportId → Bool
+is_asked true i = is_some i
+is_asked false i = not (is_some i)
+
+-- the number and the name of the function at a place, where it has one and is imported, or not, as is asked
+abbrev pub name_at : List ℕ → Bool → ℕ × Option Func → Option (FuncId × List ℕ)
+name_at numbers imported (place, Some f) = if is_asked imported f.«import» then with_number (number_at numbers place) f.name else None
+name_at numbers imported (place, None) = None
+
+abbrev pub names_among : List ℕ → Bool → List (Option Func) → List (FuncId × List ℕ)
+names_among numbers imported funcs = filter_map (name_at numbers imported) (enumerate_from 0 funcs)
+
+-- the names of live functions in the order of their numbers: imported ones first
+unfoldable pub func_names : List ℕ → List (Option Func) → List (FuncId × List ℕ)
+func_names numbers funcs = names_among numbers true funcs ++ names_among numbers false funcs
+
+-- the names that the file gives
+abbrev pub file_names : Contents → Numbering → Names
+file_names m n = record { «module» = m.name; funcs = func_names n.funcs m.funcs }
+
+abbrev pub has_names : Names → Bool
+has_names n = is_some n.«module» || not (length n.funcs == 0)
+
+-- the name section, where it is wanted and there is a name
+unfoldable pub name_customs : Bool → Names → List Custom
+name_customs wanted n = if wanted && has_names n then record { name = codes "name"; bytes = names_bytes n } ∷ [] else []
+
+-- the producers section, where it is wanted and there is a field
+unfoldable pub producer_customs : Contents → List Custom
+producer_customs m = if m.config.producers && not (length m.producers == 0)
+    then record { name = codes "producers"; bytes = list_bytes field_bytes m.producers } ∷ [] else []
+
+-- the name section, the producers section, and the others in order
+unfoldable pub file_customs : Numbering → Contents → List Custom
+file_customs n m = name_customs m.config.names (file_names m n) ++ (producer_customs m ++ m.customs)
+
+-- ---- the file
+
+-- The lists that a file has of a module: live entries, which name others by their numbers.
+unfoldable pub filed_by : Numbering → Contents → Parts
+filed_by n m = record {
+  types = live m.types;
+  imports = filter_map (file_import m n) (live m.imports);
+  functions = filter_map (own_type n) (live m.funcs);
+  tables = filter_map own_table (live m.tables);
+  memories = filter_map own_memory (live m.memories);
+  tags = filter_map (own_tag n) (live m.tags);
+  globals = filter_map (own_global n) (live m.globals);
+  exports = map (file_export n) (live m.exports);
+  start = file_start n m.start;
+  elems = map (file_elem n) (live m.elems);
+  data_count = some_count (count_by is_some m.segments);
+  bodies = filter_map (own_body n) (live m.funcs);
+  segments = map (file_segment n) (live m.segments);
+  customs = file_customs n m;
+}
+
+abbrev pub filed : Contents → Parts
+filed m = filed_by (numbering m) m
 
 -- the id and the content of each section, in the order in which they are written
 unfoldable pub section_contents : Contents → List (ℕ × List ℕ)
-section_contents m = list_sections m ++ (producers_section m.config.producers m.producers ++ map custom_section m.customs)
+section_contents m = part_sections (filed m)
 
 -- the bytes of a module
 unfoldable pub bytes_of : Contents → List ℕ
 bytes_of m = preamble_bytes ++ flat_map section_bytes (section_contents m)
+
+-- the id of the first section whose content has more bytes than so many
+unfoldable pub first_too_large : ℕ → List (ℕ × List ℕ) → Option ℕ
+first_too_large longest [] = None
+first_too_large longest (s ∷ ss) = if nat_lt longest (length s.1) then Some s.0 else first_too_large longest ss
 
 -- the greatest length of a section's content, in bytes
 abbrev pub longest_content : ℕ
 longest_content = 4294967295
 
 -- the id of the first section that is too long
-unfoldable pub first_too_large : List (ℕ × List ℕ) → Option ℕ
-first_too_large [] = None
-first_too_large (s ∷ ss) = if nat_lt longest_content (length s.1) then Some s.0 else first_too_large ss
-
 unfoldable pub too_large : Contents → Option ℕ
-too_large m = first_too_large (section_contents m)
+too_large m = first_too_large longest_content (section_contents m)
+
+-- ---- what writing an entry adds
+
+-- what stands in the file for an entry, none where there is none
+abbrev pub filed_at : {A B : Type 0} → (A → Option B) → Option A → Option B
+filed_at file (Some x) = file x
+filed_at file None = None
+
+-- the bytes of an entry, none where there is none
+abbrev pub some_bytes : {A : Type 0} → (A → List ℕ) → Option A → List ℕ
+some_bytes spell (Some x) = spell x
+some_bytes spell None = []

@@ -1,5 +1,9 @@
 pub mod Frames
 pub mod Contents
 pub mod Parsing
+pub mod Renumbering
 pub mod Emission
 pub mod Edits
+pub mod Reach
+pub mod Edges
+pub mod Collected

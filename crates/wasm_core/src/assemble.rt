@@ -1,88 +1,274 @@
-//! A module's lists from a file's.
+//! A module of a file's lists.
 
-ghost use Rattle.std.specs.Prelude.{◌≡◌, ◌++◌, ◌<◌, ◌^◌, ◌≤◌, length, map, Some, IfOk, OnOk};
-ghost use Rattle.wasm_core.specs.Parsing.{asked_type, imports_from, imported_from, joined};
+ghost use Rattle.std.specs.Prelude.{◌≡◌, [], ◌++◌, ◌+◌, ◌<◌, ◌≤◌, ◌^◌, length, map, fold, Some, IfOk, OnOk};
+ghost use Rattle.std.specs.List.{filter};
+ghost use Rattle.wasm_file.specs.Parts.{AreFew};
+ghost use Rattle.wasm_core.specs.Parsing.{assembled, imports_behind, places_of, kind_at, brought, imported_func, imported_table, imported_memory, imported_global, imported_tag, own_funcs, table_of, memory_of, global_of, tag_of, joined, all_funcs, names_in, merged, all_names, with_names, name_given, producers_in, all_producers, is_kept, after};
 
-use crate::types::{Func, Import, ImportKind};
+use crate::module::Module;
+use crate::numbering::take_next;
+use crate::types::{Func, GlobalVar, Import, ImportKind, Memory, ParseConfig, Table, Tag};
 use std::alloc::{AllocError, Global};
-use values::Seq;
-use wasm_file::{Body, FileImport, FuncId, ImportId, ImportType, TypeId};
+use values::{Seq, Text};
+use wasm_file::{
+    Custom, FileGlobal, FileImport, ImportType, Names, Parts, ProducerField, TableType, read_names,
+    read_producers,
+};
+use wasm_ops::{Body, FuncId, GlobalId, ImportId, Limits, MemoryId, TableId, TagId, TypeId};
 
-/// The type of a function that is imported; other kinds aren't built.
-fn asked_type(ty: ImportType) -> TypeId
-    ensures { result ≡ asked_type ty }
-{
-    match ty {
-        ImportType::Func(id) => id,
-        _ => TypeId(0),
+/// The next places of items, by their kinds.
+#[derive(Clone, Copy, Debug)]
+struct Places {
+    funcs: u32,
+    tables: u32,
+    memories: u32,
+    globals: u32,
+    tags: u32,
+}
+
+impl Places {
+    /// The item that an import brings in, at the next place of its kind, which the next one doesn't get.
+    fn take(&mut self, ty: ImportType) -> Result<ImportKind, AllocError>
+        ensures { IfOk result (λ kind. (kind ≡ kind_at self.old ty) × (self.new ≡ after self.old ty)) }
+    {
+        match ty {
+            ImportType::Func(_) => Ok(ImportKind::Func(FuncId(take_next(&mut self.funcs)?))),
+            ImportType::Table(..) => Ok(ImportKind::Table(TableId(take_next(&mut self.tables)?))),
+            ImportType::Memory(_) => {
+                Ok(ImportKind::Memory(MemoryId(take_next(&mut self.memories)?)))
+            }
+            ImportType::Global(..) => {
+                Ok(ImportKind::Global(GlobalId(take_next(&mut self.globals)?)))
+            }
+            ImportType::Tag(_) => Ok(ImportKind::Tag(TagId(take_next(&mut self.tags)?))),
+        }
     }
 }
 
-/// The functions that imports bring in.
-#[tactic(auto, unfolding(crate::specs::Parsing::imported_from))]
-pub(crate) fn imported_funcs(
-    alloc: Global,
-    imports: &[FileImport],
-) -> Result<Vec<Option<Func>>, AllocError>
-    requires { length imports.now < 2 ^ 32 }
-    ensures { IfOk result (λ v. v.items ≡ imported_from 0 imports.now) }
+/// Imports, each of the next item of its kind.
+#[tactic(auto, unfolding(crate::specs::Parsing::imports_behind))]
+fn place_imports(alloc: Global, imports: Seq<FileImport>) -> Result<Vec<Option<Import>>, AllocError>
+    ensures { IfOk result (λ v. v.items ≡ imports_behind [] imports) }
 {
-    let mut funcs = Vec::new(alloc);
-    let mut place = 0;
-    for import in imports {
-        funcs.push(Some(Func {
-            ty: asked_type(import.ty),
-            name: None,
-            import: Some(ImportId(place)),
-            body: None,
-        }))?;
-        place += 1;
-    }
-    Ok(funcs)
-}
-
-/// Imports, each of the function at the same place.
-#[tactic(auto, unfolding(crate::specs::Parsing::imports_from))]
-pub(crate) fn place_imports(
-    alloc: Global,
-    imports: Seq<FileImport>,
-) -> Result<Vec<Option<Import>>, AllocError>
-    requires { length imports < 2 ^ 32 }
-    ensures { IfOk result (λ v. v.items ≡ imports_from 0 imports) }
-{
+    let mut places = Places {
+        funcs: 0,
+        tables: 0,
+        memories: 0,
+        globals: 0,
+        tags: 0,
+    };
     let mut placed = Vec::new(alloc);
-    let mut place = 0;
     for import in imports.into_vec() {
+        let kind = places.take(import.ty)?;
         placed.push(Some(Import {
             module: import.module,
             name: import.name,
-            kind: ImportKind::Func(FuncId(place)),
+            kind,
         }))?;
-        place += 1;
     }
     Ok(placed)
 }
 
-/// Entries, each at its place.
-pub(crate) fn place_all<T: Drop>(alloc: Global, items: Seq<T>) -> Result<Vec<Option<T>>, AllocError>
-    ensures { IfOk result (λ v. v.items ≡ map Some items) }
-{
-    let mut placed = Vec::new(alloc);
-    for item in items.into_vec() {
-        placed.push(Some(item))?;
+/// What an import can bring in.
+trait Imported: Sized + Drop {
+    ghost use Rattle.std.specs.Prelude.{Option, ◌≡◌};
+    ghost use Rattle.wasm_ops.specs.declared.ids.ImportId.{ImportId};
+    ghost use Rattle.wasm_file.specs.declared.entries.ImportType.{ImportType};
+
+    /// What an import of this type brings in, none where it asks for another kind.
+    ghost imported: { ImportId → ImportType → Option Self };
+
+    fn from_import(alloc: Global, import: ImportId, ty: ImportType) -> Option<Self>
+        ensures { result ≡ imported import ty };
+}
+
+impl Imported for Func {
+    ghost imported = { imported_func };
+
+    fn from_import(_alloc: Global, import: ImportId, ty: ImportType) -> Option<Func> {
+        match ty {
+            ImportType::Func(ty) => Some(Func {
+                ty,
+                name: None,
+                import: Some(import),
+                body: None,
+            }),
+            _ => None,
+        }
     }
-    Ok(placed)
+}
+
+impl Imported for Table {
+    ghost imported = { imported_table };
+
+    fn from_import(_alloc: Global, import: ImportId, ty: ImportType) -> Option<Table> {
+        match ty {
+            ImportType::Table(elem, limits) => Some(Table {
+                elem,
+                limits,
+                import: Some(import),
+            }),
+            _ => None,
+        }
+    }
+}
+
+impl Imported for Memory {
+    ghost imported = { imported_memory };
+
+    fn from_import(_alloc: Global, import: ImportId, ty: ImportType) -> Option<Memory> {
+        match ty {
+            ImportType::Memory(limits) => Some(Memory {
+                limits,
+                import: Some(import),
+            }),
+            _ => None,
+        }
+    }
+}
+
+impl Imported for GlobalVar {
+    ghost imported = { imported_global };
+
+    fn from_import(alloc: Global, import: ImportId, ty: ImportType) -> Option<GlobalVar> {
+        match ty {
+            ImportType::Global(ty, mutable) => Some(GlobalVar {
+                ty,
+                mutable,
+                import: Some(import),
+                init: Seq::new(alloc),
+            }),
+            _ => None,
+        }
+    }
+}
+
+impl Imported for Tag {
+    ghost imported = { imported_tag };
+
+    fn from_import(_alloc: Global, import: ImportId, ty: ImportType) -> Option<Tag> {
+        match ty {
+            ImportType::Tag(ty) => Some(Tag {
+                ty,
+                import: Some(import),
+            }),
+            _ => None,
+        }
+    }
+}
+
+/// What imports bring in of one kind.
+fn import_all<T: Imported>(
+    alloc: Global,
+    imports: &[FileImport],
+) -> Result<Vec<Option<T>>, AllocError>
+    requires { length imports.now < 2 ^ 32 }
+    ensures { IfOk result (λ v. v.items ≡ map Some (brought T.imported imports.now)) }
+{
+    let mut items = Vec::new(alloc);
+    for (place, import) in imports.iter().enumerate() {
+        if let Some(item) = T::from_import(alloc, ImportId(place as u32), import.ty) {
+            items.push(Some(item))?;
+        }
+    }
+    Ok(items)
+}
+
+/// What a file has of an entry that isn't imported.
+trait Own: Drop {
+    ghost use Rattle.std.specs.Prelude.{◌≡◌};
+
+    /// What a module has of it.
+    type Entry: Imported;
+
+    /// The entry.
+    ghost entry: { Self → Self.Entry };
+
+    fn into_entry(self) -> Self::Entry
+        ensures { result ≡ entry self };
+}
+
+impl Own for TableType {
+    type Entry = Table;
+
+    ghost entry = { table_of };
+
+    fn into_entry(self) -> Table {
+        Table {
+            elem: self.elem,
+            limits: self.limits,
+            import: None,
+        }
+    }
+}
+
+impl Own for Limits {
+    type Entry = Memory;
+
+    ghost entry = { memory_of };
+
+    fn into_entry(self) -> Memory {
+        Memory {
+            limits: self,
+            import: None,
+        }
+    }
+}
+
+impl Own for FileGlobal {
+    type Entry = GlobalVar;
+
+    ghost entry = { global_of };
+
+    fn into_entry(self) -> GlobalVar {
+        let FileGlobal { ty, mutable, init } = self;
+        GlobalVar {
+            ty,
+            mutable,
+            import: None,
+            init,
+        }
+    }
+}
+
+impl Own for TypeId {
+    type Entry = Tag;
+
+    ghost entry = { tag_of };
+
+    fn into_entry(self) -> Tag {
+        Tag {
+            ty: self,
+            import: None,
+        }
+    }
+}
+
+/// All entries of a kind: the imported ones, and then the others.
+fn with_own<T: Own>(
+    alloc: Global,
+    imports: &[FileImport],
+    own: Seq<T>,
+) -> Result<Vec<Option<T::Entry>>, AllocError>
+    requires { length imports.now < 2 ^ 32 }
+    ensures { IfOk result (λ v. v.items ≡ joined (brought T.Entry.imported imports.now) (map T.entry own)) }
+{
+    let mut items = import_all(alloc, imports)?;
+    for item in own.into_vec() {
+        items.push(Some(item.into_entry()))?;
+    }
+    Ok(items)
 }
 
 /// Adds functions with their bodies.
-#[tactic(auto, unfolding(crate::specs::Parsing::joined))]
-pub(crate) fn join_bodies(
+#[tactic(auto, unfolding(crate::specs::Parsing::own_funcs))]
+fn join_bodies(
     funcs: &mut Vec<Option<Func>>,
     types: &[TypeId],
     bodies: Seq<Body>,
 ) -> Result<(), AllocError>
     requires { length types.now ≡ length bodies }
-    ensures { OnOk result (funcs.new.items ≡ funcs.old.items ++ joined types.now bodies) }
+    ensures { OnOk result (funcs.new.items ≡ funcs.old.items ++ map Some (own_funcs types.now bodies)) }
 {
     let mut place = 0;
     for body in bodies.into_vec() {
@@ -95,4 +281,193 @@ pub(crate) fn join_bodies(
         place += 1;
     }
     Ok(())
+}
+
+/// Entries, each at its place.
+fn place_all<T: Drop>(alloc: Global, items: Seq<T>) -> Result<Vec<Option<T>>, AllocError>
+    ensures { IfOk result (λ v. v.items ≡ map Some items) }
+{
+    let mut placed = Vec::new(alloc);
+    for item in items.into_vec() {
+        placed.push(Some(item))?;
+    }
+    Ok(placed)
+}
+
+/// The names that a custom section gives, none where it is another than a name section, or doesn't read.
+fn names_in(alloc: Global, custom: &Custom, funcs: u32) -> Result<Option<Names>, AllocError>
+    ensures { IfOk result (λ names. names ≡ names_in funcs custom.now) }
+{
+    if custom.name.as_str() == "name" {
+        read_names(alloc, custom.bytes.as_slice(), funcs)
+    } else {
+        Ok(None)
+    }
+}
+
+/// Adds the names of another section.
+fn merge(names: &mut Names, more: Names) -> Result<(), AllocError>
+    ensures { OnOk result (names.new ≡ merged names.old more) }
+{
+    let Names { module, funcs } = more;
+    if module.is_some() {
+        names.module = module;
+    }
+    names.funcs.append(funcs)
+}
+
+/// The names that all name sections give.
+#[tactic(auto, unfolding(crate::specs::Parsing::all_names))]
+fn all_names(alloc: Global, customs: &[Custom], funcs: u32) -> Result<Names, AllocError>
+    ensures { IfOk result (λ names. names ≡ all_names funcs customs.now) }
+{
+    let mut names = Names {
+        module: None,
+        funcs: Seq::new(alloc),
+    };
+    for custom in customs {
+        if let Some(more) = names_in(alloc, custom, funcs)? {
+            merge(&mut names, more)?;
+        }
+    }
+    Ok(names)
+}
+
+/// Gives the function at a place a name, where there is one.
+fn give_name(funcs: &mut Vec<Option<Func>>, func: FuncId, name: Text)
+    ensures { funcs.new.items ≡ name_given funcs.old.items (func, name) }
+{
+    let place = func.0 as usize;
+    if place < funcs.len() {
+        if let Some(func) = &mut funcs[place] {
+            func.name = Some(name);
+        }
+    }
+}
+
+/// Gives functions their names. Of several the last one counts.
+fn give_names(funcs: &mut Vec<Option<Func>>, names: Seq<(FuncId, Text)>)
+    ensures { funcs.new.items ≡ with_names names funcs.old.items }
+{
+    for (func, name) in names.into_vec() {
+        give_name(funcs, func, name);
+    }
+}
+
+/// The fields of a producers section, none where a custom section is another one, or doesn't read.
+fn producers_in(alloc: Global, custom: &Custom) -> Result<Option<Seq<ProducerField>>, AllocError>
+    ensures { IfOk result (λ fields. fields ≡ producers_in custom.now) }
+{
+    if custom.name.as_str() == "producers" {
+        read_producers(alloc, custom.bytes.as_slice())
+    } else {
+        Ok(None)
+    }
+}
+
+/// The fields of all producers sections.
+#[tactic(auto, unfolding(crate::specs::Parsing::all_producers))]
+fn all_producers(alloc: Global, customs: &[Custom]) -> Result<Seq<ProducerField>, AllocError>
+    ensures { IfOk result (λ fields. fields ≡ all_producers customs.now) }
+{
+    let mut fields = Seq::new(alloc);
+    for custom in customs {
+        if let Some(more) = producers_in(alloc, custom)? {
+            fields.append(more)?;
+        }
+    }
+    Ok(fields)
+}
+
+/// Whether a custom section stays as it is.
+fn is_kept(custom: &Custom, keep_debug: bool) -> bool
+    ensures { result ≡ is_kept keep_debug custom.now }
+{
+    let name = custom.name.as_str();
+    name != "name"
+        && name != "producers"
+        && (keep_debug || !name.as_bytes().starts_with(b".debug_"))
+}
+
+/// Drops the custom sections that don't stay.
+fn drop_read(customs: &mut Vec<Custom>, keep_debug: bool)
+    ensures { customs.new.items ≡ filter (is_kept keep_debug) customs.old.items }
+{
+    customs.retain(|custom| is_kept(custom, keep_debug));
+}
+
+/// All functions, without names.
+fn all_funcs(
+    alloc: Global,
+    imports: &[FileImport],
+    types: &[TypeId],
+    bodies: Seq<Body>,
+) -> Result<Vec<Option<Func>>, AllocError>
+    requires few { length imports.now < 2 ^ 32 }
+    requires paired { length types.now ≡ length bodies }
+    ensures value { IfOk result (λ v. v.items ≡ joined (brought imported_func imports.now) (own_funcs types.now bodies)) }
+    ensures few { IfOk result (λ v. length v.items ≤ length imports.now + length types.now) }
+{
+    let mut funcs = import_all(alloc, imports)?;
+    join_bodies(&mut funcs, types, bodies)?;
+    Ok(funcs)
+}
+
+impl Module {
+    /// The module of a file's lists.
+    #[tactic(auto, unfolding(crate::specs::Parsing::assembled))]
+    pub(crate) fn assemble(
+        alloc: Global,
+        parts: Parts,
+        config: ParseConfig,
+    ) -> Result<Module, AllocError>
+        requires few { AreFew parts }
+        requires paired { length parts.functions ≡ length parts.bodies }
+        ensures { IfOk result (λ m. m ≡ assembled config parts) }
+    {
+        let Parts {
+            types,
+            imports,
+            functions,
+            tables,
+            memories,
+            tags,
+            globals,
+            exports,
+            start,
+            elems,
+            data_count: _,
+            bodies,
+            segments,
+            customs,
+        } = parts;
+        let list = imports.as_slice();
+        let mut funcs = all_funcs(alloc, list, functions.as_slice(), bodies)?;
+        let mut customs = customs.into_vec();
+        let names = all_names(alloc, &customs, funcs.len() as u32)?;
+        let producers = all_producers(alloc, &customs)?;
+        let Names {
+            module: name,
+            funcs: names,
+        } = names;
+        give_names(&mut funcs, names);
+        drop_read(&mut customs, config.keep_debug);
+        Ok(Module {
+            types: place_all(alloc, types)?,
+            funcs,
+            tables: with_own(alloc, list, tables)?,
+            memories: with_own(alloc, list, memories)?,
+            globals: with_own(alloc, list, globals)?,
+            tags: with_own(alloc, list, tags)?,
+            exports: place_all(alloc, exports)?,
+            elems: place_all(alloc, elems)?,
+            segments: place_all(alloc, segments)?,
+            imports: place_imports(alloc, imports)?,
+            customs,
+            start,
+            name,
+            producers: producers.into_vec(),
+            config,
+        })
+    }
 }

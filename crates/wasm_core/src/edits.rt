@@ -1,15 +1,17 @@
 //! Editing a module.
 
-ghost use Rattle.std.specs.Prelude.{◌≡◌, not, map, IfOk, OnOk, OnErr};
-ghost use Rattle.std.specs.List.{list_any, filter};
+ghost use Rattle.std.specs.Prelude.{◌≡◌, not, length, IfOk, OnOk, OnErr};
+ghost use Rattle.std.specs.List.{list_any, filter, find};
+ghost use Rattle.std.specs.Option.{option_copied};
 ghost use Rattle.wasm_core.specs.Contents.{IsLive};
-ghost use Rattle.wasm_core.specs.Edits.{updated, updated_field, new_field, is_same_text, with_version, with_field, with_processed_by, is_named, without_custom, with_import};
+ghost use Rattle.wasm_core.specs.Edits.{IsLiveItem, IsImportedTag, is_named, without_custom, with_import, with_export, without_export, with_func_name, without_start, localized, told_feature};
 
 use crate::module::Module;
-use crate::types::{ProducerField, ProducerValue};
+use crate::types::ImportKind;
 use std::alloc::{AllocError, Global};
-use values::{Duplicate, Seq, Text};
-use wasm_file::{Custom, ImportId};
+use values::Text;
+use wasm_file::{Custom, Export, ExportItem, lists_feature};
+use wasm_ops::{ExportId, FuncId, ImportId};
 
 impl Module {
     /// Gives an import this module and name. Without memory nothing is changed.
@@ -34,6 +36,97 @@ impl Module {
         Ok(())
     }
 
+    /// Adds an export, the last one. Without memory, or where 4,294,967,295 places are taken, nothing is changed.
+    #[tactic(auto, unfolding(crate::specs::Edits::with_export))]
+    pub fn add_export(
+        &mut self,
+        alloc: Global,
+        name: &str,
+        item: ExportItem,
+    ) -> Result<ExportId, AllocError>
+        requires { IsLiveItem self.old item }
+        ensures place { IfOk result (λ id. id.0 ≡ length self.old.exports) }
+        ensures ok { OnOk result (self.new ≡ with_export name.now item self.old) }
+        ensures err { OnErr result (self.new ≡ self.old) }
+    {
+        let place = self.exports.len();
+        if place >= u32::MAX as usize {
+            return Err(AllocError);
+        }
+        let name = Text::from_str(alloc, name)?;
+        self.exports.push(Some(Export { name, item }))?;
+        Ok(ExportId(place as u32))
+    }
+
+    /// Drops an export. Its place stays empty.
+    #[tactic(auto, unfolding(crate::specs::Edits::without_export))]
+    pub fn delete_export(&mut self, id: ExportId)
+        requires { IsLive self.old.exports id.0 }
+        ensures { self.new ≡ without_export id.0 self.old }
+    {
+        self.exports[id.0 as usize] = None;
+    }
+
+    /// Gives a function this name. Without memory nothing is changed.
+    #[tactic(auto, unfolding(crate::specs::Edits::with_func_name))]
+    pub fn set_func_name(&mut self, alloc: Global, id: FuncId, name: &str) -> Result<(), AllocError>
+        requires { IsLive self.old.funcs id.0 }
+        ensures ok { OnOk result (self.new ≡ with_func_name id.0 name.now self.old) }
+        ensures err { OnErr result (self.new ≡ self.old) }
+    {
+        let name = Text::from_str(alloc, name)?;
+        if let Some(func) = &mut self.funcs[id.0 as usize] {
+            func.name = Some(name);
+        }
+        Ok(())
+    }
+
+    /// Takes the start function, and leaves none (WebAssembly core specification, 2.5.9).
+    #[tactic(auto, unfolding(crate::specs::Edits::without_start))]
+    pub fn take_start(&mut self) -> Option<FuncId>
+        ensures answer { result ≡ self.old.start }
+        ensures taken { self.new ≡ without_start self.old }
+    {
+        self.start.take()
+    }
+
+    /// Drops the import of a tag. The tag stays in its place, without an import.
+    #[tactic(auto, unfolding(crate::specs::Edits::localized))]
+    pub fn localize_tag(&mut self, id: ImportId)
+        requires { IsImportedTag self.old id.0 }
+        ensures { self.new ≡ localized id.0 self.old }
+    {
+        if let Some(import) = &self.imports[id.0 as usize]
+            && let ImportKind::Tag(tag) = import.kind
+        {
+            if let Some(tag) = &mut self.tags[tag.0 as usize] {
+                tag.import = None;
+            }
+            self.imports[id.0 as usize] = None;
+        }
+    }
+
+    /// Whether the module may use a feature: none where it has no custom section `target_features`, else whether the
+    /// first one lists the feature with `+` (WebAssembly tool conventions, target features section).
+    pub fn target_feature(&self, name: &str) -> Option<bool>
+        ensures { result ≡ told_feature name.now self.now.customs }
+    {
+        match find_custom(&self.customs, "target_features") {
+            Some(custom) => Some(lists_feature(custom.bytes.as_slice(), name)),
+            None => None,
+        }
+    }
+
+    /// The name of the module in its name section, where it has one.
+    pub fn name(&self) -> Option<&str>
+        ensures { option_copied result ≡ self.now.name }
+    {
+        match &self.name {
+            Some(name) => Some(name.as_str()),
+            None => None,
+        }
+    }
+
     /// Removes every custom section of this name. It is true exactly where one stood.
     #[tactic(auto, unfolding(crate::specs::Edits::without_custom))]
     pub fn remove_custom(&mut self, name: &str) -> bool
@@ -47,22 +140,18 @@ impl Module {
         drop_named(&mut self.customs, name);
         stood
     }
+}
 
-    /// Adds a tool to the field `processed-by` of the producers section, or gives an entry of that name the version.
-    /// Without memory nothing is changed.
-    #[tactic(auto, unfolding(crate::specs::Edits::with_processed_by))]
-    pub fn add_processed_by(
-        &mut self,
-        alloc: Global,
-        name: &str,
-        version: &str,
-    ) -> Result<(), AllocError>
-        ensures ok { OnOk result (self.new ≡ with_processed_by name.now version.now self.old) }
-        ensures err { OnErr result (self.new ≡ self.old) }
-    {
-        self.producers = set_field(alloc, &self.producers, "processed-by", name, version)?;
-        Ok(())
+/// The first section of this name, where there is one.
+fn find_custom<'a>(customs: &'a [Custom], name: &str) -> Option<&'a Custom>
+    ensures { option_copied result ≡ find (is_named name.now) customs.now }
+{
+    for custom in customs {
+        if custom.name.as_str() == name {
+            return Some(custom);
+        }
     }
+    None
 }
 
 /// Drops the sections of this name.
@@ -70,172 +159,4 @@ fn drop_named(customs: &mut Vec<Custom>, name: &str)
     ensures { customs.new.items ≡ filter (λ c. not (is_named name.now c)) customs.old.items }
 {
     customs.retain(|custom| custom.name.as_str() != name);
-}
-
-/// A tool with its version.
-fn new_value(alloc: Global, name: &str, version: &str) -> Result<ProducerValue, AllocError>
-    ensures { IfOk result (λ v. v ≡ record { name = name.now; version = version.now }) }
-{
-    Ok(ProducerValue {
-        name: Text::from_str(alloc, name)?,
-        version: Text::from_str(alloc, version)?,
-    })
-}
-
-/// A copy, which has the version where it has the name.
-fn updated(
-    alloc: Global,
-    value: &ProducerValue,
-    name: &str,
-    version: &str,
-) -> Result<ProducerValue, AllocError>
-    ensures { IfOk result (λ v. v ≡ updated name.now version.now value.now) }
-{
-    let version = if value.name.as_str() == name {
-        version
-    } else {
-        value.version.as_str()
-    };
-    new_value(alloc, value.name.as_str(), version)
-}
-
-/// Copies, of which those of the name have the version.
-fn update_values(
-    alloc: Global,
-    values: &[ProducerValue],
-    name: &str,
-    version: &str,
-) -> Result<Seq<ProducerValue>, AllocError>
-    ensures { IfOk result (λ xs. xs ≡ map (updated name.now version.now) values.now) }
-{
-    let mut copies = Seq::new(alloc);
-    for value in values {
-        copies.push(updated(alloc, value, name, version)?)?;
-    }
-    Ok(copies)
-}
-
-/// Whether an entry has this name.
-fn has_value(values: &[ProducerValue], name: &str) -> bool
-    ensures { result ≡ list_any (λ v. is_same_text v.name name.now) values.now }
-{
-    for value in values {
-        if value.name.as_str() == name {
-            return true;
-        }
-    }
-    false
-}
-
-/// Copies, of which one of the name has the version; without one it is added last.
-#[tactic(auto, unfolding(crate::specs::Edits::with_version))]
-fn set_version(
-    alloc: Global,
-    values: &[ProducerValue],
-    name: &str,
-    version: &str,
-) -> Result<Seq<ProducerValue>, AllocError>
-    ensures { IfOk result (λ xs. xs ≡ with_version name.now version.now values.now) }
-{
-    let mut copies = update_values(alloc, values, name, version)?;
-    if !has_value(values, name) {
-        copies.push(new_value(alloc, name, version)?)?;
-    }
-    Ok(copies)
-}
-
-/// A copy, which has the entry where it is the field.
-fn update_field(
-    alloc: Global,
-    field: &ProducerField,
-    wanted: &str,
-    name: &str,
-    version: &str,
-) -> Result<ProducerField, AllocError>
-    ensures { IfOk result (λ f. f ≡ updated_field wanted.now name.now version.now field.now) }
-{
-    let values = if field.name.as_str() == wanted {
-        set_version(alloc, field.values.as_slice(), name, version)?
-    } else {
-        copy_values(alloc, field.values.as_slice())?
-    };
-    Ok(ProducerField {
-        name: field.name.copy(alloc)?,
-        values,
-    })
-}
-
-/// Copies.
-fn copy_values(alloc: Global, values: &[ProducerValue]) -> Result<Seq<ProducerValue>, AllocError>
-    ensures { IfOk result (λ xs. xs ≡ values.now) }
-{
-    let mut copies = Seq::new(alloc);
-    for value in values {
-        copies.push(new_value(alloc, value.name.as_str(), value.version.as_str())?)?;
-    }
-    Ok(copies)
-}
-
-/// Copies, of which the field has the entry.
-fn update_fields(
-    alloc: Global,
-    fields: &[ProducerField],
-    wanted: &str,
-    name: &str,
-    version: &str,
-) -> Result<Vec<ProducerField>, AllocError>
-    ensures { IfOk result (λ v. v.items ≡ map (updated_field wanted.now name.now version.now) fields.now) }
-{
-    let mut copies = Vec::new(alloc);
-    for field in fields {
-        copies.push(update_field(alloc, field, wanted, name, version)?)?;
-    }
-    Ok(copies)
-}
-
-/// Whether the field is there.
-fn has_field(fields: &[ProducerField], wanted: &str) -> bool
-    ensures { result ≡ list_any (λ f. is_same_text f.name wanted.now) fields.now }
-{
-    for field in fields {
-        if field.name.as_str() == wanted {
-            return true;
-        }
-    }
-    false
-}
-
-/// The field with this entry alone.
-fn new_field(
-    alloc: Global,
-    field: &str,
-    name: &str,
-    version: &str,
-) -> Result<ProducerField, AllocError>
-    ensures { IfOk result (λ f. f ≡ new_field field.now name.now version.now) }
-{
-    let mut values = Seq::new(alloc);
-    values.push(new_value(alloc, name, version)?)?;
-    Ok(ProducerField {
-        name: Text::from_str(alloc, field)?,
-        values,
-    })
-}
-
-/// Copies, of which the field has the entry; without the field it is added last.
-#[tactic(auto, unfolding(crate::specs::Edits::with_field))]
-fn set_field(
-    alloc: Global,
-    fields: &[ProducerField],
-    field: &str,
-    name: &str,
-    version: &str,
-) -> Result<Vec<ProducerField>, AllocError>
-    ensures { IfOk result (λ v. v.items ≡ with_field field.now name.now version.now fields.now) }
-{
-    let mut copies = update_fields(alloc, fields, field, name, version)?;
-    if !has_field(fields, field) {
-        copies.push(new_field(alloc, field, name, version)?)?;
-    }
-    Ok(copies)
 }

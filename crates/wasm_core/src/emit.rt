@@ -1,18 +1,23 @@
 //! Writing a module.
 
-ghost use Rattle.std.specs.Prelude.{◌≡◌, ◌++◌, ◌≤◌, ◌<◌, ℕ, List, Option, length, map, Err, Some, None, is_some, IfOk, OnOk};
-ghost use Rattle.std.specs.List.{flat_map, filter};
-ghost use Rattle.wasm_file.specs.Spelling.{func_type_bytes, import_bytes, export_bytes, section_bytes};
-ghost use Rattle.wasm_core.specs.Emission.{live, file_import, file_import_at, file_imports, import_type_in, own_at, is_own, own_funcs, own_type_bytes, own_code_bytes, some_bytes, counted_section, list_section, value_bytes, field_bytes, producers_section, list_sections, custom_section, section_contents, bytes_of, first_too_large, too_large, longest_content};
+ghost use Rattle.std.specs.Prelude.{◌≡◌, ◌++◌, ◌≤◌, ◌<◌, ℕ, length, map, count_by, Err, Some, None, is_some, IfOk, OnOk};
+ghost use Rattle.std.specs.List.{flat_map, filter_map};
+ghost use Rattle.wasm_file.specs.Spelling.{section_bytes, counted_section, list_section, start_section, data_count_section, custom_section, first_sections, middle_sections, last_sections, part_sections};
+ghost use Rattle.wasm_core.specs.Emission.{live, filed_at, some_bytes, file_start, file_names, file_customs, producer_customs, some_count, filed_by, section_contents, bytes_of, first_too_large, too_large};
 ghost use Rattle.wasm_core.specs.declared.faults.EmitFault.TheVariants as refusals;
 
 use crate::faults::EmitFault;
+use crate::lists::{
+    Bodies, Elems, Exports, FileList, Functions, Globals, Imports, Memories, Plan, Segments,
+    Tables, Tags, Types,
+};
 use crate::module::Module;
-use crate::types::{Func, Import, ImportKind, ProducerField, ProducerValue};
+use crate::names::push_names;
 use std::alloc::{AllocError, Global};
 use values::Seq;
-use wasm_bytes::{Spell, push_number, write_list, write_name};
-use wasm_file::{ImportType, TypeId, write_code, write_custom, write_section};
+use wasm_bytes::{push_number, push_u32, write_list, write_name};
+use wasm_file::{Custom, Segment, write_custom, write_section};
+use wasm_ops::number_at;
 
 /// The eight bytes at the head of a module.
 const PREAMBLE: [u8; 8] = [0x00, 0x61, 0x73, 0x6D, 0x01, 0x00, 0x00, 0x00];
@@ -21,11 +26,13 @@ const PREAMBLE: [u8; 8] = [0x00, 0x61, 0x73, 0x6D, 0x01, 0x00, 0x00, 0x00];
 const LONGEST_CONTENT: usize = 4_294_967_295;
 
 /// Ids and contents of sections.
-type Contents = Seq<(u8, Seq<u8>)>;
+pub(crate) type Sections = Seq<(u8, Seq<u8>)>;
 
 impl Module {
-    /// The bytes of the module (WebAssembly core specification, 5.5): each section that has entries, then the producers section,
-    /// where it is wanted and not empty, then the other custom sections in order. Every number has its shortest form.
+    /// The bytes of the module (WebAssembly core specification, 5.5): a section for each list that has live entries, a
+    /// data count where there are data segments, then the name section and the producers section, where they are wanted
+    /// and not empty, then the other custom sections in order. Entries are numbered anew: live ones in the order of
+    /// their ids, imported ones first. Numbers have their shortest form, and flags are the least that fit.
     ///
     /// `TooLarge` where the content of a section has more than 4,294,967,295 bytes, with the id of the first such section.
     #[tactic(auto, unfolding(crate::specs::Emission::bytes_of, crate::specs::Emission::too_large))]
@@ -36,70 +43,165 @@ impl Module {
         let contents = self.section_contents(alloc)?;
         let mut out = Vec::new(alloc);
         out.extend_from_slice(&PREAMBLE)?;
-        emit_sections(&mut out, contents.as_slice())?;
+        emit_sections(&mut out, LONGEST_CONTENT, contents.as_slice())?;
         Ok(out)
     }
-}
 
-impl Module {
     /// The id and the content of each section, in the order in which they are written.
     #[tactic(auto, unfolding(crate::specs::Emission::section_contents))]
-    fn section_contents(&self, alloc: Global) -> Result<Contents, AllocError>
+    fn section_contents(&self, alloc: Global) -> Result<Sections, AllocError>
         ensures { IfOk result (λ xs. xs ≡ section_contents self.now) }
     {
+        let numbers = self.numbering(alloc)?;
+        let plan = Plan {
+            module: self,
+            numbers: &numbers,
+            alloc,
+        };
         let mut out = Seq::new(alloc);
-        self.push_lists(alloc, &mut out)?;
-        push_producers(alloc, self.config().producers, &self.producers, &mut out)?;
-        self.push_customs(alloc, &mut out)?;
+        plan.push_parts(&mut out)?;
         Ok(out)
     }
+}
 
-    /// The sections of the lists.
-    #[tactic(auto, unfolding(crate::specs::Emission::list_sections))]
-    fn push_lists(&self, alloc: Global, out: &mut Contents) -> Result<(), AllocError>
-        ensures { OnOk result (out.new ≡ out.old ++ list_sections self.now) }
+impl<'a> Plan<'a> {
+    /// All sections.
+    #[tactic(auto, unfolding(wasm_file::specs::Spelling::part_sections, crate::specs::Emission::filed_by))]
+    fn push_parts(&self, out: &mut Sections) -> Result<(), AllocError>
+        ensures { OnOk result (out.new ≡ out.old ++ part_sections (filed_by self.now.numbers.now self.now.module.now)) }
     {
-        push_live(alloc, 1, &self.types, out)?;
-        push_imports(alloc, &self.imports, &self.funcs, out)?;
-        push_own_types(alloc, &self.funcs, out)?;
-        push_live(alloc, 7, &self.exports, out)?;
-        push_own_codes(alloc, &self.funcs, out)
+        self.push_first(out)?;
+        self.push_middle(out)?;
+        self.push_last(out)?;
+        self.push_customs(out)
     }
 
-    /// The other custom sections.
-    fn push_customs(&self, alloc: Global, out: &mut Contents) -> Result<(), AllocError>
-        ensures { OnOk result (out.new ≡ out.old ++ map custom_section self.now.customs) }
+    /// The sections of types, imports, functions and tables.
+    #[tactic(auto, unfolding(wasm_file::specs::Spelling::first_sections, crate::specs::Emission::filed_by))]
+    fn push_first(&self, out: &mut Sections) -> Result<(), AllocError>
+        ensures { OnOk result (out.new ≡ out.old ++ first_sections (filed_by self.now.numbers.now self.now.module.now)) }
     {
-        for custom in &self.customs {
-            let mut bytes = Vec::new(alloc);
-            write_custom(&mut bytes, custom)?;
-            out.push((0, Seq::from_vec(bytes)))?;
-        }
+        let module = self.module;
+        self.push_list::<Types>(1, module.types(), out)?;
+        self.push_list::<Imports>(2, module.imports(), out)?;
+        self.push_list::<Functions>(3, module.funcs(), out)?;
+        self.push_list::<Tables>(4, module.tables(), out)?;
         Ok(())
     }
+
+    /// The sections of memories, tags, globals and exports.
+    #[tactic(auto, unfolding(wasm_file::specs::Spelling::middle_sections, crate::specs::Emission::filed_by))]
+    fn push_middle(&self, out: &mut Sections) -> Result<(), AllocError>
+        ensures { OnOk result (out.new ≡ out.old ++ middle_sections (filed_by self.now.numbers.now self.now.module.now)) }
+    {
+        let module = self.module;
+        self.push_list::<Memories>(5, module.memories(), out)?;
+        self.push_list::<Tags>(13, module.tags(), out)?;
+        self.push_list::<Globals>(6, module.globals(), out)?;
+        self.push_list::<Exports>(7, module.exports(), out)?;
+        Ok(())
+    }
+
+    /// The sections of the start function, element segments, the number of data segments, bodies and data segments.
+    #[tactic(auto, unfolding(wasm_file::specs::Spelling::last_sections, crate::specs::Emission::filed_by))]
+    fn push_last(&self, out: &mut Sections) -> Result<(), AllocError>
+        ensures { OnOk result (out.new ≡ out.old ++ last_sections (filed_by self.now.numbers.now self.now.module.now)) }
+    {
+        let module = self.module;
+        self.push_start(out)?;
+        self.push_list::<Elems>(9, module.elems(), out)?;
+        push_data_count(self.alloc, module.segments(), out)?;
+        self.push_list::<Bodies>(10, module.funcs(), out)?;
+        self.push_list::<Segments>(11, module.segments(), out)?;
+        Ok(())
+    }
+
+    /// The custom sections: that of names, that of producers, and the others.
+    #[tactic(auto, unfolding(crate::specs::Emission::file_customs))]
+    fn push_customs(&self, out: &mut Sections) -> Result<(), AllocError>
+        ensures { OnOk result (out.new ≡ out.old ++ map custom_section (file_customs self.now.numbers.now self.now.module.now)) }
+    {
+        push_names(self, out)?;
+        self.push_producers(out)?;
+        push_others(self.alloc, self.module.customs(), out)
+    }
+
+    /// A section of what stands in the file for the items that are there, none where nothing does.
+    #[tactic(auto, unfolding(wasm_file::specs::Spelling::list_section))]
+    fn push_list<L: FileList>(
+        &self,
+        id: u8,
+        items: &[Option<L::Item>],
+        out: &mut Sections,
+    ) -> Result<(), AllocError>
+        ensures { OnOk result (out.new ≡ out.old ++ list_section id L.spelled (filter_map (L.filed self.now.module.now self.now.numbers.now) (live items.now))) }
+    {
+        let mut bytes = Vec::new(self.alloc);
+        let count = write_items::<L>(items, self, &mut bytes)?;
+        push_counted(self.alloc, id, count, &bytes, out)
+    }
+
+    /// The section of the start function, none without one.
+    #[tactic(auto, unfolding(wasm_file::specs::Spelling::func_id_bytes))]
+    fn push_start(&self, out: &mut Sections) -> Result<(), AllocError>
+        ensures { OnOk result (out.new ≡ out.old ++ start_section (file_start self.now.numbers.now self.now.module.now.start)) }
+    {
+        let module = self.module;
+        match module.start() {
+            Some(func) => {
+                let mut bytes = Vec::new(self.alloc);
+                push_u32(&mut bytes, number_at(&self.numbers.funcs, func.0))?;
+                out.push((8, Seq::from_vec(bytes)))
+            }
+            None => Ok(()),
+        }
+    }
+
+    /// The producers section, where it is wanted and there is a field.
+    #[tactic(auto, unfolding(crate::specs::Emission::producer_customs, wasm_file::specs::Spelling::custom_bytes))]
+    fn push_producers(&self, out: &mut Sections) -> Result<(), AllocError>
+        ensures { OnOk result (out.new ≡ out.old ++ map custom_section (producer_customs self.now.module.now)) }
+    {
+        let module = self.module;
+        if !module.config.producers || module.producers.len() == 0 {
+            return Ok(());
+        }
+        let mut bytes = Vec::new(self.alloc);
+        write_name(&mut bytes, "producers")?;
+        write_list(&module.producers, &mut bytes)?;
+        out.push((0, Seq::from_vec(bytes)))
+    }
 }
 
-/// Appends a section. `TooLarge` where its content is too long.
-fn emit_section(out: &mut Vec<u8>, id: u8, content: &[u8]) -> Result<(), EmitFault>
-    ensures ok { OnOk result ((out.new.items ≡ out.old.items ++ section_bytes (id, content.now)) × (length content.now ≤ longest_content)) }
-    ensures err { (s : ℕ) → result ≡ Err (refusals.TooLarge s) → (s ≡ id) × (longest_content < length content.now) }
+/// Appends the bytes of what stands in the file for an item, and tells whether something does.
+fn write_item<L: FileList>(
+    item: &Option<L::Item>,
+    plan: &Plan<'_>,
+    out: &mut Vec<u8>,
+) -> Result<bool, AllocError>
+    ensures { IfOk result (λ stands. (stands ≡ is_some (filed_at (L.filed plan.now.module.now plan.now.numbers.now) item.now)) × (out.new.items ≡ out.old.items ++ some_bytes L.spelled (filed_at (L.filed plan.now.module.now plan.now.numbers.now) item.now))) }
 {
-    if content.len() > LONGEST_CONTENT {
-        return Err(EmitFault::TooLarge { section: id });
+    match item {
+        Some(item) => L::write(item, plan, out),
+        None => Ok(false),
     }
-    write_section(out, id, content)?;
-    Ok(())
 }
 
-/// Appends sections up to the first that is too long.
-fn emit_sections(out: &mut Vec<u8>, sections: &[(u8, Seq<u8>)]) -> Result<(), EmitFault>
-    ensures ok { OnOk result ((out.new.items ≡ out.old.items ++ flat_map section_bytes sections.now) × (first_too_large sections.now ≡ None)) }
-    ensures err { (s : ℕ) → result ≡ Err (refusals.TooLarge s) → first_too_large sections.now ≡ Some s }
+/// Appends the bytes of what stands in the file for the items that are there, and counts it.
+fn write_items<L: FileList>(
+    items: &[Option<L::Item>],
+    plan: &Plan<'_>,
+    out: &mut Vec<u8>,
+) -> Result<usize, AllocError>
+    ensures { IfOk result (λ n. (n ≡ length (filter_map (L.filed plan.now.module.now plan.now.numbers.now) (live items.now))) × (out.new.items ≡ out.old.items ++ flat_map L.spelled (filter_map (L.filed plan.now.module.now plan.now.numbers.now) (live items.now)))) }
 {
-    for section in sections {
-        emit_section(out, section.0, section.1.as_slice())?;
+    let mut count = 0;
+    for item in items {
+        if write_item::<L>(item, plan, out)? {
+            count += 1;
+        }
     }
-    Ok(())
+    Ok(count)
 }
 
 /// A section of so many entries with these bytes, none without any.
@@ -108,7 +210,7 @@ fn push_counted(
     id: u8,
     count: usize,
     entries: &[u8],
-    out: &mut Contents,
+    out: &mut Sections,
 ) -> Result<(), AllocError>
     ensures { OnOk result (out.new ≡ out.old ++ counted_section id count entries.now) }
 {
@@ -121,266 +223,65 @@ fn push_counted(
     out.push((id, Seq::from_vec(bytes)))
 }
 
-/// The number of entries that are there.
+/// The number of items that are there.
 fn count_live<T>(items: &[Option<T>]) -> usize
-    ensures { result ≡ length (filter is_some items.now) }
+    ensures { result ≡ count_by is_some items.now }
 {
     items.iter().filter(|item| item.is_some()).count()
 }
 
-/// Appends the bytes of an entry, where there is one.
-fn write_some<T: Spell>(item: &Option<T>, out: &mut Vec<u8>) -> Result<(), AllocError>
-    ensures { OnOk result (out.new.items ≡ out.old.items ++ some_bytes T.spelled item.now) }
-{
-    match item {
-        Some(item) => item.write(out),
-        None => Ok(()),
-    }
-}
-
-/// Appends the bytes of the entries that are there.
-fn write_live<T: Spell>(items: &[Option<T>], out: &mut Vec<u8>) -> Result<(), AllocError>
-    ensures { OnOk result (out.new.items ≡ out.old.items ++ flat_map T.spelled (live items.now)) }
-{
-    for item in items {
-        write_some(item, out)?;
-    }
-    Ok(())
-}
-
-/// A section of the entries that are there, none without any.
-#[tactic(auto, using(crate::proofs::Lists::live_counted), unfolding(crate::specs::Emission::list_section))]
-fn push_live<T: Spell>(
+/// The section that tells the number of data segments, none without any.
+fn push_data_count(
     alloc: Global,
-    id: u8,
-    items: &[Option<T>],
-    out: &mut Contents,
+    segments: &[Option<Segment>],
+    out: &mut Sections,
 ) -> Result<(), AllocError>
-    ensures { OnOk result (out.new ≡ out.old ++ list_section id T.spelled (live items.now)) }
+    ensures { OnOk result (out.new ≡ out.old ++ data_count_section (some_count (count_by is_some segments.now))) }
 {
-    let mut bytes = Vec::new(alloc);
-    write_live(items, &mut bytes)?;
-    push_counted(alloc, id, count_live(items), &bytes, out)
-}
-
-/// What an import asks for; of the kinds only functions are built.
-fn import_type(funcs: &[Option<Func>], kind: ImportKind) -> ImportType
-    ensures { result ≡ import_type_in funcs.now kind }
-{
-    match kind {
-        ImportKind::Func(func) => match funcs.get(func.0 as usize) {
-            Some(Some(func)) => ImportType::Func(func.ty),
-            _ => ImportType::Func(TypeId(0)),
-        },
-        _ => ImportType::Func(TypeId(0)),
-    }
-}
-
-/// Appends the bytes of an import.
-#[tactic(auto, unfolding(wasm_file::specs::Spelling::import_bytes))]
-fn write_import(
-    import: &Import,
-    funcs: &[Option<Func>],
-    out: &mut Vec<u8>,
-) -> Result<(), AllocError>
-    ensures { OnOk result (out.new.items ≡ out.old.items ++ import_bytes (file_import funcs.now import.now)) }
-{
-    write_name(out, import.module.as_str())?;
-    write_name(out, import.name.as_str())?;
-    import_type(funcs, import.kind).write(out)
-}
-
-/// Appends the bytes of an import, where there is one.
-fn write_import_at(
-    import: &Option<Import>,
-    funcs: &[Option<Func>],
-    out: &mut Vec<u8>,
-) -> Result<(), AllocError>
-    ensures { OnOk result (out.new.items ≡ out.old.items ++ some_bytes import_bytes (file_import_at funcs.now import.now)) }
-{
-    match import {
-        Some(import) => write_import(import, funcs, out),
-        None => Ok(()),
-    }
-}
-
-/// Appends the bytes of the imports that are there.
-fn write_imports(
-    imports: &[Option<Import>],
-    funcs: &[Option<Func>],
-    out: &mut Vec<u8>,
-) -> Result<(), AllocError>
-    ensures { OnOk result (out.new.items ≡ out.old.items ++ flat_map import_bytes (file_imports funcs.now imports.now)) }
-{
-    for import in imports {
-        write_import_at(import, funcs, out)?;
-    }
-    Ok(())
-}
-
-/// The section of imports, none without any.
-fn push_imports(
-    alloc: Global,
-    imports: &[Option<Import>],
-    funcs: &[Option<Func>],
-    out: &mut Contents,
-) -> Result<(), AllocError>
-    ensures { OnOk result (out.new ≡ out.old ++ list_section 2 import_bytes (file_imports funcs.now imports.now)) }
-{
-    let mut bytes = Vec::new(alloc);
-    write_imports(imports, funcs, &mut bytes)?;
-    push_counted(alloc, 2, count_live(imports), &bytes, out)
-}
-
-/// What is counted where it passes a test.
-trait Counted {
-    ghost use Rattle.std.specs.Prelude.{Bool, ◌≡◌};
-
-    /// The test.
-    ghost test: { Self → Bool };
-
-    fn is_counted(&self) -> bool
-        ensures { result ≡ test self.now };
-}
-
-/// The number of entries that pass the test.
-fn count<T: Counted>(items: &[T]) -> usize
-    ensures { result ≡ length (filter T.test items.now) }
-{
-    items.iter().filter(|item| item.is_counted()).count()
-}
-
-/// A function is counted where it is there and has a body.
-impl Counted for Option<Func> {
-    ghost test = { is_own };
-
-    #[tactic(auto, unfolding(crate::specs::Emission::is_own))]
-    fn is_counted(&self) -> bool {
-        match self {
-            Some(func) => func.body.is_some(),
-            None => false,
-        }
-    }
-}
-
-/// Appends the type of a function that has a body.
-fn write_own_type(func: &Option<Func>, out: &mut Vec<u8>) -> Result<(), AllocError>
-    ensures { OnOk result (out.new.items ≡ out.old.items ++ some_bytes own_type_bytes (own_at func.now)) }
-{
-    match func {
-        Some(
-            Func {
-                ty,
-                body: Some(_),
-                ..
-            },
-        ) => ty.write(out),
-        _ => Ok(()),
-    }
-}
-
-/// Appends the types of the functions that have bodies.
-fn write_own_types(funcs: &[Option<Func>], out: &mut Vec<u8>) -> Result<(), AllocError>
-    ensures { OnOk result (out.new.items ≡ out.old.items ++ flat_map own_type_bytes (own_funcs funcs.now)) }
-{
-    for func in funcs {
-        write_own_type(func, out)?;
-    }
-    Ok(())
-}
-
-/// The section of the types of functions, none without any.
-#[tactic(auto, using(crate::proofs::Lists::own_counted), unfolding(crate::specs::Emission::list_section))]
-fn push_own_types(
-    alloc: Global,
-    funcs: &[Option<Func>],
-    out: &mut Contents,
-) -> Result<(), AllocError>
-    ensures { OnOk result (out.new ≡ out.old ++ list_section 3 own_type_bytes (own_funcs funcs.now)) }
-{
-    let mut bytes = Vec::new(alloc);
-    write_own_types(funcs, &mut bytes)?;
-    push_counted(alloc, 3, count(funcs), &bytes, out)
-}
-
-/// Appends the body of a function that has one.
-fn write_own_code(alloc: Global, func: &Option<Func>, out: &mut Vec<u8>) -> Result<(), AllocError>
-    ensures { OnOk result (out.new.items ≡ out.old.items ++ some_bytes own_code_bytes (own_at func.now)) }
-{
-    match func {
-        Some(
-            Func {
-                body: Some(body),
-                ..
-            },
-        ) => write_code(out, alloc, body),
-        _ => Ok(()),
-    }
-}
-
-/// Appends the bodies of the functions that have one.
-fn write_own_codes(
-    alloc: Global,
-    funcs: &[Option<Func>],
-    out: &mut Vec<u8>,
-) -> Result<(), AllocError>
-    ensures { OnOk result (out.new.items ≡ out.old.items ++ flat_map own_code_bytes (own_funcs funcs.now)) }
-{
-    for func in funcs {
-        write_own_code(alloc, func, out)?;
-    }
-    Ok(())
-}
-
-/// The section of bodies, none without any.
-#[tactic(auto, using(crate::proofs::Lists::own_counted), unfolding(crate::specs::Emission::list_section))]
-fn push_own_codes(
-    alloc: Global,
-    funcs: &[Option<Func>],
-    out: &mut Contents,
-) -> Result<(), AllocError>
-    ensures { OnOk result (out.new ≡ out.old ++ list_section 10 own_code_bytes (own_funcs funcs.now)) }
-{
-    let mut bytes = Vec::new(alloc);
-    write_own_codes(alloc, funcs, &mut bytes)?;
-    push_counted(alloc, 10, count(funcs), &bytes, out)
-}
-
-impl Spell for ProducerValue {
-    ghost spelled = { value_bytes };
-
-    #[tactic(auto, unfolding(crate::specs::Emission::value_bytes))]
-    fn write(&self, out: &mut Vec<u8>) -> Result<(), AllocError> {
-        write_name(out, self.name.as_str())?;
-        write_name(out, self.version.as_str())
-    }
-}
-
-impl Spell for ProducerField {
-    ghost spelled = { field_bytes };
-
-    #[tactic(auto, unfolding(crate::specs::Emission::field_bytes))]
-    fn write(&self, out: &mut Vec<u8>) -> Result<(), AllocError> {
-        write_name(out, self.name.as_str())?;
-        write_list(self.values.as_slice(), out)
-    }
-}
-
-/// The custom section of producers, none without any.
-#[tactic(auto, unfolding(crate::specs::Emission::producers_section))]
-fn push_producers(
-    alloc: Global,
-    wanted: bool,
-    fields: &[ProducerField],
-    out: &mut Contents,
-) -> Result<(), AllocError>
-    ensures { OnOk result (out.new ≡ out.old ++ producers_section wanted fields.now) }
-{
-    if !wanted || fields.len() == 0 {
+    let count = count_live(segments);
+    if count == 0 {
         return Ok(());
     }
     let mut bytes = Vec::new(alloc);
-    write_name(&mut bytes, "producers")?;
-    write_list(fields, &mut bytes)?;
-    out.push((0, Seq::from_vec(bytes)))
+    push_number(&mut bytes, count as u64)?;
+    out.push((12, Seq::from_vec(bytes)))
+}
+
+/// The other custom sections.
+fn push_others(alloc: Global, customs: &[Custom], out: &mut Sections) -> Result<(), AllocError>
+    ensures { OnOk result (out.new ≡ out.old ++ map custom_section customs.now) }
+{
+    for custom in customs {
+        let mut bytes = Vec::new(alloc);
+        write_custom(&mut bytes, custom)?;
+        out.push((0, Seq::from_vec(bytes)))?;
+    }
+    Ok(())
+}
+
+/// Appends a section. `TooLarge` where its content has more bytes than so many.
+fn emit_section(out: &mut Vec<u8>, longest: usize, id: u8, content: &[u8]) -> Result<(), EmitFault>
+    ensures ok { OnOk result ((out.new.items ≡ out.old.items ++ section_bytes (id, content.now)) × (length content.now ≤ longest)) }
+    ensures err { (s : ℕ) → result ≡ Err (refusals.TooLarge s) → (s ≡ id) × (longest < length content.now) }
+{
+    if content.len() > longest {
+        return Err(EmitFault::TooLarge { section: id });
+    }
+    write_section(out, id, content)?;
+    Ok(())
+}
+
+/// Appends sections up to the first whose content has more bytes than so many.
+pub(crate) fn emit_sections(
+    out: &mut Vec<u8>,
+    longest: usize,
+    sections: &[(u8, Seq<u8>)],
+) -> Result<(), EmitFault>
+    ensures ok { OnOk result ((out.new.items ≡ out.old.items ++ flat_map section_bytes sections.now) × (first_too_large longest sections.now ≡ None)) }
+    ensures err { (s : ℕ) → result ≡ Err (refusals.TooLarge s) → first_too_large longest sections.now ≡ Some s }
+{
+    for section in sections {
+        emit_section(out, longest, section.0, section.1.as_slice())?;
+    }
+    Ok(())
 }

@@ -13,8 +13,6 @@ use wasm_bytes::ReadFault;
 pub enum ParseFault {
     /// The bytes are no module: the place of the first fault, in bytes.
     Parse { place: u64 },
-    /// The module has what isn't built.
-    NotBuilt,
     /// Memory ran out.
     OutOfMemory,
 }

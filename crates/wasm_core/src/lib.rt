@@ -1,28 +1,46 @@
 //! WebAssembly modules by ids: reading, editing and writing.
 //!
-//! `Module::parse` gives exactly the module that `module_of` gives, `Module::emit` exactly the bytes that `bytes_of`
-//! gives, and each editing call exactly the module that its definition in `Edits` gives, unless memory runs out. It stands on
-//! `wasm_file`, `wasm_bytes` and `values`.
+//! `Module::parse` gives exactly the module that `module_of` gives, or the place of the first fault, `Module::emit`
+//! exactly the bytes that `bytes_of` gives, or the first section that is too long, and each editing call exactly the
+//! module that its definition in `Edits` gives, unless memory runs out. `Module::collect` keeps exactly what can be
+//! reached (`IsCollected` in `Reach`). It stands on `wasm_reach`, `wasm_file`, `wasm_ops`, `wasm_bytes` and `values`.
 #![tactic(auto)]
 
+mod added;
 mod assemble;
+mod collect;
+mod declarers;
+mod edges;
 mod edits;
 mod emit;
 mod faults;
+mod lists;
 mod module;
+mod names;
+mod naming;
+mod numbering;
+mod producers;
+mod roots;
+mod rows;
+mod segments;
 mod types;
 
+pub use collect::collected_module_is_one;
 pub use faults::{EmitFault, ParseFault};
 pub use module::{LONGEST, Module, sections};
-pub use types::{
-    Elem, ElemPlace, Func, GlobalVar, Import, ImportKind, Memory, ParseConfig, ProducerField,
-    ProducerValue, Segment, Table, Tag,
-};
+pub use types::{Func, GlobalVar, Import, ImportKind, Memory, ParseConfig, Table, Tag};
 pub use wasm_bytes::push_u32;
 pub use wasm_file::{
-    BlockType, Body, Catch, Custom, DataId, ElemId, Export, ExportId, ExportItem, FuncId, FuncType,
-    GlobalId, ImportId, Limits, MemArg, MemoryId, Op, Section, TableId, TagId, TypeId, ValType,
+    Custom, Elem, ElemPlace, Export, ExportItem, ProducerField, ProducerValue, Section, Segment,
+};
+pub use wasm_ops::{
+    BlockType, Body, Catch, DataId, ElemId, ExportId, FuncId, FuncType, GlobalId, ImportId, Limits,
+    MemArg, MemoryId, Op, TableId, TagId, TypeId, ValType,
 };
 
+#[cfg(test)]
+mod collect_tests;
+#[cfg(test)]
+mod edit_tests;
 #[cfg(test)]
 mod tests;

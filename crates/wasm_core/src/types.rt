@@ -1,6 +1,6 @@
 //! What a module holds, by ids (WebAssembly core specification, 2.5).
 use values::{Seq, Text};
-use wasm_file::{
+use wasm_ops::{
     Body, FuncId, GlobalId, ImportId, Limits, MemoryId, Op, TableId, TagId, TypeId, ValType,
 };
 
@@ -63,31 +63,6 @@ pub struct Import {
     pub kind: ImportKind,
 }
 
-/// Where an element segment goes.
-#[derive(Debug, Drop)]
-pub enum ElemPlace {
-    Passive,
-    Declared,
-    /// Into a table, from the place that an expression gives.
-    Active(TableId, Seq<Op>),
-}
-
-/// An element segment: functions, or an expression for each entry.
-#[derive(Debug, Drop)]
-pub struct Elem {
-    pub place: ElemPlace,
-    pub ty: ValType,
-    pub funcs: Seq<FuncId>,
-    pub exprs: Seq<Seq<Op>>,
-}
-
-/// A data segment. One that is active has a memory and an expression for its place.
-#[derive(Debug, Drop)]
-pub struct Segment {
-    pub place: Option<(MemoryId, Seq<Op>)>,
-    pub bytes: Seq<u8>,
-}
-
 /// How a module is read and written.
 #[derive(Clone, Copy, Debug, PartialEq, Eq)]
 pub struct ParseConfig {
@@ -97,18 +72,4 @@ pub struct ParseConfig {
     pub names: bool,
     /// Writes the producers section.
     pub producers: bool,
-}
-
-/// A tool or language of the producers section, with its version.
-#[derive(Debug, Drop)]
-pub struct ProducerValue {
-    pub name: Text,
-    pub version: Text,
-}
-
-/// A field of the producers section.
-#[derive(Debug, Drop)]
-pub struct ProducerField {
-    pub name: Text,
-    pub values: Seq<ProducerValue>,
 }

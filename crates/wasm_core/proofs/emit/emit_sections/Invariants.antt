@@ -7,5 +7,5 @@ use Rattle.wasm_core.proofs.emit.emit_sections.Given as goal
 abbrev pub invariant-loop-section : goal.invariant-loop-section
 invariant-loop-section l = record {
   bytes : l.out.items ≡ l.fn.out.items ++ flat_map section_bytes (take l.section-index l.sections);
-  large : first_too_large (drop l.section-index l.sections) ≡ first_too_large l.sections;
+  large : first_too_large l.longest (drop l.section-index l.sections) ≡ first_too_large l.longest l.sections;
 }

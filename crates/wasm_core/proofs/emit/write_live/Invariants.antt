@@ -1,7 +1,0 @@
-use Rattle.std.proofs.Common.{◌≡◌, ◌++◌, take}
-use Rattle.std.specs.List.{flat_map}
-use Rattle.wasm_core.specs.Emission.{some_bytes}
-use Rattle.wasm_core.proofs.emit.write_live.Given as goal
-
-abbrev pub invariant-loop-item : goal.invariant-loop-item
-invariant-loop-item g l = l.out.items ≡ l.fn.out.items ++ flat_map (some_bytes g.T.Spell.spelled) (take l.item-index l.items)

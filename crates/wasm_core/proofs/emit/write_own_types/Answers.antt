@@ -1,6 +1,0 @@
-use Rattle.wasm_core.specs.Emission.{own_at, own_type_bytes}
-use Rattle.wasm_core.proofs.Lists.{all_written}
-use Rattle.wasm_core.proofs.emit.write_own_types.Goals as goal
-
-pub returns : goal.returns
-returns c = all_written own_at own_type_bytes c.args.funcs.now c.loop-func.func-index c.args.out.now.items c.loop-func.out.items c.loop-func-test.false c.loop-func.invariant

@@ -1,0 +1,172 @@
+//! The numbers that entries have in the file that is written (WebAssembly core specification, 5.5.1).
+
+ghost use Rattle.std.specs.Prelude.{◌≡◌, ◌+◌, count_by, is_some, IfOk};
+ghost use Rattle.wasm_core.specs.Renumbering.{is_first, is_other, numbers, numbering, never, advanced, next_number};
+
+use crate::module::Module;
+use crate::types::{Func, GlobalVar, Memory, Table, Tag};
+use std::alloc::{AllocError, Global};
+use values::Seq;
+use wasm_file::{Elem, Segment};
+use wasm_ops::{FuncType, Numbering};
+
+/// What has numbers: of its kind the imported entries have the first ones.
+pub(crate) trait Numbered {
+    ghost use Rattle.std.specs.Prelude.{Bool, ◌≡◌};
+
+    /// Whether it is imported.
+    ghost test: { Self → Bool };
+
+    fn is_imported(&self) -> bool
+        ensures { result ≡ test self.now };
+}
+
+impl Numbered for FuncType {
+    ghost test = { never };
+
+    fn is_imported(&self) -> bool {
+        false
+    }
+}
+
+impl Numbered for Func {
+    ghost test = { λ f. is_some f.import };
+
+    fn is_imported(&self) -> bool {
+        self.import.is_some()
+    }
+}
+
+impl Numbered for Table {
+    ghost test = { λ t. is_some t.import };
+
+    fn is_imported(&self) -> bool {
+        self.import.is_some()
+    }
+}
+
+impl Numbered for Memory {
+    ghost test = { λ x. is_some x.import };
+
+    fn is_imported(&self) -> bool {
+        self.import.is_some()
+    }
+}
+
+impl Numbered for GlobalVar {
+    ghost test = { λ g. is_some g.import };
+
+    fn is_imported(&self) -> bool {
+        self.import.is_some()
+    }
+}
+
+impl Numbered for Tag {
+    ghost test = { λ t. is_some t.import };
+
+    fn is_imported(&self) -> bool {
+        self.import.is_some()
+    }
+}
+
+impl Numbered for Elem {
+    ghost test = { never };
+
+    fn is_imported(&self) -> bool {
+        false
+    }
+}
+
+impl Numbered for Segment {
+    ghost test = { never };
+
+    fn is_imported(&self) -> bool {
+        false
+    }
+}
+
+/// The next number, which then is one more.
+pub(crate) fn take_next(next: &mut u32) -> Result<u32, AllocError>
+    ensures { IfOk result (λ n. (n ≡ next.old) × (next.new ≡ next.old + 1)) }
+{
+    let number = *next;
+    *next = number.checked_add(1).ok_or(AllocError)?;
+    Ok(number)
+}
+
+/// The next numbers of imported entries and of the others.
+#[derive(Clone, Copy, Debug)]
+struct Next {
+    imported: u32,
+    own: u32,
+}
+
+impl Next {
+    /// The number of an entry, which the next one of its half doesn't get.
+    fn take<T: Numbered>(&mut self, entry: &Option<T>) -> Result<u32, AllocError>
+        ensures { IfOk result (λ n. (n ≡ next_number T.test self.old entry.now) × (self.new ≡ advanced T.test self.old entry.now)) }
+    {
+        match entry {
+            None => Ok(self.own),
+            Some(entry) => {
+                if entry.is_imported() {
+                    take_next(&mut self.imported)
+                } else {
+                    take_next(&mut self.own)
+                }
+            }
+        }
+    }
+}
+
+/// Whether an entry is there and is imported.
+fn is_first<T: Numbered>(entry: &Option<T>) -> bool
+    ensures { result ≡ is_first T.test entry.now }
+{
+    match entry {
+        Some(entry) => entry.is_imported(),
+        None => false,
+    }
+}
+
+/// The number of imported entries.
+fn count_imported<T: Numbered>(entries: &[Option<T>]) -> usize
+    ensures { result ≡ count_by (is_first T.test) entries.now }
+{
+    entries.iter().filter(|entry| is_first(*entry)).count()
+}
+
+/// The number of each place of a list. More than 4,294,967,295 entries can't be numbered: then it is `AllocError`.
+#[tactic(auto, unfolding(crate::specs::Renumbering::numbers))]
+fn numbers<T: Numbered>(alloc: Global, entries: &[Option<T>]) -> Result<Seq<u32>, AllocError>
+    ensures { IfOk result (λ xs. xs ≡ numbers T.test entries.now) }
+{
+    let mut next = Next {
+        imported: 0,
+        own: u32::try_from(count_imported(entries)).map_err(|_| AllocError)?,
+    };
+    let mut numbers = Seq::new(alloc);
+    for entry in entries {
+        numbers.push(next.take(entry)?)?;
+    }
+    Ok(numbers)
+}
+
+impl Module {
+    /// The number of each place of each list.
+    #[tactic(auto, unfolding(crate::specs::Renumbering::numbering))]
+    pub(crate) fn numbering(&self, alloc: Global) -> Result<Numbering, AllocError>
+        ensures { IfOk result (λ n. n ≡ numbering self.now) }
+    {
+        Ok(Numbering {
+            types: numbers(alloc, &self.types)?,
+            funcs: numbers(alloc, &self.funcs)?,
+            tables: numbers(alloc, &self.tables)?,
+            memories: numbers(alloc, &self.memories)?,
+            globals: numbers(alloc, &self.globals)?,
+            tags: numbers(alloc, &self.tags)?,
+            elems: numbers(alloc, &self.elems)?,
+            segments: numbers(alloc, &self.segments)?,
+        })
+    }
+}

@@ -1,0 +1,5 @@
+use Rattle.wasm_reach.proofs.MarkSteps.{added_more}
+use Rattle.wasm_reach.proofs.found.Found.add_all.Goals as goal
+
+pub loop-thing-preserved : goal.loop-thing-preserved
+loop-thing-preserved g c = added_more (g.G.Graph.is_there c.args.graph.now) c.args.things.now c.loop-thing.thing-index _ c.args.self.now c.loop-thing.self c.add_there.new.self c.loop-thing-test.true c.loop-thing.invariant c.in_ok-add_there.ensures

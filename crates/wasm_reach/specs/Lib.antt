@@ -1,0 +1,4 @@
+pub mod Marks
+pub mod Found
+pub mod Reach
+pub mod Reached
