@@ -2,7 +2,7 @@
 use Rattle.std.proofs.Common.{◌≡◌, ◌≢◌, ℕ, List, [], ◌∷◌, map, Bool, true, false, refl, sym, ap, subst, ◌∙◌, cond}
 use Rattle.std.specs.Prelude.{Option, Some, None, Result, Ok, Err, codes, ◌&&◌, is_some, IfSome, IfOk, IfErr}
 use Rattle.std.specs.List.{list_all}
-use Rattle.wasm_file.specs.declared.ids.ImportId.{ImportId}
+use Rattle.wasm_ops.specs.declared.ids.ImportId.{ImportId}
 use Rattle.wasm_core.specs.Contents.{Contents}
 use Rattle.wasm_core.specs.Parsing.{module_of}
 use Rattle.wasm_core.specs.declared.faults.ParseFault.{ParseFault}
@@ -21,7 +21,7 @@ use Rattle.cli_support.specs.Check.{is_built}
 use Rattle.cli_support.specs.Keys.{described_keys}
 use Rattle.cli_support.specs.Linked.{IsLinked}
 use Rattle.cli_support.specs.Defined.{IsDefined}
-use Rattle.cli_support.specs.Generating.{Made, IsMadeOf, IsMadeFrom, IsFaultOf, IsLate, Answers, IsKept, IsPlain, Input, Configured, settings_of, stem_of, answer_to, answer_of, moved, rewritten, after_reading, after_lowering, after_parsing, after_input, fault_of, is_deno, is_stem, prepared, reading}
+use Rattle.cli_support.specs.Generating.{Made, IsMadeOf, IsMadeFrom, IsFaultOf, IsLate, Answers, IsKept, IsPlain, Input, Configured, settings_of, stem_of, answer_to, answer_of, moved, rewritten, collected_description, after_reading, after_lowering, after_parsing, after_input, fault_of, is_deno, is_stem, prepared, reading}
 use Rattle.cli_support.proofs.Made.{sound, rewritten_is}
 
 -- ---- what is made
@@ -104,18 +104,18 @@ late b l fault.Lower h = tt
 late true l (fault.NotBuilt what) h = absurd cc
 late false l (fault.NotBuilt what) h = cc
 
-lowered_answer : (s : Settings) (l : Lowered) (r : Result Made Fault) (told : Option (Option Lowered)) → IfSome told (λ t. t ≡ Some l) → Answers s r (Some (after_reading s l)) → Answers s r (after_lowering s told)
+lowered_answer : (s : Settings) (l : Lowered) (r : Result Made Fault) (told : Option (Option Lowered)) → IfSome told (λ t. t ≡ Some l) → Answers s r (Some (after_reading s (collected_description l))) → Answers s r (after_lowering s told)
 lowered_answer s l (Ok o) None h a = tt
-lowered_answer s l (Err f) None h a = late (is_built s l && is_resolved l) l f a
+lowered_answer s l (Err f) None h a = late (is_built s (collected_description l) && is_resolved (collected_description l)) (collected_description l) f a
 lowered_answer s l r (Some t) h a = subst (λ (x : Option Lowered). Answers s r (after_lowering s (Some x))) (sym h) a
 
 pub lowered_made : (s : Settings) (l : Lowered) (r : Result Made Fault) (told : Option (Option Lowered)) → IfSome told (λ t. t ≡ Some l)
-    → IfOk r (λ o. Answers s (Ok o) (Some (after_reading s l))) → IfOk r (λ o. Answers s (Ok o) (after_lowering s told))
+    → IfOk r (λ o. Answers s (Ok o) (Some (after_reading s (collected_description l)))) → IfOk r (λ o. Answers s (Ok o) (after_lowering s told))
 lowered_made s l (Ok o) told h a = lowered_answer s l (Ok o) told h a
 lowered_made s l (Err f) told h a = tt
 
 pub lowered_fault : (s : Settings) (l : Lowered) (r : Result Made Fault) (told : Option (Option Lowered)) → IfSome told (λ t. t ≡ Some l)
-    → IfErr r (λ f. Answers s (Err f) (Some (after_reading s l))) → IfErr r (λ f. Answers s (Err f) (after_lowering s told))
+    → IfErr r (λ f. Answers s (Err f) (Some (after_reading s (collected_description l)))) → IfErr r (λ f. Answers s (Err f) (after_lowering s told))
 lowered_fault s l (Ok o) told h a = tt
 lowered_fault s l (Err f) told h a = lowered_answer s l (Err f) told h a
 
@@ -175,7 +175,6 @@ module _ (told : Settings → Contents → Option (Option Lowered)) (s : Setting
 
   pub unread_answer : (e : ParseFault) (f : Fault) → is_stem s.stem ≡ true → IsFaultOf f (Err (fault_of e)) → (e ≢ parse.OutOfMemory → module_of reading bytes ≡ Err e) → Answers s (Err f) (after_input told s bytes)
   unread_answer (parse.Parse place) f h known is = in_stem (Err f) (Err (parse.Parse place)) h (is (λ k. absurd cc)) known
-  unread_answer parse.NotBuilt f h known is = in_stem (Err f) (Err parse.NotBuilt) h (is (λ k. absurd cc)) known
   unread_answer parse.OutOfMemory f h known is = memory_answer s f (after_input told s bytes) (only_memory f known)
 
   pub stem_answer : is_stem s.stem ≡ false → Answers s (Err fault.BadStem) (after_input told s bytes)

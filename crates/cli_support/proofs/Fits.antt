@@ -8,7 +8,7 @@ use Rattle.std.proofs.lemmas.Bool.{and_parts, eqb-true}
 use Rattle.std.proofs.lemmas.Slice.Eq.{bytes_eq-Decides}
 use Rattle.values.specs.Map.{look_up}
 use Rattle.values.specs.Lists.{IsIn, IsAway}
-use Rattle.wasm_file.specs.declared.ids.ImportId.{ImportId}
+use Rattle.wasm_ops.specs.declared.ids.ImportId.{ImportId}
 use Rattle.wasm_core.specs.declared.types.Import.{Import}
 use Rattle.glue_scope.specs.Ident.{is_ident}
 use Rattle.glue_scope.specs.declared.item.Item.{Item}

@@ -1,5 +1,6 @@
 mod Answered
 mod Calling
+mod Doubles
 mod Fits
 mod Fixed
 mod FixedItems
@@ -12,5 +13,6 @@ mod Own
 mod Passing
 mod Public
 mod Resolved
+mod Rooted
 mod Wanted
 mod Whole

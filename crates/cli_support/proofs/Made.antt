@@ -3,13 +3,13 @@ use Rattle.std.proofs.Common.{◌≡◌, ℕ, ◌≤◌, ◌+◌, ◌*◌, List,
 use Rattle.std.specs.Prelude.{◌&&◌, not, ◌==◌, nat_le}
 use Rattle.std.specs.List.{list_all}
 use Rattle.std.proofs.lemmas.Bool.{and_parts, eqb-true, leb-true}
-use Rattle.wasm_file.specs.declared.ids.ImportId.{ImportId}
+use Rattle.wasm_ops.specs.declared.ids.ImportId.{ImportId}
 use Rattle.glue_scope.specs.declared.item.Item.{Item}
 use Rattle.glue_shared.specs.declared.settings.Settings.{Settings}
 use Rattle.glue_shared.specs.declared.settings.Target.{Target}
 use Rattle.glue_shared.specs.declared.settings.Target.TheVariants as target
 use Rattle.glue_shared.specs.declared.description.Lowered.{Lowered}
-use Rattle.glue_shared.specs.Names.{host_names}
+use Rattle.glue_shared.specs.Names.{host_names, live_count}
 use Rattle.cli_support.specs.Resolving.{is_some_item}
 use Rattle.cli_support.specs.Items.{IsGlue, all_items}
 use Rattle.cli_support.specs.Check as check
@@ -38,7 +38,9 @@ deno_is target.Emscripten h = absurd (true≢false (sym h))
 
 pub built : (s : Settings) (l : Lowered) → IsPlain s → check.is_built s l ≡ true → Built s l
 built s l plain h =
-    let p = and_parts ((l.is_read && check.are_few l) && (check.is_plain l.aux && list_all (λ entry. check.is_global_import s l entry.1) l.aux.imports)) (list_all (check.is_fit_export s l) l.aux.exports && list_all (check.is_fit_import s l) l.wit.implements) h in
+    let form = (l.is_read && check.are_few l) && (check.is_plain l.aux && list_all (λ entry. check.is_global_import s l entry.1) l.aux.imports) in
+    let whole = and_parts (check.is_plain_module l.«module») (form && (list_all (check.is_fit_export s l) l.aux.exports && list_all (check.is_fit_import s l) l.wit.implements)) h in
+    let p = and_parts ((l.is_read && check.are_few l) && (check.is_plain l.aux && list_all (λ entry. check.is_global_import s l entry.1) l.aux.imports)) (list_all (check.is_fit_export s l) l.aux.exports && list_all (check.is_fit_import s l) l.wit.implements) whole.1 in
     let q = and_parts (l.is_read && check.are_few l) (check.is_plain l.aux && list_all (λ entry. check.is_global_import s l entry.1) l.aux.imports) p.0 in
     let fits = and_parts (list_all (check.is_fit_export s l) l.aux.exports) (list_all (check.is_fit_import s l) l.wit.implements) p.1 in
     let few = (and_parts l.is_read (check.are_few l) q.0).1 in
@@ -46,10 +48,10 @@ built s l plain h =
     let nothing = and_parts (not (is_some_item l.aux.structs) && not (is_some_item l.aux.enums)) (not (is_some_item l.aux.reexports)) rest.0 in
     let types = and_parts (not (is_some_item l.aux.structs)) (not (is_some_item l.aux.enums)) nothing.0 in
     let counts = and_parts (nat_le (length l.aux.exports) 1 && nat_le (length l.wit.implements) 1)
-    ((length l.«module».imports == length l.wit.implements && length l.aux.imports == length l.wit.implements) && length l.wit.adapters == length l.aux.exports + 2 * length l.wit.implements) few in
+    ((live_count l.«module».imports == length l.wit.implements && length l.aux.imports == length l.wit.implements) && length l.wit.adapters == length l.aux.exports + 2 * length l.wit.implements) few in
     let each = and_parts (nat_le (length l.aux.exports) 1) (nat_le (length l.wit.implements) 1) counts.0 in
-    let sums = and_parts (length l.«module».imports == length l.wit.implements && length l.aux.imports == length l.wit.implements) (length l.wit.adapters == length l.aux.exports + 2 * length l.wit.implements) counts.1 in
-    let pairs = and_parts (length l.«module».imports == length l.wit.implements) (length l.aux.imports == length l.wit.implements) sums.0 in record {
+    let sums = and_parts (live_count l.«module».imports == length l.wit.implements && length l.aux.imports == length l.wit.implements) (length l.wit.adapters == length l.aux.exports + 2 * length l.wit.implements) counts.1 in
+    let pairs = and_parts (live_count l.«module».imports == length l.wit.implements) (length l.aux.imports == length l.wit.implements) sums.0 in record {
       deno = deno_is s.target plain.deno;
       kept = plain.kept.omit_imports;
       few_exports = leb-true (length l.aux.exports) 1 each.0;
@@ -60,7 +62,7 @@ built s l plain h =
       no_reset = plain.kept.reset_state;
       plain_files = (plain.kept.debug, plain.kept.export_wasm);
       few_imports = leb-true (length l.wit.implements) 1 each.1;
-      paired = eqb-true (length l.«module».imports) (length l.wit.implements) pairs.0;
+      paired = eqb-true (live_count l.«module».imports) (length l.wit.implements) pairs.0;
       exports_fit = fits.0;
       imports_fit = fits.1;
     }

@@ -1,12 +1,12 @@
 -- An export that steps call is one of the module's.
-use Rattle.std.proofs.Common.{◌≡◌, ℕ, zero, suc, List, [], ◌∷◌, ◌++◌, inl, inr, Bool, true, false, refl, sym, ap, ◌∙◌, subst}
+use Rattle.std.proofs.Common.{◌≡◌, ℕ, zero, suc, List, [], ◌∷◌, ◌++◌, inl, inr, Bool, true, false, cond, refl, sym, ap, ◌∙◌, subst}
 use Rattle.std.specs.Prelude.{Option, Some, None, option_map, option_and_then, slice_get, length}
 use Rattle.std.specs.List.{filter_map}
 use Rattle.std.specs.Ordering.{nat_cmp}
 use Rattle.values.specs.Map.{look_up}
 use Rattle.values.specs.Lists.{IsIn}
 use Rattle.values.proofs.Members.{in_right}
-use Rattle.wasm_file.specs.declared.types.FuncType.{FuncType}
+use Rattle.wasm_ops.specs.declared.types.FuncType.{FuncType}
 use Rattle.wasm_file.specs.declared.entries.Export.{Export}
 use Rattle.wasm_file.specs.declared.entries.ExportItem.{ExportItem}
 use Rattle.wasm_file.specs.declared.entries.ExportItem.TheVariants as items
@@ -27,7 +27,7 @@ use Rattle.glue_shared.specs.declared.description.Lowered.{Lowered}
 use Rattle.glue_binding.specs.declared.step.Step.{Step}
 use Rattle.glue_binding.specs.declared.step.Step.TheVariants.{Parameter, Unchanged, CallExport, CallImport}
 use Rattle.glue_binding.specs.Passing.{passing, handing_on, export_steps}
-use Rattle.cli_support.specs.Resolving.{is_some_item, host_step, import_step_of, described_import, called_import, import_step, small, entry_at, type_of, typed_call, call_of, export_step, with_step, step_of, steps_of, code_steps, adapter_steps}
+use Rattle.cli_support.specs.Resolving.{is_some_item, host_step, import_step_of, described_import, called_import, import_step, small, entry_at, own_type_of, is_number_type, typed_call, call_of, export_step, with_step, step_of, steps_of, code_steps, adapter_steps}
 use Rattle.cli_support.specs.Linked.{export_name, export_names}
 
 -- the name of a live entry is among those of the exports
@@ -43,12 +43,16 @@ module _ (l : Lowered) (name : List ℕ) (n : ℕ) (r : Bool) where
   mapped other b None h = cc
   mapped other b (Some m) h = cc
 
+  numbered : (other : List ℕ) (b c : Bool) (o : Option ℕ) → cond c (option_map (λ m. CallExport other m b) o) None ≡ Some (CallExport name n r) → other ≡ name
+  numbered other b true o h = mapped other b o h
+  numbered other b false o h = cc
+
   typed : (other : List ℕ) (o : Option FuncType) → option_and_then (typed_call other) o ≡ Some (CallExport name n r) → other ≡ name
   typed other None h = cc
-  typed other (Some ty) h = mapped other (is_some_item ty.results) (small (length ty.params)) h
+  typed other (Some ty) h = numbered other (is_some_item ty.results) (is_number_type ty) (small (length ty.params)) h
 
   called : (m : Contents) (other : List ℕ) (item : ExportItem) → call_of m other item ≡ Some (CallExport name n r) → other ≡ name
-  called m other (items.Func func) h = typed other (type_of m func.0) h
+  called m other (items.Func func) h = typed other (own_type_of m func.0) h
   called m other (items.Table table) h = cc
   called m other (items.Memory memory) h = cc
   called m other (items.Global global) h = cc

@@ -1,12 +1,13 @@
 -- Own imports of a description that is built: those that adapters implement, and where they move.
-use Rattle.std.proofs.Common.{◌≡◌, ℕ, zero, suc, ◌≤◌, List, [], ◌∷◌, ◌++◌, length, map, Bool, true, false, true≢false, refl, sym, ap, ◌∙◌, subst, arith, cond}
-use Rattle.std.specs.Prelude.{Option, Some, None, codes, ◌&&◌, ◌||◌, not, ◌==◌, slice_get, slice_set}
+use Rattle.std.proofs.Common.{◌≡◌, ℕ, zero, suc, ◌+◌, ◌≤◌, List, [], ◌∷◌, ◌++◌, length, map, Bool, true, false, true≢false, refl, sym, ap, ◌∙◌, subst, arith, cond}
+use Rattle.std.specs.Prelude.{Option, Some, None, codes, ◌&&◌, ◌||◌, not, ◌==◌, slice_get, slice_set, is_some}
 use Rattle.std.specs.List.{list_all, list_any, filter_map}
 use Rattle.std.specs.Str.{bytes_eq}
 use Rattle.std.specs.Ordering.{nat_cmp}
 use Rattle.std.proofs.lemmas.Bool.{and_parts}
+use Rattle.std.proofs.lemmas.List.Recursion.{is_count_by}
 use Rattle.values.specs.Map.{look_up}
-use Rattle.wasm_file.specs.declared.ids.ImportId.{ImportId}
+use Rattle.wasm_ops.specs.declared.ids.ImportId.{ImportId}
 use Rattle.wasm_core.specs.Contents.{Contents}
 use Rattle.wasm_core.specs.Edits.{with_import, renamed}
 use Rattle.wasm_core.specs.declared.types.Import.{Import}
@@ -18,7 +19,7 @@ use Rattle.glue_shared.specs.declared.import.JsImportName.{JsImportName}
 use Rattle.glue_shared.specs.declared.import.JsImportName.TheVariants as js
 use Rattle.glue_shared.specs.declared.settings.Settings.{Settings}
 use Rattle.glue_shared.specs.declared.description.Lowered.{Lowered}
-use Rattle.glue_shared.specs.Names.{own_imports, own_places, is_own, is_direct, is_direct_callee, is_whole_name, is_from_module, is_none, entry_of, is_normal_call, has_number, plain_call, code_of, implementers, is_first_memory, is_emscripten}
+use Rattle.glue_shared.specs.Names.{own_imports, own_places, is_own, is_direct, is_direct_callee, is_whole_name, is_from_module, is_none, entry_of, is_normal_call, has_number, plain_call, code_of, implementers, is_first_memory, is_emscripten, live_count}
 use Rattle.cli_support.specs.Resolving.{entry_at}
 use Rattle.cli_support.specs.Check as check
 use Rattle.cli_support.specs.Generating.{moved, moved_one, rewritten, glue_module}
@@ -28,6 +29,51 @@ use Rattle.cli_support.proofs.Fits.{FitImport, fit_import}
 last_false : (a b : Bool) → b ≡ false → (a && b) ≡ false
 last_false true b h = h
 last_false false b h = refl
+
+-- ---- places of the only import
+
+-- how many entries are there, one after another
+ones : List (Option Import) → ℕ
+ones [] = 0
+ones (None ∷ xs) = ones xs
+ones (Some i ∷ xs) = suc (ones xs)
+
+ones_step : (x : Option Import) (xs : List (Option Import)) → ones (x ∷ xs) ≡ cond (is_some x) (1 + ones xs) (ones xs)
+unfolding ones
+ones_step None xs = refl
+ones_step (Some i) xs = let e : suc (ones xs) ≡ 1 + ones xs = omega arith in e
+
+ones_are : (xs : List (Option Import)) → ones xs ≡ live_count xs
+unfolding ones
+ones_are xs = is_count_by ones is_some refl ones_step xs
+
+own_empty : (own : ℕ → Import → Bool) (from : ℕ) (xs : List (Option Import)) → ones xs ≡ 0 → own_places own from xs ≡ []
+unfolding ones
+own_empty own from [] none = refl
+own_empty own from (None ∷ xs) none = own_empty own (from + 1) xs none
+own_empty own from (Some i ∷ xs) none = absurd (omega (arith, none))
+
+none_live : (xs : List (Option Import)) (k : ℕ) (i : Import) → ones xs ≡ 0 → entry_at xs k ≡ Some i → ⊥
+unfolding ones
+none_live [] k i none h = cc
+none_live (None ∷ xs) zero i none h = cc
+none_live (None ∷ xs) (suc k) i none h = none_live xs k i none h
+none_live (Some x ∷ xs) k i none h = absurd (omega (arith, none))
+
+own_single : (own : ℕ → Import → Bool) (from : ℕ) (xs : List (Option Import)) (k : ℕ) (i : Import) → ones xs ≡ 1 → entry_at xs k ≡ Some i → own (from + k) i ≡ true → own_places own from xs ≡ (from + k) ∷ []
+unfolding ones
+own_single own from [] k i one h mine = cc
+own_single own from (None ∷ xs) zero i one h mine = cc
+own_single own from (None ∷ xs) (suc k) i one h mine =
+    let next : from + 1 + k ≡ from + suc k = omega arith in
+    own_single own (from + 1) xs k i one h (ap (λ (n : ℕ). own n i) next ∙ mine) ∙ ap (λ (n : ℕ). n ∷ []) next
+own_single own from (Some x ∷ xs) zero i one h mine =
+    let same : x ≡ i = cc in
+    let none : ones xs ≡ 0 = omega (arith, one) in
+    let here : from + 0 ≡ from = omega arith in
+    let first : own from x ≡ true = ap (own from) same ∙ ap (λ (n : ℕ). own n i) (sym here) ∙ mine in
+    rw first (ap (λ (ys : List ℕ). from ∷ ys) (own_empty own (from + 1) xs none) ∙ ap (λ (n : ℕ). n ∷ []) (sym here))
+own_single own from (Some x ∷ xs) (suc k) i one h mine = absurd (none_live xs k i (omega (arith, one)) h)
 
 module _ (s : Settings) (l : Lowered) where
   -- ---- no import is direct, since each is a global
@@ -77,30 +123,31 @@ module _ (s : Settings) (l : Lowered) where
 
     -- ---- one import
 
-    -- the import at a place of a list of one
-    pub record IsFirst (x : Option Import) (k : ℕ) : Type 0 where
-      pub place : k ≡ 0
+    -- a live import of the module of placeholders stands at this place
+    pub record IsFound (k : ℕ) : Type 0 where
       pub «import» : Import
-      pub stands : x ≡ Some «import»
+      pub stands : entry_at l.«module».imports k ≡ Some «import»
       pub placeholder : bytes_eq «import».«module» (codes "__wbindgen_placeholder__") ≡ true
 
-    pub is_first : (x : Option Import) (k n : ℕ) (r : Bool) → check.is_placeholder l.«module» (entry_at (x ∷ []) k) n r ≡ true → IsFirst x k
-    is_first None zero n r h = absurd (true≢false (sym h))
-    is_first (Some i) zero n r h =
-        let p = and_parts (bytes_eq i.«module» (codes "__wbindgen_placeholder__")) (check.is_import_type l.«module» i.kind n r) h in
-        record { place = refl; «import» = i; stands = refl; placeholder = p.0 }
-    is_first x (suc k) n r h = absurd (true≢false (sym h))
+    found_in : (o : Option Import) (k n : ℕ) (r : Bool) → entry_at l.«module».imports k ≡ o → check.is_placeholder l.«module» o n r ≡ true → IsFound k
+    found_in None k n r q h = absurd (true≢false (sym h))
+    found_in (Some i) k n r q h =
+        let p = and_parts (bytes_eq i.«module» (codes "__wbindgen_placeholder__")) (not (bytes_eq i.name (codes "__proto__")) && check.is_import_type l.«module» i.kind n r) h in
+        record { «import» = i; stands = q; placeholder = p.0 }
 
-    pub own_one : (x : Option Import) (pair : ImportId × ℕ) → l.«module».imports ≡ x ∷ [] → IsFirst x pair.0.0 → own_imports s l.«module» l.wit l.aux ≡ pair.0.0 ∷ []
+    pub found : (k n : ℕ) (r : Bool) → check.is_placeholder l.«module» (entry_at l.«module».imports k) n r ≡ true → IsFound k
+    found k n r h = found_in (entry_at l.«module».imports k) k n r refl h
+
+    pub own_one : (k : ℕ) → live_count l.«module».imports ≡ 1 → IsFound k → own_imports s l.«module» l.wit l.aux ≡ k ∷ []
     unfolding own_imports
-    own_one x pair only f =
+    own_one k one f =
         let own = is_own s l.«module» l.wit l.aux in
-        ap (own_places own 0) (only ∙ ap (λ (y : Option Import). y ∷ []) f.stands)
-        ∙ rw (owned 0 f.«import» f.placeholder) (ap (λ (k : ℕ). k ∷ []) (sym f.place))
+        let here : 0 + k ≡ k = omega arith in
+        own_single own 0 l.«module».imports k f.«import» (ones_are l.«module».imports ∙ one) f.stands (ap (λ (n : ℕ). own n f.«import») here ∙ owned k f.«import» f.placeholder) ∙ ap (λ (n : ℕ). n ∷ []) here
 
-    pub own_none : l.«module».imports ≡ [] → own_imports s l.«module» l.wit l.aux ≡ []
+    pub own_none : live_count l.«module».imports ≡ 0 → own_imports s l.«module» l.wit l.aux ≡ []
     unfolding own_imports
-    own_none none = ap (own_places (is_own s l.«module» l.wit l.aux) 0) none
+    own_none none = own_empty (is_own s l.«module» l.wit l.aux) 0 l.«module».imports (ones_are l.«module».imports ∙ none)
 
 -- ---- the module that is written
 
@@ -122,15 +169,23 @@ pub record KeepsName (m : Contents) (place : ℕ) (name : List ℕ) : Type 0 whe
   pub stands : entry_at m.imports place ≡ Some «import»
   pub same : «import».name ≡ name
 
-moved_first : (stem : List ℕ) (m : Contents) (i : Import) → m.imports ≡ Some i ∷ [] → KeepsName (moved stem (0 ∷ []) m) 0 i.name
+set_found : {A : Type 0} (xs : List (Option A)) (k : ℕ) (i j : A) → entry_at xs k ≡ Some i → entry_at (slice_set xs k (Some j)) k ≡ Some j
+set_found [] k i j h = cc
+set_found (x ∷ xs) zero i j h = refl
+set_found (x ∷ xs) (suc k) i j h = set_found xs k i j h
+
+got : (xs : List (Option Import)) (k : ℕ) (i : Import) → entry_at xs k ≡ Some i → slice_get xs k ≡ Some (Some i)
+got [] k i h = cc
+got (x ∷ xs) zero i h = ap Some h
+got (x ∷ xs) (suc k) i h = got xs k i h
+
+moved_found : (stem : List ℕ) (m : Contents) (k : ℕ) (i : Import) → entry_at m.imports k ≡ Some i → KeepsName (moved stem (k ∷ []) m) k i.name
 unfolding with_import
-moved_first stem m i only = record {
+moved_found stem m k i h = record {
   «import» = record i { «module» = glue_module stem };
-  stands = rw only refl;
+  stands = rw (h, got m.imports k i h) (set_found m.imports k i (record i { «module» = glue_module stem }) h);
   same = refl;
 }
 
-pub moved_keeps : (s : Settings) (l : Lowered) (x : Option Import) (k : ℕ) (i : Import) → l.«module».imports ≡ x ∷ [] → k ≡ 0 → x ≡ Some i → own_imports s l.«module» l.wit l.aux ≡ k ∷ [] → KeepsName (rewritten s l) k i.name
-moved_keeps s l x k i only zero-is stands own =
-    subst (λ (places : List ℕ). KeepsName (moved s.stem places l.«module») k i.name) (sym own)
-    (subst (λ (n : ℕ). KeepsName (moved s.stem (n ∷ []) l.«module») n i.name) (sym zero-is) (moved_first s.stem l.«module» i (only ∙ ap (λ (y : Option Import). y ∷ []) stands)))
+pub moved_keeps : (s : Settings) (l : Lowered) (k : ℕ) (i : Import) → entry_at l.«module».imports k ≡ Some i → own_imports s l.«module» l.wit l.aux ≡ k ∷ [] → KeepsName (rewritten s l) k i.name
+moved_keeps s l k i stands own = subst (λ (places : List ℕ). KeepsName (moved s.stem places l.«module») k i.name) (sym own) (moved_found s.stem l.«module» k i stands)

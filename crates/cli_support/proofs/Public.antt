@@ -6,7 +6,7 @@ use Rattle.std.proofs.lemmas.Bool.{and_parts}
 use Rattle.std.proofs.lemmas.Grind.{flat_map-append}
 use Rattle.std.proofs.lemmas.List.Elements.{filter_map-append}
 use Rattle.values.specs.Lists.{IsIn, IsAway, AreDistinct}
-use Rattle.wasm_file.specs.declared.ids.ImportId.{ImportId}
+use Rattle.wasm_ops.specs.declared.ids.ImportId.{ImportId}
 use Rattle.wasm_core.specs.Contents.{Contents}
 use Rattle.wasm_core.specs.declared.types.Import.{Import}
 use Rattle.glue_scope.specs.declared.item.Item.{Item}
@@ -18,7 +18,7 @@ use Rattle.glue_shared.specs.declared.aux.AuxExportKind.{AuxExportKind}
 use Rattle.glue_shared.specs.declared.aux.AuxExportKind.TheVariants as kinds
 use Rattle.glue_shared.specs.declared.settings.Settings.{Settings}
 use Rattle.glue_shared.specs.declared.description.Lowered.{Lowered}
-use Rattle.glue_shared.specs.Names.{host_names, own_imports}
+use Rattle.glue_shared.specs.Names.{host_names, own_imports, live_count}
 use Rattle.glue_shared.specs.PublicTree.{PublicPair, public_tree, own_pairs, function_pair, groups_of}
 use Rattle.cli_support.specs.Resolving.{entry_at, is_some_item}
 use Rattle.cli_support.specs.Items.{Matches, IsDeclareItem, IsDefineItem, all_items, declare_item, define_item}
@@ -31,7 +31,7 @@ use Rattle.cli_support.proofs.Calling as calling
 use Rattle.cli_support.proofs.FixedNames as silent
 use Rattle.cli_support.proofs.Fits.{FitExport, FitImport, DeclareForm, DefineForm, fit_export, fit_import}
 use Rattle.cli_support.proofs.ItemLists.{AllItems, each_of, each_any, all_of}
-use Rattle.cli_support.proofs.Own.{KeepsName, IsFirst, is_first, own_one, own_none, moved_keeps}
+use Rattle.cli_support.proofs.Own.{KeepsName, found, own_one, own_none, moved_keeps}
 use Rattle.cli_support.proofs.Whole.{Built, of_declares, of_defines}
 
 -- ---- lists that items give
@@ -93,9 +93,6 @@ module _ (s : Settings) (l : Lowered) where
 
   -- ---- own imports
 
-  at_first : (k : ℕ) (i : Import) → k ≡ 0 → entry_at (Some i ∷ []) k ≡ Some i
-  at_first k i first = ap (entry_at (Some i ∷ [])) first
-
   module _ (b : Built s l) where
     -- the own imports are those that adapters implement, and each keeps its name in the written module
     pub record OwnIs : Type 0 where
@@ -103,33 +100,27 @@ module _ (s : Settings) (l : Lowered) where
       pub distinct : AreDistinct (map (λ (pair : ImportId × ℕ). pair.0.0) l.wit.implements)
       pub keeps : (pair : ImportId × ℕ) → IsIn pair l.wit.implements → (i : Import) → entry_at l.«module».imports pair.0.0 ≡ Some i → KeepsName (rewritten s l) pair.0.0 i.name
 
-    own_is : (imports : List (Option Import)) (pairs : List (ImportId × ℕ)) → l.«module».imports ≡ imports → l.wit.implements ≡ pairs → length imports ≡ length pairs → length pairs ≤ 1 → OwnIs
-    own_is [] [] mi wi same few = record {
-      same = own_none s l b.globals mi ∙ sym (ap (map (λ (pair : ImportId × ℕ). pair.0.0)) wi);
+    own_is : (pairs : List (ImportId × ℕ)) → l.wit.implements ≡ pairs → live_count l.«module».imports ≡ length pairs → length pairs ≤ 1 → OwnIs
+    own_is [] wi same few = record {
+      same = own_none s l b.globals same ∙ sym (ap (map (λ (pair : ImportId × ℕ). pair.0.0)) wi);
       distinct = subst (λ (ps : List (ImportId × ℕ)). AreDistinct (map (λ (pair : ImportId × ℕ). pair.0.0) ps)) (sym wi) tt;
       keeps = λ pair h i e. absurd (subst (IsIn pair) wi h);
     }
-    own_is [] (pair ∷ pairs) mi wi same few = absurd (omega (arith, same))
-    own_is (x ∷ imports) [] mi wi same few = absurd (omega (arith, same))
-    own_is (x ∷ y ∷ imports) (pair ∷ pairs) mi wi same few = absurd (omega (arith, same, few))
-    own_is (x ∷ []) (pair ∷ other ∷ pairs) mi wi same few = absurd (omega (arith, few))
-    own_is (x ∷ []) (pair ∷ []) mi wi same few =
+    own_is (pair ∷ other ∷ pairs) wi same few = absurd (omega (arith, few))
+    own_is (pair ∷ []) wi same few =
         let fits : list_all (check.is_fit_import s l) (pair ∷ []) ≡ true = subst (λ (ps : List (ImportId × ℕ)). list_all (check.is_fit_import s l) ps ≡ true) wi b.imports_fit in
         let fit = fit_import s l pair (and_parts (check.is_fit_import s l pair) true fits).0 in
-        let placeholder = subst (λ (xs : List (Option Import)). check.is_placeholder l.«module» (entry_at xs pair.0.0) fit.count fit.has_result ≡ true) mi fit.placeholder in
-        let first = is_first s l b.globals x pair.0.0 fit.count fit.has_result placeholder in
-        let own_here = own_one s l b.globals x pair mi first in record {
+        let own_here = own_one s l b.globals pair.0.0 same (found s l b.globals pair.0.0 fit.count fit.has_result fit.placeholder) in record {
           same = own_here ∙ sym (ap (map (λ (pair : ImportId × ℕ). pair.0.0)) wi);
           distinct = subst (λ (ps : List (ImportId × ℕ)). AreDistinct (map (λ (pair : ImportId × ℕ). pair.0.0) ps)) (sym wi) (λ k. k, tt);
           keeps = λ q h i e.
               let is : q ≡ pair = elim (subst (IsIn q) wi h) [ inl same ↦ same | inr none ↦ absurd none ] in
-              let stands : x ≡ Some i =
-              first.stands ∙ (sym (at_first pair.0.0 first.«import» first.place) ∙ ap (λ (xs : List (Option Import)). entry_at xs pair.0.0) (sym (mi ∙ ap (λ (y : Option Import). y ∷ []) first.stands)) ∙ subst (λ (p : ImportId × ℕ). entry_at l.«module».imports p.0.0 ≡ Some i) is e) in
-              subst (λ (p : ImportId × ℕ). KeepsName (rewritten s l) p.0.0 i.name) (sym is) (moved_keeps s l x pair.0.0 i mi first.place stands own_here);
+              let stands : entry_at l.«module».imports pair.0.0 ≡ Some i = subst (λ (p : ImportId × ℕ). entry_at l.«module».imports p.0.0 ≡ Some i) is e in
+              subst (λ (p : ImportId × ℕ). KeepsName (rewritten s l) p.0.0 i.name) (sym is) (moved_keeps s l pair.0.0 i stands own_here);
         }
 
     pub own_imports_are : OwnIs
-    own_imports_are = own_is l.«module».imports l.wit.implements refl refl b.paired b.few_imports
+    own_imports_are = own_is l.wit.implements refl b.paired b.few_imports
 
   module _ (b : Built s l) (declares defines : List Item) (d : Matches (DeclareForm s l) l.aux.exports declares) (f : Matches (DefineForm s l) l.wit.implements defines) where
     abbrev items : List Item

@@ -5,7 +5,7 @@ use Rattle.std.specs.List.{list_all, filter_map, flat_map}
 use Rattle.std.proofs.lemmas.Bool.{and_parts}
 use Rattle.values.specs.Lists.{IsIn, IsAway, AreDistinct, AreApart}
 use Rattle.values.proofs.Members.{in_left, in_right, distinct_both}
-use Rattle.wasm_file.specs.declared.ids.ImportId.{ImportId}
+use Rattle.wasm_ops.specs.declared.ids.ImportId.{ImportId}
 use Rattle.wasm_core.specs.Contents.{Contents}
 use Rattle.glue_scope.specs.declared.word.Word.{Word}
 use Rattle.glue_scope.specs.declared.item.Item.{Item}
@@ -19,7 +19,7 @@ use Rattle.glue_shared.specs.declared.settings.Settings.{Settings}
 use Rattle.glue_shared.specs.declared.settings.Target.TheVariants.{Deno}
 use Rattle.glue_shared.specs.declared.names.TheConstants.{HOSTS}
 use Rattle.glue_shared.specs.declared.description.Lowered.{Lowered}
-use Rattle.glue_shared.specs.Names.{host_names, fixed_names, target_hosts, described_hosts, described_names, inspect_names}
+use Rattle.glue_shared.specs.Names.{host_names, fixed_names, target_hosts, described_hosts, described_names, inspect_names, live_count}
 use Rattle.cli_support.specs.Items.{Matches, IsDeclareItem, IsDefineItem, all_items}
 use Rattle.cli_support.specs.Targets.{frame_start, frame_end, loading_item}
 use Rattle.cli_support.specs.Check as check
@@ -45,7 +45,7 @@ pub record Built (s : Settings) (l : Lowered) : Type 0 where
   pub no_reset : s.reset_state ≡ false
   pub plain_files : (s.debug ≡ false) × (s.export_wasm ≡ false)
   pub few_imports : length l.wit.implements ≤ 1
-  pub paired : length l.«module».imports ≡ length l.wit.implements
+  pub paired : live_count l.«module».imports ≡ length l.wit.implements
   pub exports_fit : list_all (check.is_fit_export s l) l.aux.exports ≡ true
   pub imports_fit : list_all (check.is_fit_import s l) l.wit.implements ≡ true
 

@@ -1,17 +1,18 @@
 -- Whether a description is of the form that is built: at most one exported and one imported function over 32-bit integers.
-use Rattle.std.specs.Prelude.{◌≡◌, ℕ, ◌+◌, ◌*◌, ◌==◌, nat_le, Bool, true, false, not, ◌&&◌, if◌then◌else◌, option_and_then, List, [], ◌∷◌, length, codes, Option, Some, None}
+use Rattle.std.specs.Prelude.{◌≡◌, ℕ, ◌+◌, ◌*◌, ◌==◌, nat_le, Bool, true, false, not, ◌&&◌, ◌||◌, is_some, if◌then◌else◌, option_and_then, List, [], ◌∷◌, length, codes, Option, Some, None}
 use Rattle.std.specs.List.{list_all, list_any}
 use Rattle.std.specs.Str.{bytes_eq}
 use Rattle.std.specs.Ordering.{nat_cmp}
 use Rattle.values.specs.Map.{look_up}
-use Rattle.wasm_file.specs.declared.ids.ImportId.{ImportId}
-use Rattle.wasm_file.specs.declared.types.FuncType.{FuncType}
+use Rattle.wasm_ops.specs.declared.ids.ImportId.{ImportId}
+use Rattle.wasm_ops.specs.declared.types.FuncType.{FuncType}
 use Rattle.wasm_core.specs.declared.types.Import.{Import}
+use Rattle.wasm_core.specs.declared.types.Memory.{Memory}
 use Rattle.wasm_core.specs.declared.types.ImportKind.{ImportKind}
 use Rattle.wasm_core.specs.declared.types.ImportKind.TheVariants as import_kinds
 use Rattle.wasm_core.specs.Contents.{Contents}
 use Rattle.glue_scope.specs.Ident.{is_ident}
-use Rattle.glue_shared.specs.Names.{host_names, fixed_names}
+use Rattle.glue_shared.specs.Names.{host_names, fixed_names, live_count}
 use Rattle.glue_shared.specs.declared.adapter.Adapter as a
 use Rattle.glue_shared.specs.declared.adapter.AdapterType.{AdapterType}
 use Rattle.glue_shared.specs.declared.adapter.AdapterType.TheVariants as types
@@ -32,7 +33,8 @@ use Rattle.glue_shared.specs.declared.settings.Settings.{Settings}
 use Rattle.glue_shared.specs.declared.description.Lowered.{Lowered}
 use Rattle.glue_binding.specs.declared.step.Step.{Step}
 use Rattle.glue_binding.specs.declared.step.Step.TheVariants as steps
-use Rattle.cli_support.specs.Resolving.{entry_at, type_of, adapter_steps, is_some_item}
+use Rattle.cli_support.specs.Resolving.{entry_at, type_of, is_number_type, adapter_steps, is_some_item}
+use Rattle.cli_support.specs.Linked.{export_names}
 
 -- ---- steps that pass parameters on
 
@@ -153,19 +155,20 @@ is_fit_export settings l e = fits_export settings l e (call_of_adapter l e.adapt
 
 -- ---- imports
 
--- the wasm type of a function has so many parameters, and a result or none
+-- the wasm type of a function has so many 32-bit integers as parameters, and one as a result or none
 abbrev pub is_type : Option FuncType → ℕ → Bool → Bool
 is_type None count has_result = false
-is_type (Some ty) count has_result = length ty.params == count && length ty.results == result_count has_result
+is_type (Some ty) count has_result = is_number_type ty && (length ty.params == count && length ty.results == result_count has_result)
 
 abbrev pub is_import_type : Contents → ImportKind → ℕ → Bool → Bool
 is_import_type m (import_kinds.Func func) count has_result = is_type (type_of m func.0) count has_result
 is_import_type m other count has_result = false
 
--- an import of the module of placeholders, whose function has this type
+-- an import of the module of placeholders by a name that an object can hold, whose function has this type
 abbrev pub is_placeholder : Contents → Option Import → ℕ → Bool → Bool
 is_placeholder m None count has_result = false
-is_placeholder m (Some i) count has_result = bytes_eq i.«module» (codes "__wbindgen_placeholder__") && is_import_type m i.kind count has_result
+is_placeholder m (Some i) count has_result =
+    bytes_eq i.«module» (codes "__wbindgen_placeholder__") && (not (bytes_eq i.name (codes "__proto__")) && is_import_type m i.kind count has_result)
 
 -- a name that the host gives, and properties of it
 abbrev pub is_host_path : Settings → Lowered → List ℕ → List (List ℕ) → Bool
@@ -195,15 +198,30 @@ is_fit_import settings l pair = fits_import settings l pair (call_of_adapter l p
 abbrev pub are_few : Lowered → Bool
 are_few l =
     (nat_le (length l.aux.exports) 1 && nat_le (length l.wit.implements) 1)
-    && ((length l.«module».imports == length l.wit.implements && length l.aux.imports == length l.wit.implements)
+    && ((live_count l.«module».imports == length l.wit.implements && length l.aux.imports == length l.wit.implements)
     && length l.wit.adapters == length l.aux.exports + 2 * length l.wit.implements)
 
 -- nothing but functions is described
 abbrev pub is_plain : WasmBindgenAux → Bool
 is_plain aux = (not (is_some_item aux.structs) && not (is_some_item aux.enums)) && not (is_some_item aux.reexports)
 
+-- a memory that threads share
+abbrev pub is_shared : Option Memory → Bool
+is_shared None = false
+is_shared (Some memory) = memory.limits.shared
+
+-- a name stands twice
+abbrev pub has_double : List (List ℕ) → Bool
+has_double [] = false
+has_double (name ∷ names) = is_among name names || has_double names
+
+-- no start function, no shared memory, and no two exports of one name
+abbrev pub is_plain_module : Contents → Bool
+is_plain_module m = (not (is_some m.start) && not (list_any is_shared m.memories)) && not (has_double (export_names m))
+
 -- the description is of the form that is built
 abbrev pub is_built : Settings → Lowered → Bool
 is_built settings l =
+    is_plain_module l.«module» && (
     ((l.is_read && are_few l) && (is_plain l.aux && list_all (λ entry. is_global_import settings l entry.1) l.aux.imports))
-    && (list_all (is_fit_export settings l) l.aux.exports && list_all (is_fit_import settings l) l.wit.implements)
+    && (list_all (is_fit_export settings l) l.aux.exports && list_all (is_fit_import settings l) l.wit.implements))

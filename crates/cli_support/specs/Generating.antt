@@ -5,6 +5,7 @@ use Rattle.std.specs.Char.{is_ascii_alphanumeric}
 use Rattle.wasm_core.specs.Contents.{Contents}
 use Rattle.wasm_core.specs.Parsing.{module_of}
 use Rattle.wasm_core.specs.Edits.{with_processed_by, with_import}
+use Rattle.wasm_core.specs.Collected.{collected}
 use Rattle.wasm_core.specs.declared.types.Import.{Import}
 use Rattle.wasm_core.specs.declared.types.ParseConfig.{ParseConfig}
 use Rattle.wasm_core.specs.declared.faults.ParseFault.{ParseFault}
@@ -12,6 +13,7 @@ use Rattle.wasm_core.specs.declared.faults.ParseFault.TheVariants as parse
 use Rattle.glue_scope.specs.declared.item.Item.{Item}
 use Rattle.glue_scope.specs.Words.{printed}
 use Rattle.glue_shared.specs.Names.{own_imports, host_names}
+use Rattle.glue_shared.specs.Roots.{roots_of}
 use Rattle.glue_shared.specs.declared.settings.Settings.{Settings}
 use Rattle.glue_shared.specs.declared.settings.Target.{Target}
 use Rattle.glue_shared.specs.declared.settings.Target.TheVariants as target
@@ -93,6 +95,10 @@ pub record IsPlain (s : Settings) : Type 0 where
   pub deno : is_deno s.target ≡ true
   pub kept : IsKept s
 
+-- a description with nothing left of its module but what can be reached from the exports and from what the description names
+abbrev pub collected_description : Lowered → Lowered
+collected_description l = record l { «module» = collected (roots_of l) l.«module» }
+
 -- what is told of a description: it isn't built, or it is
 abbrev pub after_reading : Settings → Lowered → Result Lowered Fault
 after_reading settings l = if is_built settings l && is_resolved l then Ok l else Err (fault.NotBuilt (codes "description"))
@@ -101,12 +107,11 @@ after_reading settings l = if is_built settings l && is_resolved l then Ok l els
 abbrev pub after_lowering : Settings → Option (Option Lowered) → Option (Result Lowered Fault)
 after_lowering settings None = None
 after_lowering settings (Some None) = Some (Err fault.Lower)
-after_lowering settings (Some (Some l)) = Some (after_reading settings l)
+after_lowering settings (Some (Some l)) = Some (after_reading settings (collected_description l))
 
 -- the fault of a module that isn't read
 abbrev pub fault_of : ParseFault → Fault
 fault_of (parse.Parse place) = fault.Parse place
-fault_of parse.NotBuilt = fault.NotBuilt (codes "module")
 fault_of parse.OutOfMemory = fault.OutOfMemory
 
 -- after the module was read
@@ -120,7 +125,7 @@ after_input told settings bytes =
     if is_stem settings.stem then after_parsing (told settings) settings (module_of reading bytes) else Some (Err fault.BadStem)
 
 -- The first fault of a call, or the description that the lowering tells: no input, a name that isn't for files, bytes that don't read,
--- a module that isn't built, a target that isn't, a description that doesn't read, or one that isn't built. None where the lowering
+-- a target that isn't built, a description that doesn't read, or one that isn't built. None where the lowering
 -- doesn't tell.
 abbrev pub answer_to : (Settings → Contents → Option (Option Lowered)) → Configured → Option Input → Option (Result Lowered Fault)
 answer_to told c None = Some (Err fault.NoInput)

@@ -1,5 +1,6 @@
 pub mod Check
 pub mod Defined
+pub mod Doubles
 pub mod Generating
 pub mod Items
 pub mod Keys

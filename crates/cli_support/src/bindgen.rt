@@ -12,7 +12,7 @@ ghost use Rattle.wasm_core.specs.declared.types.Import.{Import};
 ghost use Rattle.cli_support.specs.Resolving.{entry_at};
 ghost use Rattle.cli_support.specs.Check.{is_built as is_built_form};
 ghost use Rattle.cli_support.specs.Items.{IsGlue};
-ghost use Rattle.cli_support.specs.Generating.{Input, settings_of as the_settings, is_stem as the_stem_test, reading, prepared, is_deno as the_deno_test, is_stem_byte as stem_byte, glue_module, after_reading, after_lowering, after_parsing, after_input, answer_to, answer_of, moved, moved_one, rewritten, IsMadeOf, IsFaultOf, IsKept, IsPlain, Answers, stem_of, fault_of};
+ghost use Rattle.cli_support.specs.Generating.{Input, settings_of as the_settings, is_stem as the_stem_test, reading, prepared, collected_description, is_deno as the_deno_test, is_stem_byte as stem_byte, glue_module, after_reading, after_lowering, after_parsing, after_input, answer_to, answer_of, moved, moved_one, rewritten, IsMadeOf, IsFaultOf, IsKept, IsPlain, Answers, stem_of, fault_of};
 
 use crate::check::is_built;
 use crate::fault::Fault;
@@ -20,7 +20,7 @@ use crate::items::glue_items;
 use crate::output::Output;
 use glue_lower::{LowerFault, Lowering};
 use glue_scope::{IdentScope, Item, print};
-use glue_shared::{AdapterId, EncodeInto, Lowered, Settings, Target};
+use glue_shared::{AdapterId, EncodeInto, Lowered, Settings, Target, roots};
 use std::alloc::{AllocError, Global};
 use std::marker::Model;
 use thiserror::Error;
@@ -114,13 +114,12 @@ fn not_built(alloc: Global, what: &str) -> Fault
 }
 
 // The fault of a module that isn't read.
-fn parse_fault(alloc: Global, fault: ParseFault) -> Fault
+fn parse_fault(fault: ParseFault) -> Fault
     ensures fault { IsFaultOf result (Err (fault_of fault)) }
     ensures later { result ≢ Fault.Lower }
 {
     match fault {
         ParseFault::Parse { place } => Fault::Parse { place },
-        ParseFault::NotBuilt => not_built(alloc, "module"),
         ParseFault::OutOfMemory => Fault::OutOfMemory,
     }
 }
@@ -146,7 +145,7 @@ fn glue_module_name(alloc: Global, stem: &str) -> Result<String, AllocError>
 
 // The name of the import at a place.
 fn import_name(alloc: Global, module: &Module, place: u32) -> Result<Option<Text>, AllocError>
-    ensures name { IfOk result (λ name. name ≡ option_map (λ (i : Import). i.name) (entry_at module.now.imports place)) }
+    ensures name { IfOk result (λ name. name ≡ option_map (λ (i : Import). i.name) (entry_at «module».now.imports place)) }
 {
     match module.imports().get(place as usize) {
         Some(Some(import)) => Ok(Some(import.name.copy(alloc)?)),
@@ -156,7 +155,7 @@ fn import_name(alloc: Global, module: &Module, place: u32) -> Result<Option<Text
 
 // Moves the import at a place to the glue file's module.
 fn move_import(alloc: Global, module: &mut Module, stem: &str, place: u32) -> Result<(), AllocError>
-    ensures moved { OnOk result (module.new ≡ moved_one stem.now place (entry_at module.old.imports place) module.old) }
+    ensures moved { OnOk result («module».new ≡ moved_one stem.now place (entry_at «module».old.imports place) «module».old) }
 {
     let name = import_name(alloc, module, place)?;
     if let Some(name) = name {
@@ -249,6 +248,31 @@ fn make(alloc: Global, settings: Settings, lowered: Lowered) -> Result<Output, F
     }
 }
 
+// The description, with nothing left of its module but what can be reached.
+#[tactic(auto, using(crate::proofs::Rooted::live_roots))]
+fn collect(alloc: Global, lowered: Lowered) -> Result<Lowered, AllocError>
+    ensures collected { IfOk result (λ l. l ≡ collected_description lowered) }
+{
+    let kept = roots(alloc, &lowered)?;
+    let mut lowered = lowered;
+    lowered.module.collect(alloc, kept.as_slice())?;
+    Ok(lowered)
+}
+
+// Makes an output of a description, where it is built once its module is collected.
+#[tactic(auto, using(crate::proofs::Answered::memory))]
+fn collect_and_make(alloc: Global, settings: Settings, lowered: Lowered) -> Result<Output, Fault>
+    requires plain { IsPlain settings }
+    ensures made { IfOk result (λ o. Answers settings (Ok o) (Some (after_reading settings (collected_description lowered)))) }
+    ensures cause { IfErr result (λ f. Answers settings (Err f) (Some (after_reading settings (collected_description lowered)))) }
+    ensures later { result ≢ Err Fault.Lower }
+{
+    match collect(alloc, lowered) {
+        Err(_) => Err(Fault::OutOfMemory),
+        Ok(collected) => make(alloc, settings, collected),
+    }
+}
+
 // Lowers a module, and makes an output of what is told.
 #[tactic(auto, using(crate::proofs::Answered::lowered_made, crate::proofs::Answered::lowered_fault, crate::proofs::Answered::failed_answer, crate::proofs::Answered::memory))]
 fn lower_and_make<L: Lowering>(
@@ -264,7 +288,7 @@ fn lower_and_make<L: Lowering>(
     ensures later { L.faults lowering.old ≤ L.faults lowering.new }
 {
     match lowering.lower(alloc, &settings, module) {
-        Ok(lowered) => make(alloc, settings, lowered),
+        Ok(lowered) => collect_and_make(alloc, settings, lowered),
         Err(LowerFault::Failed) => Err(Fault::Lower),
         Err(LowerFault::OutOfMemory) => Err(Fault::OutOfMemory),
     }
@@ -312,7 +336,7 @@ fn generate_bytes<L: Lowering>(
     }
     match Module::parse(alloc, bytes, &parse_config()) {
         Ok(module) => generate_from(alloc, settings, module, lowering),
-        Err(fault) => Err(parse_fault(alloc, fault)),
+        Err(fault) => Err(parse_fault(fault)),
     }
 }
 
@@ -409,8 +433,8 @@ impl Bindgen {
     ///
     /// The first of these decides: `NoInput` without input; `BadStem` where the name is empty or holds anything beside ASCII
     /// letters, digits, `_`, `-` and `.`; `Parse` where the bytes are no module, with the offset of the first fault; `NotBuilt`
-    /// with `module` where the module isn't of a form that is built, with `target` where the target isn't; `Lower` where the
-    /// lowering failed; `NotBuilt` with `description` where the description isn't of a form that is built.
+    /// with `target` where the target isn't built; `Lower` where the lowering failed; `NotBuilt` with `description` where the
+    /// description and its module aren't of a form that is built.
     #[tactic(auto, using(crate::proofs::Answered::input_made, crate::proofs::Answered::input_fault, crate::proofs::Answered::no_input, crate::proofs::Answered::memory, crate::proofs::Answered::kept_settings))]
     pub fn generate_output<L: Lowering>(
         &mut self,

@@ -1,23 +1,26 @@
 //! Whether a description is of the form that is built: at most one exported and one imported function over 32-bit integers.
-ghost use Rattle.std.specs.Prelude.{◌≡◌, IfOk, option_map, true, false};
-ghost use Rattle.std.specs.List.{list_all};
+ghost use Rattle.std.specs.Prelude.{◌≡◌, IfOk, option_map, true, false, OnOk};
+ghost use Rattle.std.specs.List.{list_all, list_any, filter_map};
 ghost use Rattle.std.specs.Option.{option_copied};
 ghost use Rattle.std.specs.Ordering.{nat_cmp};
 ghost use Rattle.values.specs.Map.{look_up};
 ghost use Rattle.glue_scope.specs.Ident.{is_ident};
-ghost use Rattle.cli_support.specs.Check.{ends_well as the_good_end, last_call as the_last_call, call_from, parameter_rest, next_way as the_next_way, passes as the_passage, is_s32 as s32_test, code_of as the_code, takes as the_takes, is_local as the_local_test, is_local_at, is_taken as the_taken_test, is_function as the_function_test, names_fit as the_fit_of_names, is_among, is_free_name as the_free_test, fits_export as the_export_test, call_of_adapter, is_fit_export as the_fit_export, is_type as the_type_test, is_import_type as the_import_type_test, is_placeholder as the_placeholder_test, is_host_path as the_path_test, fits_import as the_import_test, is_fit_import as the_fit_import, is_free_global as the_global_test, is_global_import as the_import_form, are_few as the_few_test, is_plain as the_plain_test, is_built as the_built_test};
+ghost use Rattle.cli_support.specs.Check.{ends_well as the_good_end, last_call as the_last_call, call_from, parameter_rest, next_way as the_next_way, passes as the_passage, is_s32 as s32_test, code_of as the_code, takes as the_takes, is_local as the_local_test, is_local_at, is_taken as the_taken_test, is_function as the_function_test, names_fit as the_fit_of_names, is_among, is_free_name as the_free_test, fits_export as the_export_test, call_of_adapter, is_fit_export as the_fit_export, is_type as the_type_test, is_import_type as the_import_type_test, is_placeholder as the_placeholder_test, is_host_path as the_path_test, fits_import as the_import_test, is_fit_import as the_fit_import, is_free_global as the_global_test, is_global_import as the_import_form, are_few as the_few_test, is_plain as the_plain_test, is_shared as shared_test, has_double, is_plain_module as the_plain_module, is_built as the_built_test};
+ghost use Rattle.cli_support.specs.Doubles.{is_met as met_test, with_name, repeats};
+ghost use Rattle.cli_support.specs.Linked.{export_name};
 ghost use Rattle.cli_support.specs.Resolving.{type_of, entry_at};
 
-use crate::resolving::{adapter_steps, function_type};
+use crate::resolving::{adapter_steps, function_type, is_number_type};
 use glue_binding::Step;
-use glue_scope::is_valid_ident;
+use glue_scope::{IdentScope, Names, is_valid_ident};
 use glue_shared::{
     Adapter, AdapterId, AdapterKind, AdapterType, AuxExport, AuxExportKind, AuxImport, AuxValue,
     Instruction, JsImportName, Lowered, Settings, WasmBindgenAux, is_fixed_name, is_host_name,
+    live_count,
 };
 use std::alloc::{AllocError, Global};
 use values::{Seq, Text};
-use wasm_core::{FuncType, Import, ImportId, ImportKind, Module};
+use wasm_core::{Export, FuncType, Import, ImportId, ImportKind, Memory, Module};
 
 // Whether a result is handed on, and nothing else follows.
 fn ends_well(has_result: bool, steps: &[Step]) -> bool
@@ -240,14 +243,15 @@ fn is_type(ty: Option<&FuncType>, count: u32, has_result: bool) -> bool
 {
     match ty {
         None => false,
-        Some(ty) => ty.params.len() == count as usize
+        Some(ty) => is_number_type(ty)
+            && ty.params.len() == count as usize
             && ty.results.len() == usize::from(has_result),
     }
 }
 
 // Whether an import is a function of a type.
 fn is_import_type(module: &Module, kind: ImportKind, count: u32, has_result: bool) -> bool
-    ensures test { result ≡ the_import_type_test module.now kind count has_result }
+    ensures test { result ≡ the_import_type_test «module».now kind count has_result }
 {
     match kind {
         ImportKind::Func(func) => is_type(function_type(module, func), count, has_result),
@@ -257,11 +261,12 @@ fn is_import_type(module: &Module, kind: ImportKind, count: u32, has_result: boo
 
 // Whether the import at a place is a placeholder of a type.
 fn is_placeholder(module: &Module, id: ImportId, count: u32, has_result: bool) -> bool
-    ensures test { result ≡ the_placeholder_test module.now (entry_at module.now.imports id.0) count has_result }
+    ensures test { result ≡ the_placeholder_test «module».now (entry_at «module».now.imports id.0) count has_result }
 {
     match module.imports().get(id.0 as usize) {
         Some(Some(import)) => {
             import.module.as_str() == "__wbindgen_placeholder__"
+                && import.name.as_str() != "__proto__"
                 && is_import_type(module, import.kind, count, has_result)
         }
         _ => false,
@@ -368,7 +373,7 @@ fn are_few(lowered: &Lowered) -> bool
     let imports = lowered.wit.implements.len();
     exports <= 1
         && imports <= 1
-        && lowered.module.imports().len() == imports
+        && live_count(lowered.module.imports()) == imports as u64
         && lowered.aux.imports.len() == imports
         && lowered.wit.adapters.len() == exports + 2 * imports
 }
@@ -412,10 +417,72 @@ fn are_fit_imports(
     Ok(true)
 }
 
+fn is_shared(memory: &Option<Memory>) -> bool
+    ensures test { result ≡ shared_test memory.now }
+{
+    match memory {
+        None => false,
+        Some(memory) => memory.limits.shared,
+    }
+}
+
+// Whether threads share a memory.
+fn has_shared_memory(memories: &[Option<Memory>]) -> bool
+    ensures test { result ≡ list_any shared_test memories.now }
+{
+    memories.iter().any(|memory| is_shared(memory))
+}
+
+// Whether an export's name was seen before. It is seen after it.
+fn is_met<N: Names>(seen: &mut N, export: &Option<Export>) -> Result<bool, AllocError>
+    ensures met { IfOk result (λ met. met ≡ met_test (N.bound seen.old) export.now) }
+    ensures seen { OnOk result (N.bound seen.new ≡ with_name (N.bound seen.old) export.now) }
+{
+    match export {
+        None => Ok(false),
+        Some(export) => Ok(!seen.reserve(export.name.as_str())?),
+    }
+}
+
+// Whether a name was seen before, or stands twice.
+fn has_repeated<N: Names>(seen: N, exports: &[Option<Export>]) -> Result<bool, AllocError>
+    ensures test { IfOk result (λ repeated. repeated ≡ repeats (N.bound seen) exports.now) }
+{
+    let mut seen = seen;
+    for export in exports {
+        if is_met(&mut seen, export)? {
+            return Ok(true);
+        }
+    }
+    Ok(false)
+}
+
+// Whether two exports have one name.
+#[tactic(auto, using(crate::proofs::Doubles::all_repeats))]
+fn has_double_name<N: Names>(alloc: Global, exports: &[Option<Export>]) -> Result<bool, AllocError>
+    ensures test { IfOk result (λ double. double ≡ has_double (filter_map export_name exports.now)) }
+{
+    let seen: N = Names::new(alloc);
+    has_repeated(seen, exports)
+}
+
+// Whether there is no start function, no shared memory, and no name that two exports have.
+fn is_plain_module(alloc: Global, module: &Module) -> Result<bool, AllocError>
+    ensures test { IfOk result (λ plain. plain ≡ the_plain_module «module».now) }
+{
+    if module.start().is_some() || has_shared_memory(module.memories()) {
+        return Ok(false);
+    }
+    Ok(!has_double_name::<IdentScope>(alloc, module.exports())?)
+}
+
 /// Whether the description is of the form that is built.
 pub fn is_built(alloc: Global, settings: &Settings, lowered: &Lowered) -> Result<bool, AllocError>
     ensures test { IfOk result (λ built. built ≡ the_built_test settings.now lowered.now) }
 {
+    if !is_plain_module(alloc, &lowered.module)? {
+        return Ok(false);
+    }
     if !(lowered.is_read
         && are_few(lowered)
         && is_plain(&lowered.aux)

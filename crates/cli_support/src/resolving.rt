@@ -1,7 +1,8 @@
 //! The steps of an adapter: its instructions, with what their ids name in the module and the description.
 ghost use Rattle.std.specs.Prelude.{◌≡◌, Some, None, IfOk, length};
+ghost use Rattle.std.specs.List.{list_all};
 ghost use Rattle.std.specs.Option.{option_copied};
-ghost use Rattle.cli_support.specs.Resolving.{small, is_some_item, type_of, typed_call as the_typed_call, call_of, export_step as the_export_step, host_step as the_host_step, import_step_of, described_import as the_described_import, called_import as the_called_import, import_step as the_import_step, step_of as the_step_of, steps_of as the_steps_of, code_steps as the_code_steps, adapter_steps as the_adapter_steps};
+ghost use Rattle.cli_support.specs.Resolving.{small, is_some_item, type_of, own_type_of, is_i32 as i32_test, is_number_type as number_type_test, typed_call as the_typed_call, call_of, export_step as the_export_step, host_step as the_host_step, import_step_of, described_import as the_described_import, called_import as the_called_import, import_step as the_import_step, step_of as the_step_of, steps_of as the_steps_of, code_steps as the_code_steps, adapter_steps as the_adapter_steps};
 
 use glue_binding::Step;
 use glue_shared::{
@@ -10,7 +11,7 @@ use glue_shared::{
 };
 use std::alloc::{AllocError, Global};
 use values::{Duplicate, Seq, Text};
-use wasm_core::{Export, ExportId, ExportItem, FuncId, FuncType, Module};
+use wasm_core::{Export, ExportId, ExportItem, FuncId, FuncType, Module, ValType};
 
 // The count, where it fits 32 bits.
 fn fitting(count: usize) -> Option<u32>
@@ -25,16 +26,51 @@ fn fitting(count: usize) -> Option<u32>
 
 // The type of a function.
 pub(crate) fn function_type(module: &Module, func: FuncId) -> Option<&FuncType>
-    ensures found { option_copied result ≡ type_of module.now func.0 }
+    ensures found { option_copied result ≡ type_of «module».now func.0 }
 {
     let entry = module.funcs().get(func.0 as usize)?.as_ref()?;
     module.types().get(entry.ty.0 as usize)?.as_ref()
 }
 
-// The call of a function of a type, by the name of its export.
+// The type of a function that isn't imported.
+fn own_function_type(module: &Module, func: FuncId) -> Option<&FuncType>
+    ensures found { option_copied result ≡ own_type_of «module».now func.0 }
+{
+    let entry = module.funcs().get(func.0 as usize)?.as_ref()?;
+    if entry.import.is_some() {
+        None
+    } else {
+        module.types().get(entry.ty.0 as usize)?.as_ref()
+    }
+}
+
+fn is_i32(ty: ValType) -> bool
+    ensures test { result ≡ i32_test ty }
+{
+    matches!(ty, ValType::I32)
+}
+
+// Whether each of the types is a 32-bit integer.
+fn are_i32(types: &[ValType]) -> bool
+    ensures test { result ≡ list_all i32_test types.now }
+{
+    types.iter().all(|ty| is_i32(*ty))
+}
+
+// Whether a type takes 32-bit integers, and gives one or none.
+pub(crate) fn is_number_type(ty: &FuncType) -> bool
+    ensures test { result ≡ number_type_test ty.now }
+{
+    are_i32(ty.params.as_slice()) && are_i32(ty.results.as_slice()) && ty.results.len() <= 1
+}
+
+// The call of a function of a type over 32-bit integers, by the name of its export.
 fn typed_call(alloc: Global, name: &Text, ty: &FuncType) -> Result<Option<Step>, AllocError>
     ensures step { IfOk result (λ step. step ≡ the_typed_call name.now ty.now) }
 {
+    if !is_number_type(ty) {
+        return Ok(None);
+    }
     match fitting(ty.params.len()) {
         None => Ok(None),
         Some(params) => Ok(Some(Step::CallExport {
@@ -45,12 +81,12 @@ fn typed_call(alloc: Global, name: &Text, ty: &FuncType) -> Result<Option<Step>,
     }
 }
 
-// The call of an export, where it is a function.
+// The call of an export, where it is a function of the module's own.
 fn export_call(alloc: Global, module: &Module, export: &Export) -> Result<Option<Step>, AllocError>
-    ensures step { IfOk result (λ step. step ≡ call_of module.now export.now.name export.now.item) }
+    ensures step { IfOk result (λ step. step ≡ call_of «module».now export.now.name export.now.item) }
 {
     match export.item {
-        ExportItem::Func(func) => match function_type(module, func) {
+        ExportItem::Func(func) => match own_function_type(module, func) {
             None => Ok(None),
             Some(ty) => typed_call(alloc, &export.name, ty),
         },
@@ -60,7 +96,7 @@ fn export_call(alloc: Global, module: &Module, export: &Export) -> Result<Option
 
 // The call of the export at a place.
 fn export_step(alloc: Global, module: &Module, id: ExportId) -> Result<Option<Step>, AllocError>
-    ensures step { IfOk result (λ step. step ≡ the_export_step module.now id.0) }
+    ensures step { IfOk result (λ step. step ≡ the_export_step «module».now id.0) }
 {
     match module.exports().get(id.0 as usize) {
         Some(Some(export)) => export_call(alloc, module, export),

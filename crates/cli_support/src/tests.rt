@@ -63,13 +63,12 @@ fn faults_come_in_their_order(rt: HostRuntime) -> Result<(), Fail> {
     };
     assert!(rt; parse);
 
-    // A memory section, another target than Deno, an import that nothing describes.
-    let cases: [(bool, &[u8], &str); 3] = [
-        (false, b"\0asm\x01\0\0\0\x05\x03\x01\0\x01", "module"),
+    // Another target than Deno, an import that is exported and that nothing describes.
+    let cases: [(bool, &[u8], &str); 2] = [
         (false, EMPTY, "target"),
         (
             true,
-            b"\0asm\x01\0\0\0\x01\x05\x01\x60\x01\x7f\0\x02\x20\x01\x18__wbindgen_placeholder__\x03log\0\0",
+            b"\0asm\x01\0\0\0\x01\x05\x01\x60\x01\x7f\0\x02\x20\x01\x18__wbindgen_placeholder__\x03log\0\0\x07\x07\x01\x03log\0\0",
             "description",
         ),
     ];

@@ -12,7 +12,7 @@ use Rattle.cli_support.specs.declared.fault.Fault.{Fault}
 use Rattle.cli_support.specs.declared.fault.Fault.TheVariants as fault
 use Rattle.cli_support.specs.Check.{is_built}
 use Rattle.cli_support.specs.Items.{is_resolved}
-use Rattle.cli_support.specs.Generating.{Made, Configured, settings_of, stem_of, Answers, IsMadeFrom, IsFaultOf, answer_of, after_parsing, after_lowering, after_reading, reading, prepared, rewritten, fault_of}
+use Rattle.cli_support.specs.Generating.{Made, Configured, settings_of, stem_of, Answers, IsMadeFrom, IsFaultOf, answer_of, after_parsing, after_lowering, after_reading, reading, prepared, collected_description, rewritten, fault_of, IsMadeOf}
 use Rattle.glue_program.specs.Headline.{deno_settings, IsOutputOf}
 use Rattle.glue_program.specs.Outcome.{Refused, outcome, outcome_of, planning, with_bytes, is_memory, fault_line, ComesTo, IsCut, Wrote, Answered}
 use Rattle.std.specs.Io.KnownBytes.{Appends}
@@ -34,14 +34,15 @@ module _ (bytes : List ℕ) (o : Made) where
   abbrev Goal : Type 0
   Goal = IsOutputOf bytes o × (outcome bytes ≡ planning (too_large o.«module»))
 
-  read_is : (m : Contents) (l : Lowered) → module_of reading bytes ≡ Ok m → lowered_of deno_settings (prepared m) ≡ Some l → IsMadeFrom deno_settings (after_reading deno_settings l) o → Goal
+  read_is : (m : Contents) (l : Lowered) → module_of reading bytes ≡ Ok m → lowered_of deno_settings (prepared m) ≡ Some l → IsMadeFrom deno_settings (after_reading deno_settings (collected_description l)) o → Goal
   read_is m l read lowered from =
-      let same : l ≡ from.description = kept (is_built deno_settings l && is_resolved l) l from.description (fault.NotBuilt (codes "description")) from.is in
+      let c = collected_description l in
+      let same : c ≡ from.description = kept (is_built deno_settings c && is_resolved c) c from.description (fault.NotBuilt (codes "description")) from.is in
       let comes : outcome bytes ≡ planning (too_large (rewritten deno_settings from.description)) =
       ap (λ (r : Result Contents ParseFault). outcome_of (after_parsing (told deno_settings) deno_settings r)) read
       ∙ ap (λ (x : Option Lowered). outcome_of (after_lowering deno_settings (Some x))) lowered
       ∙ ap (λ (r : Result Lowered Fault). outcome_of (Some r)) from.is in (
-        record { «module» = m; read = read; description = from.description; told = lowered ∙ ap Some same; made = from.made },
+        record { «module» = m; read = read; description = l; told = lowered; made = subst (λ (d : Lowered). IsMadeOf deno_settings d o) (sym same) from.made },
         comes ∙ ap (λ (x : Contents). planning (too_large x)) (sym from.made.«module»),
       )
 
@@ -81,7 +82,7 @@ record IsTold (a : Option (Result Lowered Fault)) : Type 0 where
 
 lowering_told : (x : Option Lowered) → IsTold (after_lowering deno_settings (Some x))
 lowering_told None = record { answer = Err fault.Lower; is = refl }
-lowering_told (Some l) = record { answer = after_reading deno_settings l; is = refl }
+lowering_told (Some l) = record { answer = after_reading deno_settings (collected_description l); is = refl }
 
 parsing_told : (r : Result Contents ParseFault) → IsTold (after_parsing (told deno_settings) deno_settings r)
 parsing_told (Ok m) = lowering_told (lowered_of deno_settings (prepared m))

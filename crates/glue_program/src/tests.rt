@@ -11,6 +11,10 @@ const WORKED: &str =
 const EMPTY_FILES: &[u8] =
     b"file out_bg.wasm hex 56\n0061736d01000000002e0970726f647563657273010c70726f6365737365642d6279010c7761736d2d62696e6467656e07302e322e313330\nfile out.js text 406\nfunction __wbg_get_imports() {\n    const import0 = {\n        __proto__: null,\n    };\n    return {\n        __proto__: null,\n        \"./out_bg.js\": import0,\n    };\n}\nconst wasmUrl = new URL(\"out_bg.wasm\", import.meta.url);\nconst wasmInstantiated = await WebAssembly.instantiateStreaming(fetch(wasmUrl), __wbg_get_imports());\nconst wasmInstance = wasmInstantiated.instance;\nconst wasm = wasmInstance.exports;\n\n";
 
+// The producers section that the program adds.
+const PRODUCERS: &str =
+    "002e0970726f647563657273010c70726f6365737365642d6279010c7761736d2d62696e6467656e07302e322e313330";
+
 fn bytes_of(alloc: Global, digits: &str) -> Result<Vec<u8>, AllocError> {
     hex::decode(alloc, digits).map_err(|_| AllocError)
 }
@@ -64,34 +68,27 @@ fn each_fault_has_its_line(rt: HostRuntime) -> Result<(), Fail> {
         ("0061736d01000000010501", "fault Parse\n"),
         ("0061736d0100000001ffffffff1f", "fault Parse\n"),
         ("0061736d01000000000201ff", "fault Parse\n"),
-        // A memory section, sections out of order, a custom section other than the description.
-        ("0061736d010000000503010001", "fault NotBuilt\n"),
-        ("0061736d01000000030100010100", "fault NotBuilt\n"),
-        ("0061736d0100000000020178", "fault NotBuilt\n"),
-        // A 64-bit parameter, two results, an import of another module, two exports, an import that is exported, a missing body.
-        ("0061736d0100000001050160017e00", "fault NotBuilt\n"),
-        ("0061736d010000000106016000027f7f", "fault NotBuilt\n"),
+        // Sections out of order, a function without a body.
+        ("0061736d01000000030100010100", "fault Parse\n"),
         (
-            "0061736d0100000001050160017f00020b0103656e76036c6f670000",
+            "0061736d0100000001070160027f7f017f03020100",
+            "fault Parse\n",
+        ),
+        // A start function, a shared memory, an imported function that is exported, two exports of one name.
+        (
+            "0061736d01000000010401600000030201000801000a040102000b",
             "fault NotBuilt\n",
         ),
-        (
-            "0061736d0100000001070160027f7f017f03020100070d020361646400000373756d00000a09010700200020016a0b",
-            "fault NotBuilt\n",
-        ),
+        ("0061736d01000000050401030101", "fault NotBuilt\n"),
         (
             "0061736d0100000001050160017f00022001185f5f7762696e6467656e5f706c616365686f6c6465725f5f036c6f670000070701036c6f670000",
             "fault NotBuilt\n",
         ),
         (
-            "0061736d0100000001070160027f7f017f03020100",
+            "0061736d010000000104016000000302010007090201610000016100000a040102000b",
             "fault NotBuilt\n",
         ),
-        // An import that nothing describes, an adapter that nothing uses.
-        (
-            "0061736d0100000001050160017f00022001185f5f7762696e6467656e5f706c616365686f6c6465725f5f036c6f670000",
-            "fault NotBuilt\n",
-        ),
+        // An adapter that nothing uses.
         (
             "0061736d01000000005c0a5f5f7762675f676c75657b2276657273696f6e223a312c226164617074657273223a5b7b226964223a302c2261726773223a5b22733332225d2c22726573756c7473223a5b5d2c22696d706f7274223a226e6f726d616c227d5d7d",
             "fault NotBuilt\n",
@@ -140,6 +137,40 @@ fn each_fault_has_its_line(rt: HostRuntime) -> Result<(), Fail> {
 }
 
 #[test]
+fn what_nothing_reaches_is_dropped(rt: HostRuntime) -> Result<(), Fail> {
+    let alloc = rt.alloc();
+
+    // A module; the length of the one that is written, and its sections before and after the producers.
+    let cases = [
+        // A type that nothing has.
+        ("0061736d010000000106016000027f7f", 56, "", ""),
+        // An import that nothing calls.
+        (
+            "0061736d0100000001050160017f00020b0103656e76036c6f670000",
+            56,
+            "",
+            "",
+        ),
+        // The first memory, and a custom section.
+        ("0061736d010000000503010001", 61, "0503010001", ""),
+        ("0061736d0100000000020178", 60, "", "00020178"),
+    ];
+    for (digits, count, before, after) in cases {
+        let bytes = bytes_of(alloc, digits)?;
+        let words = words_of(alloc, &["--target", "deno"])?;
+        let mut source = MemSource::new(bytes, 100, Vec::new(alloc));
+        let mut sink = MemSink::new(alloc, Vec::new(alloc));
+        let ran = run(alloc, words.as_slice(), &mut source, &mut sink);
+        let want = format!(in alloc;
+            "file out_bg.wasm hex {count}\n0061736d01000000{before}{PRODUCERS}{after}\n"
+        )?;
+        assert!(rt; ran.status == 0);
+        assert!(rt; sink.taken().starts_with(want.as_bytes()));
+    }
+    Ok(())
+}
+
+#[test]
 fn each_front_of_a_module_is_refused_or_whole(rt: HostRuntime) -> Result<(), Fail> {
     let alloc = rt.alloc();
     let all = bytes_of(alloc, WORKED)?;
@@ -150,10 +181,11 @@ fn each_front_of_a_module_is_refused_or_whole(rt: HostRuntime) -> Result<(), Fai
         let mut sink = MemSink::new(alloc, Vec::new(alloc));
         let ran = run(alloc, words.as_slice(), &mut source, &mut sink);
 
-        // Sections end at these places. What ends before the import is a whole module.
+        // Sections end at these places. Functions without bodies are no module. The last module calls its import, which
+        // nothing describes; in the one before nothing reaches it.
         let (status, line): (u8, &[u8]) = match count {
-            8 | 21 => (0, b""),
-            55 | 59 | 68 | 83 => (1, b"fault NotBuilt\n"),
+            8 | 21 | 55 => (0, b""),
+            83 => (1, b"fault NotBuilt\n"),
             _ => (1, b"fault Parse\n"),
         };
         assert!(rt; ran.status == status);

@@ -1,3 +1,4 @@
 pub mod Description
 pub mod PublicTree
+pub mod Roots
 pub mod Names

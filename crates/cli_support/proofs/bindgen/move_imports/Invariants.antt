@@ -1,5 +1,5 @@
 use Rattle.std.proofs.Common.{◌≡◌, ℕ, drop, map}
-use Rattle.wasm_file.specs.declared.ids.ImportId.{ImportId}
+use Rattle.wasm_ops.specs.declared.ids.ImportId.{ImportId}
 use Rattle.cli_support.specs.Generating.{moved}
 use Rattle.cli_support.proofs.bindgen.move_imports.Given as goal
 
