@@ -1,16 +1,20 @@
 #!/usr/bin/env python3
 """Writes a WebAssembly module of N functions to standard output: make.py N > MODULE
 
-The module has one type, (i32, i32) -> i32, and N functions that add their two arguments. It has no import, no export
-and no custom section. Every number is written in its shortest form. The format is the binary format of the
-WebAssembly core specification, section 5.
+The module has one type, (i32, i32) -> i32, N functions that add their two arguments, and an exported table that holds
+them all, so that each can be reached. It has no import and no custom section. Every number is written in its shortest
+form. The format is the binary format of the WebAssembly core specification, section 5.
 """
 
 import sys
 
 PREAMBLE = b"\0asm\1\0\0\0"
-TYPE, FUNCTION, CODE = 1, 3, 10
+TYPE, FUNCTION, TABLE, EXPORT, ELEMENT, CODE = 1, 3, 4, 7, 9, 10
 ADD_TYPE = bytes([0x60, 2, 0x7F, 0x7F, 1, 0x7F])
+# A table of functions with so many places at least, its export, and a segment that fills it from place 0 on.
+FUNCTIONS = bytes([0x70, 0])
+TABLE_EXPORT = bytes([1]) + b"t" + bytes([1, 0])
+FROM_ZERO = bytes([0, 0x41, 0, 0x0B])
 # No locals; local.get 0, local.get 1, i32.add, end.
 ADD_BODY = bytes([0, 0x20, 0, 0x20, 1, 0x6A, 0x0B])
 
@@ -39,6 +43,9 @@ def module(count):
             PREAMBLE,
             section(TYPE, 1, ADD_TYPE),
             section(FUNCTION, count, leb128(0) * count),
+            section(TABLE, 1, FUNCTIONS + leb128(count)),
+            section(EXPORT, 1, TABLE_EXPORT),
+            section(ELEMENT, 1, FROM_ZERO + leb128(count) + b"".join(map(leb128, range(count)))),
             section(CODE, count, body * count),
         ]
     )

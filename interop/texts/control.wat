@@ -1,0 +1,23 @@
+;; Blocks, loops, branches, calls, and several results.
+(module
+  (type $pair (func (param i32) (result i32 i32)))
+  (table $t 2 10 funcref)
+  (elem (table $t) (i32.const 0) func $pair $swap)
+  (func $pair (type $pair) (local.get 0) (local.get 0))
+  (func $swap (type $pair) (local i32) (local.set 1 (local.get 0)) (local.get 1) (i32.const 1))
+  (func (export "blocks") (param i32) (result i32)
+    (local i32 i32 i64 f32 f32)
+    (block $out (result i32)
+      (loop $again
+        (br_if $again (local.tee 1 (i32.eqz (local.get 0))))
+        (if (local.get 0) (then (br $again)) (else (nop)))
+        (if (local.get 1) (then (return (i32.const 1)))))
+      (block $a (block $b (block $c (br_table $a $b $c $a (local.get 0)))))
+      (drop (br_if $out (i32.const 2) (local.get 0)))
+      (call_indirect $t (type $pair) (local.get 0) (local.get 2))
+      (i32.add)
+      (block (param i32) (result i32) (if (param i32) (result i32) (local.get 1) (then (i32.const 3) (i32.add)) (else)))))
+  (func (export "selected") (param i32 externref externref) (result externref)
+    (drop (select (i32.const 1) (i32.const 2) (local.get 0)))
+    (select (result externref) (local.get 1) (local.get 2) (local.get 0)))
+  (func (export "stopped") (unreachable)))
