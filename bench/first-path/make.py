@@ -7,6 +7,10 @@ form. The format is the binary format of the WebAssembly core specification, sec
 """
 
 import sys
+from pathlib import Path
+
+sys.path.insert(0, str(Path(__file__).resolve().parents[1]))
+from shared import leb128  # noqa: E402
 
 PREAMBLE = b"\0asm\1\0\0\0"
 TYPE, FUNCTION, TABLE, EXPORT, ELEMENT, CODE = 1, 3, 4, 7, 9, 10
@@ -17,16 +21,6 @@ TABLE_EXPORT = bytes([1]) + b"t" + bytes([1, 0])
 FROM_ZERO = bytes([0, 0x41, 0, 0x0B])
 # No locals; local.get 0, local.get 1, i32.add, end.
 ADD_BODY = bytes([0, 0x20, 0, 0x20, 1, 0x6A, 0x0B])
-
-
-def leb128(value):
-    """The shortest unsigned LEB128 form of a number."""
-    out = bytearray()
-    while value > 0x7F:
-        out.append(value & 0x7F | 0x80)
-        value >>= 7
-    out.append(value)
-    return bytes(out)
 
 
 def section(number, count, entries):

@@ -5,12 +5,13 @@ The program is crates/glue_program/out/glue_program, which the script `glue` at 
 """
 
 import math
-import os
 import subprocess
 import sys
 import tempfile
-import time
 from pathlib import Path
+
+sys.path.insert(0, str(Path(__file__).resolve().parents[1]))
+from shared import run  # noqa: E402
 
 HERE = Path(__file__).resolve().parent
 PROGRAM = HERE.parents[1] / "crates/glue_program/out/glue_program"
@@ -43,22 +44,6 @@ def check(path):
         sys.exit(f"{path.name}: status {child.returncode}, first line: {header}")
 
 
-def run(path):
-    """One run: seconds by the wall clock, and the program's peak resident memory in bytes.
-
-    Linux counts what this process held at the start of the program as the program's, so this process stays small.
-    """
-    with path.open("rb") as module:
-        begin = time.perf_counter()
-        child = subprocess.Popen(COMMAND, stdin=module, stdout=subprocess.DEVNULL)
-        _, status, usage = os.wait4(child.pid, 0)
-        seconds = time.perf_counter() - begin
-    child.returncode = os.waitstatus_to_exitcode(status)
-    if child.returncode != 0:
-        sys.exit(f"{path.name}: status {child.returncode}")
-    return seconds, usage.ru_maxrss * 1024
-
-
 def exponent(before, after, name):
     """How a figure grows between two sizes: 1 where it grows as the number of functions does."""
     return math.log(after[name] / before[name]) / math.log(after["count"] / before["count"])
@@ -69,7 +54,7 @@ def measure(count, folder):
     path = folder / f"{count}.wasm"
     make(count, path)
     check(path)
-    runs = [run(path) for _ in range(RUNS)]
+    runs = [run(COMMAND, path) for _ in range(RUNS)]
     return {
         "count": count,
         "bytes": path.stat().st_size,

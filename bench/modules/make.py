@@ -9,6 +9,10 @@ shortest form. The format is the binary format of the WebAssembly core specifica
 
 import random
 import sys
+from pathlib import Path
+
+sys.path.insert(0, str(Path(__file__).resolve().parents[1]))
+from shared import leb128 as unsigned  # noqa: E402
 
 PREAMBLE = b"\0asm\1\0\0\0"
 TYPE, FUNCTION, TABLE, MEMORY, EXPORT, ELEMENT, CODE = 1, 3, 4, 5, 7, 9, 10
@@ -17,16 +21,6 @@ I32, I64, F64, FUNCREF = 0x7F, 0x7E, 0x7C, 0x70
 PARAMETERS, LOCALS_I32, LOCALS_I64, LOCALS_F64 = 2, 4, 2, 1
 FIRST_I64 = PARAMETERS + LOCALS_I32
 FIRST_F64 = FIRST_I64 + LOCALS_I64
-
-
-def unsigned(value):
-    """The shortest unsigned LEB128 form of a number."""
-    out = bytearray()
-    while value > 0x7F:
-        out.append(value & 0x7F | 0x80)
-        value >>= 7
-    out.append(value)
-    return bytes(out)
 
 
 def signed(value):

@@ -8,13 +8,14 @@ makes of program.rs, without optimisation with debug sections, and optimised.
 """
 
 import math
-import os
 import shutil
 import subprocess
 import sys
 import tempfile
-import time
 from pathlib import Path
+
+sys.path.insert(0, str(Path(__file__).resolve().parents[1]))
+from shared import run  # noqa: E402
 
 HERE = Path(__file__).resolve().parent
 PROGRAM = HERE.parents[1] / "crates/glue_program/out/glue_program"
@@ -23,31 +24,14 @@ RUNS = 3
 
 
 def commands(path, folder):
-    """What is measured: a name, the words, and whether the module is standard input."""
+    """What is measured: a name and the words."""
     out = str(folder / "out.wasm")
     return [
-        ("program", [str(PROGRAM), "--target", "deno"], True),
-        ("wasm-strip", ["wasm-strip", str(path), "-o", out], False),
-        ("wasm-opt", ["wasm-opt", "-O0", "--all-features", str(path), "-o", out], False),
-        ("xxd", ["xxd", "-p", str(path)], False),
+        ("program", [str(PROGRAM), "--target", "deno"]),
+        ("wasm-strip", ["wasm-strip", str(path), "-o", out]),
+        ("wasm-opt", ["wasm-opt", "-O0", "--all-features", str(path), "-o", out]),
+        ("xxd", ["xxd", "-p", str(path)]),
     ]
-
-
-def run(words, path, by_input):
-    """One run: seconds by the wall clock, and the peak resident memory in bytes.
-
-    Linux counts what this process held at the start of the command as the command's, so this process stays small.
-    """
-    with path.open("rb") as module:
-        begin = time.perf_counter()
-        stdin = module if by_input else subprocess.DEVNULL
-        child = subprocess.Popen(words, stdin=stdin, stdout=subprocess.DEVNULL, stderr=subprocess.DEVNULL)
-        _, status, usage = os.wait4(child.pid, 0)
-        seconds = time.perf_counter() - begin
-    child.returncode = os.waitstatus_to_exitcode(status)
-    if child.returncode != 0:
-        sys.exit(f"{path.name}: {Path(words[0]).name} ended with status {child.returncode}")
-    return seconds, usage.ru_maxrss * 1024
 
 
 def generated(folder):
@@ -75,8 +59,8 @@ def compiled(folder):
 def measure(path, folder):
     """The least of the runs of each command, of the seconds and of the memory."""
     figures = {"bytes": path.stat().st_size}
-    for name, words, by_input in commands(path, folder):
-        runs = [run(words, path, by_input) for _ in range(RUNS)]
+    for name, words in commands(path, folder):
+        runs = [run(words, path) for _ in range(RUNS)]
         figures[name] = min(seconds for seconds, _ in runs)
         figures[name, "memory"] = min(memory for _, memory in runs)
     return figures

@@ -1,0 +1,33 @@
+"""What the scripts of this folder share: a number's bytes, and the time and memory of one run of a command."""
+
+import os
+import subprocess
+import sys
+import time
+from pathlib import Path
+
+
+def leb128(value):
+    """The shortest unsigned LEB128 form of a number (WebAssembly core specification, 5.2.2)."""
+    out = bytearray()
+    while value > 0x7F:
+        out.append(value & 0x7F | 0x80)
+        value >>= 7
+    out.append(value)
+    return bytes(out)
+
+
+def run(words, path):
+    """One run with a file as standard input: seconds by the wall clock, and the peak resident memory in bytes.
+
+    Linux counts what this process held at the start of the command as the command's, so this process stays small.
+    """
+    with path.open("rb") as module:
+        begin = time.perf_counter()
+        child = subprocess.Popen(words, stdin=module, stdout=subprocess.DEVNULL, stderr=subprocess.DEVNULL)
+        _, status, usage = os.wait4(child.pid, 0)
+        seconds = time.perf_counter() - begin
+    child.returncode = os.waitstatus_to_exitcode(status)
+    if child.returncode != 0:
+        sys.exit(f"{path.name}: {Path(words[0]).name} ended with status {child.returncode}")
+    return seconds, usage.ru_maxrss * 1024
