@@ -14,6 +14,3 @@ mod step;
 
 pub use binding::bind;
 pub use step::Step;
-
-#[cfg(test)]
-mod tests;

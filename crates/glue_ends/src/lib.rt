@@ -23,6 +23,3 @@ pub use reading::{Stop, read_whole};
 pub use sink::{Sink, WriteFault};
 pub use source::{ReadFailed, Source};
 pub use standard::{ReadEnd, WriteEnd};
-
-#[cfg(test)]
-mod tests;

@@ -7,6 +7,3 @@
 mod layout;
 
 pub use layout::reset_indentation;
-
-#[cfg(test)]
-mod tests;

@@ -14,8 +14,6 @@ mod fields;
 mod lowering;
 mod members;
 mod reads;
-#[cfg(test)]
-mod tests;
 mod whole;
 
 pub use lowering::{JsonLowering, Lowering};

@@ -41,7 +41,10 @@ pub struct JsonLowering {
 }
 
 impl JsonLowering {
-    pub fn new() -> JsonLowering {
+    /// It has not failed yet.
+    pub fn new() -> JsonLowering
+        ensures { result ≡ record { faults = 0 } }
+    {
         JsonLowering { faults: 0 }
     }
 }

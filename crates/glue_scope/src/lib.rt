@@ -26,6 +26,3 @@ pub use printing::print;
 pub use property::{is_computed_key, property_words};
 pub use tables::{key_text, punct_text, regex_text};
 pub use word::{NoteKind, Word};
-
-#[cfg(test)]
-mod tests;

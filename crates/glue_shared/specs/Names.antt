@@ -1,5 +1,5 @@
 -- Names of the outside, names that each glue file may bind, and imports that a glue file defines.
-use Rattle.std.specs.Prelude.{ℕ, zero, suc, ◌+◌, ◌==◌, ◌&&◌, ◌||◌, not, Bool, true, false, List, [], ◌∷◌, ◌++◌, map, codes, if◌then◌else◌, Option, Some, None, bytes_eq, option_and_then, is_some}
+use Rattle.std.specs.Prelude.{ℕ, zero, suc, ◌+◌, ◌==◌, ◌&&◌, ◌||◌, not, Bool, true, false, List, [], ◌∷◌, ◌++◌, map, codes, if◌then◌else◌, Option, Some, None, bytes_eq, is_some}
 use Rattle.std.specs.Fmt.{decimal}
 use Rattle.std.specs.List.{list_any, list_all, flat_map, filter, count_by}
 use Rattle.std.specs.Ordering.{nat_cmp}
@@ -9,7 +9,6 @@ use Rattle.wasm_core.specs.Contents.{Contents}
 use Rattle.wasm_core.specs.declared.types.Import.{Import}
 use Rattle.wasm_core.specs.declared.types.Memory.{Memory}
 use Rattle.glue_shared.specs.declared.adapter.Adapter.{Adapter}
-use Rattle.glue_shared.specs.declared.adapter.AdapterJsImportKind.{AdapterJsImportKind}
 use Rattle.glue_shared.specs.declared.adapter.AdapterJsImportKind.TheVariants as call
 use Rattle.glue_shared.specs.declared.adapter.AdapterKind.{AdapterKind}
 use Rattle.glue_shared.specs.declared.adapter.AdapterKind.TheVariants as kind

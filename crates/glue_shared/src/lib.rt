@@ -14,8 +14,6 @@ mod kept;
 mod name_tests;
 mod names;
 mod settings;
-#[cfg(test)]
-mod tests;
 
 pub use adapter::{
     Adapter, AdapterId, AdapterJsImportKind, AdapterKind, AdapterType, Instruction,

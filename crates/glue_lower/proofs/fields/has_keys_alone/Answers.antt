@@ -1,4 +1,4 @@
-use Rattle.std.proofs.Common.{◌≡◌, sym, ◌∙◌}
+use Rattle.std.proofs.Common.{sym, ◌∙◌}
 use Rattle.glue_lower.proofs.Lists.{has_only_object}
 use Rattle.glue_lower.proofs.fields.has_keys_alone.Goals as goal
 

@@ -1,4 +1,4 @@
-use Rattle.std.proofs.Common.{◌≡◌, Some, map, take, drop, ◌++◌, option_map}
+use Rattle.std.proofs.Common.{◌≡◌, map, drop, ◌++◌, option_map}
 use Rattle.serde_json.specs.View.{view}
 use Rattle.glue_lower.specs.Reading.{read_all}
 use Rattle.glue_lower.proofs.fields.read_items.Given as goal

@@ -1,4 +1,4 @@
-use Rattle.std.proofs.Common.{◌≡◌, ap, ◌+◌, ◌∙◌, sym, arith}
+use Rattle.std.proofs.Common.{ap, ◌+◌, ◌∙◌, sym}
 use Rattle.glue_shared.proofs.Sets.{placed_found, placed_on}
 use Rattle.glue_shared.proofs.name_tests.is_placed.Goals as goal
 

@@ -1,4 +1,4 @@
-use crate::reset_indentation;
+use glue_layout::reset_indentation;
 use std::test::Fail;
 
 #[test]

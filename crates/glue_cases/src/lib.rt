@@ -1,0 +1,19 @@
+//! Tests of the crates from `glue_scope` to `cli_support`: texts and files that were worked out by hand.
+#![tactic(auto)]
+
+#[cfg(test)]
+mod binding;
+#[cfg(test)]
+mod ends;
+#[cfg(test)]
+mod heap;
+#[cfg(test)]
+mod layout;
+#[cfg(test)]
+mod lower;
+#[cfg(test)]
+mod scope;
+#[cfg(test)]
+mod shared;
+#[cfg(test)]
+mod support;

@@ -1,0 +1,115 @@
+use cli_support::{Bindgen, Fault, JsonLowering, Output, SetFault};
+use glue_ends::PlannedFile;
+use std::alloc::{AllocError, Global};
+use std::test::Fail;
+use wasm_core::EmitFault;
+
+const EMPTY: &[u8] = b"\0asm\x01\0\0\0";
+
+#[test]
+fn a_target_is_chosen_once(rt: HostRuntime) -> Result<(), Fail> {
+    let mut generator = Bindgen::new(false, false);
+    assert!(rt; generator.deno(false).is_ok());
+    assert!(rt; generator.deno(true).is_ok());
+    let twice = match generator.deno(true) {
+        Err(SetFault::ModeTwice) => true,
+        _ => false,
+    };
+    assert!(rt; twice);
+    Ok(())
+}
+
+#[test]
+fn the_input_gives_the_stem(rt: HostRuntime) -> Result<(), Fail> {
+    let alloc = rt.alloc();
+    let mut generator = Bindgen::new(false, false);
+    assert!(rt; generator.stem().is_err());
+    generator.input_bytes(alloc, "out", EMPTY.to_vec(alloc)?)?;
+    assert!(rt; generator.stem() == Ok("out"));
+    Ok(())
+}
+
+/// What is made for Deno or for no target, with this name and these bytes.
+fn made(alloc: Global, deno: bool, name: &str, bytes: &[u8]) -> Result<Output, Fault> {
+    let mut generator = Bindgen::new(false, false);
+    if generator.deno(deno).is_err() {
+        return Err(Fault::OutOfMemory);
+    }
+    generator.input_bytes(alloc, name, bytes.to_vec(alloc)?)?;
+    generator.generate_output(alloc, &mut JsonLowering::new())
+}
+
+/// The fault of that, nothing without one.
+fn fault_told(alloc: Global, deno: bool, name: &str, bytes: &[u8]) -> Result<String, AllocError> {
+    match made(alloc, deno, name, bytes) {
+        Ok(_) => Ok(String::new(alloc)),
+        Err(fault) => format!(in alloc; "{fault:?}"),
+    }
+}
+
+const FAULTS: &[(bool, &str, &[u8], &str)] = &[
+    (true, "", b"", "BadStem"),
+    (true, "a/b", b"", "BadStem"),
+    (true, "a b", b"", "BadStem"),
+    // Seven bytes end at place 7.
+    (false, "out", b"\0asm\x01\0\0", "Parse { place: 7 }"),
+    // Another target than Deno, an import that is exported and that nothing describes.
+    (
+        false,
+        "out",
+        EMPTY,
+        "NotBuilt { what: Text { string: \"target\" } }",
+    ),
+    (
+        true,
+        "out",
+        b"\0asm\x01\0\0\0\x01\x05\x01\x60\x01\x7f\0\x02\x20\x01\x18__wbindgen_placeholder__\x03log\0\0\x07\x07\x01\x03log\0\0",
+        "NotBuilt { what: Text { string: \"description\" } }",
+    ),
+];
+
+#[test]
+fn faults_come_in_their_order(rt: HostRuntime) -> Result<(), Fail> {
+    for (deno, name, bytes, want) in FAULTS {
+        assert_eq!(rt; fault_told(rt.alloc(), *deno, name, bytes)?.as_str(), *want);
+    }
+    Ok(())
+}
+
+#[test]
+fn an_input_is_wanted(rt: HostRuntime) {
+    let mut generator = Bindgen::new(false, false);
+    let given = generator.generate_output(rt.alloc(), &mut JsonLowering::new());
+    assert!(rt; matches!(given, Err(Fault::NoInput)));
+}
+
+/// How many items there are, whether the module's start function is run by them, whether there is a text, how many
+/// imports the module has, and how long the two files are.
+fn output_told(alloc: Global, output: &Output) -> Result<String, EmitFault> {
+    let files = output.files(alloc)?;
+    let lengths = lengths_told(alloc, files.as_slice())?;
+    let items = output.items().len();
+    let has_start = output.start().is_some();
+    let has_text = output.js().len() > 0;
+    let imports = output.wasm().imports().len();
+    Ok(format!(in alloc; "{items} {has_start} {has_text} {imports}{lengths}")?)
+}
+
+fn lengths_told(alloc: Global, files: &[PlannedFile]) -> Result<String, AllocError> {
+    let mut out = String::new(alloc);
+    for file in files {
+        let length = file.bytes.len();
+        out.push_str(format!(in alloc; " {length}")?.as_str())?;
+    }
+    Ok(out)
+}
+
+#[test]
+fn the_empty_module_has_a_frame_and_loading(rt: HostRuntime) -> Result<(), Fail> {
+    let output = made(rt.alloc(), true, "out", EMPTY)?;
+    assert_eq!(rt;
+        output_told(rt.alloc(), &output)?.as_str(),
+        "3 false true 0 56 406"
+    );
+    Ok(())
+}

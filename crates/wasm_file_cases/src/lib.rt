@@ -1,0 +1,5 @@
+//! Tests of `wasm_file`: files of the standard, good ones and faulty ones with the places of their faults.
+#![tactic(auto)]
+
+#[cfg(test)]
+mod file;
