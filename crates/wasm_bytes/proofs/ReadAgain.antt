@@ -5,7 +5,7 @@ use Rattle.std.specs.List.{flat_map, AllByRecursion}
 use Rattle.std.proofs.lemmas.Bool.{le-ltb, lt-ltb, le-leb, lt-leb, cases_lt}
 use Rattle.std.proofs.lemmas.Int.{ints}
 use Rattle.std.proofs.lemmas.List.{length-append, take_at, drop_at}
-use Rattle.wasm_bytes.specs.Reading.{Input, followed, ◌>>=◌, pure, byte, raw, frame, within, framed, allowed, meant, entries}
+use Rattle.wasm_bytes.specs.Reading.{Input, followed, ◌>>=◌, pure, byte, raw, frame, within, framed, filled, allowed, meant, entries}
 use Rattle.wasm_bytes.specs.Numbers.{unsigned_from, number32, number64, shortest, number_bytes}
 use Rattle.wasm_bytes.specs.Signed.{signed_from, signed32, signed33, signed64, shortest_signed, signed_bytes, signed_digit, is_digit, low_bits, IsWithin}
 use Rattle.wasm_bytes.specs.Items.{index}
@@ -53,6 +53,15 @@ reads_framed {content} {a} {x} h = record {
       let inner : content (record { place = place; bytes = a }) ≡ Ok (x, record { place = p.0; bytes = [] }) = rw append-nil at p.1 in
       let long : ltb (length (a ++ rest)) (length a) ≡ false = le-ltb _ _ (omega (arith, length-append a rest)) in
       (place + length a, rw (long, take_at a rest (length a) refl, drop_at a rest (length a) refl, inner) refl);
+}
+
+pub reads_filled : {A : Type 0} {content : Input → Result (A × Input) ℕ} {a : List ℕ} {x : A} → Reads content a x → Reads (filled (length a) content) a x
+reads_filled {content} {a} {x} h = record {
+  again = λ place rest.
+      let p = h.again place [] in
+      let inner : content (record { place = place; bytes = a }) ≡ Ok (x, record { place = p.0; bytes = [] }) = rw append-nil at p.1 in
+      let long : ltb (length (a ++ rest)) (length a) ≡ false = le-ltb _ _ (omega (arith, length-append a rest)) in
+      (place + length a, rw (take_at a rest (length a) refl, inner, long, drop_at a rest (length a) refl) refl);
 }
 
 -- ---- numbers

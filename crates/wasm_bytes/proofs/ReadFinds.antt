@@ -5,7 +5,7 @@ use Rattle.std.specs.List.{AllByRecursion}
 use Rattle.std.proofs.lemmas.Bool.{le-ltb, lt-ltb, ltb-true, ltb-false, leb-true, cases_lt, cases_Bool}
 use Rattle.std.proofs.lemmas.Int.{ints}
 use Rattle.std.proofs.lemmas.List.{length-take-le}
-use Rattle.wasm_bytes.specs.Reading.{Input, followed, ◌>>=◌, pure, fault, byte, first_of, raw, allowed, meant, or_fault, entries, frame, within, nothing_left, nothing_at, collected, gathered}
+use Rattle.wasm_bytes.specs.Reading.{Input, followed, ◌>>=◌, pure, fault, byte, first_of, raw, allowed, meant, or_fault, entries, frame, within, part, filled, nothing_left, nothing_at, collected, gathered}
 use Rattle.wasm_bytes.specs.Numbers.{unsigned_from, number32, number64}
 use Rattle.wasm_bytes.specs.Signed.{signed_from, signed32, signed33, signed64, signed_digit, last_allowed, IsWithin}
 use Rattle.wasm_bytes.specs.Items.{index}
@@ -137,6 +137,19 @@ finds_framed {A} {P} {content} n h = record {
       let q = steps_of (content p.0) (λ x rest. followed (nothing_left rest) (λ _ _. Ok (x, p.1))) y u p.3 in
       let e = steps_of (nothing_left q.1) (λ _ _. Ok (q.0, p.1)) y u q.3 in
       (subst P (same_value q.0 y p.1 u e.3) (h.found p.0 q.1 q.0 b.0 q.2).0, subst (λ (s : Input). AreBytes s.bytes) (same_rest q.0 y p.1 u e.3) b.1);
+}
+
+part_at : (n : ℕ) (s : Input) → AreBytes s.bytes → AreBytes (part n s).bytes
+part_at n s bytes = bytes_taken n s.bytes bytes
+
+pub finds_filled : {A : Type 0} {P : A → Type 0} {content : Input → Result (A × Input) ℕ} (n : ℕ) → Finds content P → Finds (filled n content) P
+finds_filled {A} {P} {content} n h = record {
+  found = λ s u y bytes is.
+      let p = steps_of (content (part n s)) (λ x rest. followed (nothing_left rest) (λ _ _. followed (frame n s) (λ _ after. Ok (x, after)))) y u is in
+      let e = steps_of (nothing_left p.1) (λ _ _. followed (frame n s) (λ _ after. Ok (p.0, after))) y u p.3 in
+      let q = steps_of (frame n s) (λ _ after. Ok (p.0, after)) y u e.3 in
+      let b = framed_at n s q.0 q.1 bytes q.2 in
+      (subst P (same_value p.0 y q.1 u q.3) (h.found (part n s) p.1 p.0 (part_at n s bytes) p.2).0, subst (λ (s : Input). AreBytes s.bytes) (same_rest p.0 y q.1 u q.3) b.1);
 }
 
 -- ---- lists

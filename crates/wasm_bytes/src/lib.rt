@@ -24,6 +24,3 @@ pub use number::{push_i32, push_i64, push_number, push_u32};
 pub use reader::Reader;
 pub use spell::{Spell, write_entries, write_framed, write_list, write_name};
 pub use step::{Step, read_steps};
-
-#[cfg(test)]
-mod tests;

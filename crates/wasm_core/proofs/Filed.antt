@@ -1,5 +1,5 @@
 -- Counting and writing what stands in a file for a module's entries.
-use Rattle.std.proofs.Common.{◌≡◌, ℕ, suc, Bool, cond, List, [], ◌∷◌, ◌++◌, map, length, take, count_by, Option, Some, None, is_some, refl, sym, ap, ◌∙◌, ◌≤◌}
+use Rattle.std.proofs.Common.{◌≡◌, ℕ, suc, cond, List, [], ◌∷◌, ◌++◌, map, length, take, count_by, Option, Some, None, is_some, refl, sym, ap, ◌∙◌, ◌≤◌}
 use Rattle.std.specs.List.{flat_map, filter, filter_map, cons_option}
 use Rattle.std.proofs.lemmas.List.{take_all}
 use Rattle.std.proofs.lemmas.List.Sums.{length-filter}

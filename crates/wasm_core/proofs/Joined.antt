@@ -1,12 +1,11 @@
 -- How many functions there are.
-use Rattle.std.proofs.Common.{◌≡◌, ℕ, suc, ◌+◌, ◌≤◌, List, [], ◌∷◌, ◌++◌, length, map, Option, Some, None, arith}
+use Rattle.std.proofs.Common.{ℕ, suc, ◌+◌, ◌≤◌, List, [], ◌∷◌, length, map, Option, Some, None, arith}
 use Rattle.std.specs.List.{filter_map, cons_option, enumerate_from}
 use Rattle.std.proofs.lemmas.List.{length-map, length-append}
 use Rattle.std.proofs.lemmas.List.FromFn.{length-enumerate_from}
 use Rattle.wasm_ops.specs.declared.ids.TypeId.{TypeId}
 use Rattle.wasm_ops.specs.declared.ops.Body.{Body}
 use Rattle.wasm_file.specs.declared.entries.FileImport.{FileImport}
-use Rattle.wasm_core.specs.declared.types.Func.{Func}
 use Rattle.wasm_core.specs.Parsing.{brought, joined, imported_func, own_funcs}
 
 -- no more is kept than there is

@@ -1,5 +1,5 @@
 -- Naming one function after another gives each the last name that is given to it.
-use Rattle.std.proofs.Common.{◌≡◌, ◌≢◌, ℕ, ◌+◌, ◌<◌, ◌≤◌, eqb, List, [], ◌∷◌, length, map, fold, get_or, slice_get, Option, Some, None, refl, sym, ap, ◌∙◌, arith, inl, inr, zero-add, ne_eqb, eq-eqb}
+use Rattle.std.proofs.Common.{◌≡◌, ℕ, ◌+◌, ◌<◌, List, [], ◌∷◌, length, map, fold, get_or, slice_get, Option, Some, None, refl, sym, ap, ◌∙◌, arith, inl, inr, zero-add, ne_eqb, eq-eqb}
 use Rattle.std.specs.List.{enumerate_from}
 use Rattle.std.proofs.lemmas.Bool.{cases_eq}
 use Rattle.std.proofs.lemmas.List.{length-set, length-map, get_or-map, get_or-set_same, get_or-set_other, same_lists}

@@ -15,6 +15,7 @@ use Rattle.wasm_file.specs.declared.entries.Segment.{Segment}
 use Rattle.wasm_file.specs.declared.entries.ProducerField.{ProducerField}
 use Rattle.wasm_core.specs.declared.types.ParseConfig.{ParseConfig}
 
+-- The lists of a module: what stands at the places of each kind, and what is of the whole.
 pub record Contents : Type 0 where
   pub types : List (Option FuncType)
   pub funcs : List (Option Func)

@@ -1,5 +1,5 @@
 -- What the editing calls make of a module.
-use Rattle.std.specs.Prelude.{ℕ, Bool, false, not, ◌==◌, ◌&&◌, length, List, [], ◌∷◌, ◌++◌, map, codes, Option, Some, None, slice_get, slice_set, nat_eq, if◌then◌else◌}
+use Rattle.std.specs.Prelude.{ℕ, Bool, false, not, ◌==◌, ◌&&◌, length, List, [], ◌∷◌, ◌++◌, map, codes, Option, Some, None, slice_get, slice_set, if◌then◌else◌}
 use Rattle.std.specs.List.{list_any, filter, find, position_from}
 use Rattle.std.specs.Option.{IsSomeAnd}
 use Rattle.std.specs.Cmp.Lexicographic.{pointwise}
@@ -13,16 +13,12 @@ use Rattle.wasm_ops.specs.declared.types.ValType.{ValType}
 use Rattle.wasm_ops.specs.Types.{code_of}
 use Rattle.wasm_file.specs.declared.entries.ExportItem.{ExportItem}
 use Rattle.wasm_file.specs.declared.entries.ExportItem.TheVariants as items
-use Rattle.wasm_file.specs.Customs.{lists_feature}
+use Rattle.wasm_file.specs.Customs.{is_same_text, lists_feature}
 use Rattle.wasm_core.specs.declared.types.Func.{Func}
 use Rattle.wasm_core.specs.declared.types.Tag.{Tag}
 use Rattle.wasm_core.specs.declared.types.ImportKind.{ImportKind}
 use Rattle.wasm_core.specs.declared.types.ImportKind.TheVariants as kinds
 use Rattle.wasm_core.specs.Contents.{Contents, IsLive}
-
--- two texts are one
-abbrev pub is_same_text : List ℕ → List ℕ → Bool
-is_same_text a b = pointwise nat_eq a b
 
 -- an entry of that name with the version, another as it is
 abbrev pub updated : List ℕ → List ℕ → ProducerValue → ProducerValue
@@ -46,6 +42,7 @@ unfoldable pub with_field : List ℕ → List ℕ → List ℕ → List Producer
 with_field field name version fields = map (updated_field field name version) fields
     ++ (if list_any (λ f. is_same_text f.name field) fields then [] else new_field field name version ∷ [])
 
+-- one tool more in the field of what processed the module
 unfoldable pub with_processed_by : List ℕ → List ℕ → Contents → Contents
 with_processed_by name version m = record m { producers = with_field (codes "processed-by") name version m.producers }
 
@@ -53,6 +50,7 @@ with_processed_by name version m = record m { producers = with_field (codes "pro
 abbrev pub is_named : List ℕ → Custom → Bool
 is_named name c = is_same_text c.name name
 
+-- no custom section of this name
 unfoldable pub without_custom : List ℕ → Contents → Contents
 without_custom name m = record m { customs = filter (λ c. not (is_named name c)) m.customs }
 
@@ -61,6 +59,7 @@ abbrev pub renamed : List ℕ → List ℕ → Option (Option Import) → Option
 renamed «module» name (Some (Some i)) = Some (record i { «module» = «module»; name = name })
 renamed «module» name _ = None
 
+-- the import at a place has this module and name
 unfoldable pub with_import : ℕ → List ℕ → List ℕ → Contents → Contents
 with_import i «module» name m = record m { imports = slice_set m.imports i (renamed «module» name (slice_get m.imports i)) }
 
@@ -85,9 +84,11 @@ abbrev pub func_named : List ℕ → Option (Option Func) → Option Func
 func_named name (Some (Some f)) = Some (record f { name = Some name })
 func_named name _ = None
 
+-- the function at a place has this name
 unfoldable pub with_func_name : ℕ → List ℕ → Contents → Contents
 with_func_name i name m = record m { funcs = slice_set m.funcs i (func_named name (slice_get m.funcs i)) }
 
+-- no start function
 unfoldable pub without_start : Contents → Contents
 without_start m = record m { start = None }
 
@@ -115,6 +116,7 @@ abbrev pub tag_localized : ℕ → Option ℕ → Contents → Contents
 tag_localized i (Some t) m = record m { imports = slice_set m.imports i None; tags = slice_set m.tags t (own_tag (slice_get m.tags t)) }
 tag_localized i None m = m
 
+-- the tag of an import is one of the module's own
 unfoldable pub localized : ℕ → Contents → Contents
 localized i m = tag_localized i (imported_tag (slice_get m.imports i)) m
 
@@ -135,6 +137,7 @@ is_same_type a b = code_of a == code_of b
 abbrev pub is_alike : FuncType → FuncType → Bool
 is_alike a b = pointwise is_same_type a.params b.params && pointwise is_same_type a.results b.results
 
+-- a type is there, and takes and gives the same
 abbrev pub is_entry_alike : FuncType → Option FuncType → Bool
 is_entry_alike ty (Some found) = is_alike found ty
 is_entry_alike ty None = false

@@ -3,7 +3,6 @@ use Rattle.std.specs.Prelude.{ℕ, ◌==◌, ◌&&◌, ◌||◌, Bool, true, fal
 use Rattle.std.specs.List.{flat_map, filter_map, enumerate_from}
 use Rattle.wasm_bytes.specs.Spelling.{list_bytes}
 use Rattle.wasm_ops.specs.Numbers.{number_at, renumbered_ops, renumbered_body}
-use Rattle.wasm_ops.specs.declared.ids.DataId.{DataId}
 use Rattle.wasm_ops.specs.declared.ids.FuncId.{FuncId}
 use Rattle.wasm_ops.specs.declared.ids.ImportId.{ImportId}
 use Rattle.wasm_ops.specs.declared.ids.MemoryId.{MemoryId}

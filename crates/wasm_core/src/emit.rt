@@ -272,7 +272,7 @@ fn emit_section(out: &mut Vec<u8>, longest: usize, id: u8, content: &[u8]) -> Re
 }
 
 /// Appends sections up to the first whose content has more bytes than so many.
-pub(crate) fn emit_sections(
+pub fn emit_sections(
     out: &mut Vec<u8>,
     longest: usize,
     sections: &[(u8, Seq<u8>)],

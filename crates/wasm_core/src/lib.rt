@@ -26,6 +26,7 @@ mod segments;
 mod types;
 
 pub use collect::collected_module_is_one;
+pub use emit::emit_sections;
 pub use faults::{EmitFault, ParseFault};
 pub use module::{LONGEST, Module, sections};
 pub use types::{Func, GlobalVar, Import, ImportKind, Memory, ParseConfig, Table, Tag};
@@ -37,10 +38,3 @@ pub use wasm_ops::{
     BlockType, Body, Catch, DataId, ElemId, ExportId, FuncId, FuncType, GlobalId, ImportId, Limits,
     MemArg, MemoryId, Op, TableId, TagId, TypeId, ValType,
 };
-
-#[cfg(test)]
-mod collect_tests;
-#[cfg(test)]
-mod edit_tests;
-#[cfg(test)]
-mod tests;

@@ -2,7 +2,8 @@
 
 ghost use Rattle.std.specs.Prelude.{◌≡◌, map, IfOk, OnOk, OnErr};
 ghost use Rattle.std.specs.List.{list_any};
-ghost use Rattle.wasm_core.specs.Edits.{updated, updated_field, new_field, is_same_text, with_version, with_field, with_processed_by};
+ghost use Rattle.wasm_file.specs.Customs.{is_same_text};
+ghost use Rattle.wasm_core.specs.Edits.{updated, updated_field, new_field, with_version, with_field, with_processed_by};
 
 use crate::module::Module;
 use std::alloc::{AllocError, Global};

@@ -28,6 +28,3 @@ pub use spelling::{write_custom, write_global_type, write_limits, write_section,
 
 /// The greatest number of entries of a kind.
 pub const MOST: u32 = 10_000_000;
-
-#[cfg(test)]
-mod tests;

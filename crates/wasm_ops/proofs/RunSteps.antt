@@ -1,5 +1,5 @@
 -- Runs of locals, one after another, as a loop does.
-use Rattle.std.proofs.Common.{drop, length, lt-ltb, Option, Some, None, append_assoc, ◌≡◌, ℕ, suc, ◌-◌, ◌+◌, ◌≤◌, ◌<◌, List, [], ◌∷◌, ◌++◌, Result, Ok, Err, refl, sym, ap, ◌∙◌, arith}
+use Rattle.std.proofs.Common.{drop, length, lt-ltb, Option, Some, None, append_assoc, ◌≡◌, ℕ, suc, ◌-◌, ◌+◌, ◌≤◌, ◌<◌, [], ◌∷◌, ◌++◌, Result, Ok, Err, refl, sym, ap, ◌∙◌, arith}
 use Rattle.std.proofs.lemmas.List.{append-nil, drop_all}
 use Rattle.wasm_bytes.specs.declared.fault.ReadFault.{ReadFault}
 use Rattle.wasm_bytes.specs.declared.fault.ReadFault.TheVariants as faults

@@ -1,8 +1,8 @@
 -- Function bodies and initial expressions.
-use Rattle.std.specs.Prelude.{ℕ, ◌+◌, ◌-◌, Bool, true, false, List, [], ◌∷◌, ◌++◌, length, take, Option, Some, None, Result, Ok, Err, ◌==◌, if◌then◌else◌}
+use Rattle.std.specs.Prelude.{ℕ, ◌+◌, ◌-◌, Bool, false, List, [], ◌∷◌, ◌++◌, length, take, Option, Some, None, Result, ◌==◌, if◌then◌else◌}
 use Rattle.std.specs.List.{sum_by}
 use Rattle.wasm_bytes.specs.declared.counts.Counts.{Counts}
-use Rattle.wasm_bytes.specs.Reading.{Input, followed, ◌>>=◌, pure, fault, byte, frame, within, collected}
+use Rattle.wasm_bytes.specs.Reading.{Input, followed, ◌>>=◌, pure, fault, byte, filled, collected}
 use Rattle.wasm_bytes.specs.Numbers.{number32}
 use Rattle.wasm_ops.specs.Shapes.{shape_within, initial_shape, named_blocks}
 use Rattle.wasm_ops.specs.Operands.{operands}
@@ -67,5 +67,4 @@ body counts params = do
 unfoldable pub code_entry : Counts → ℕ → Input → Result (Body × Input) ℕ
 code_entry counts params = do
   len ← number32
-  inside ← frame len
-  within inside (body counts params)
+  filled len (body counts params)

@@ -6,4 +6,3 @@ pub mod Locals
 pub mod Numbers
 pub mod Code
 pub mod Spelling
-pub mod Fits

@@ -1,5 +1,5 @@
 -- Runs of locals of one type.
-use Rattle.std.specs.Prelude.{ℕ, zero, suc, ◌+◌, ◌^◌, Bool, ◌&&◌, List, [], ◌∷◌, Option, Some, None, Result, nat_lt, nat_le, ◌==◌, if◌then◌else◌}
+use Rattle.std.specs.Prelude.{ℕ, zero, suc, ◌+◌, ◌^◌, ◌&&◌, List, [], ◌∷◌, Option, Some, None, Result, nat_lt, nat_le, ◌==◌, if◌then◌else◌}
 use Rattle.std.specs.List.{filter}
 use Rattle.wasm_bytes.specs.Reading.{Input, ◌>>=◌, pure, allowed}
 use Rattle.wasm_bytes.specs.Numbers.{number32}

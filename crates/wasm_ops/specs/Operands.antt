@@ -1,15 +1,14 @@
 -- What follows an opcode, and the operator that both make.
-use Rattle.std.specs.Prelude.{ℕ, ◌-◌, ◌/◌, ◌%◌, ℤ, pos, int_le, int_lt, unsigned_abs, Bool, ◌||◌, ◌&&◌, List, Option, Some, None, Result, Ok, Err, nat_lt, nat_le, ◌==◌, if◌then◌else◌}
+use Rattle.std.specs.Prelude.{ℕ, ◌-◌, ◌/◌, ◌%◌, ℤ, pos, int_le, int_lt, unsigned_abs, Bool, ◌||◌, ◌&&◌, List, Option, Some, None, Result, Ok, Err, nat_lt, ◌==◌, if◌then◌else◌}
 use Rattle.std.specs.Option.{option_map}
 use Rattle.wasm_bytes.specs.declared.counts.Counts.{Counts}
-use Rattle.wasm_bytes.specs.Reading.{Input, followed, ◌>>=◌, pure, fault, byte, raw, allowed, meant, entries, value_of}
+use Rattle.wasm_bytes.specs.Reading.{Input, ◌>>=◌, pure, byte, raw, allowed, meant, entries, value_of}
 use Rattle.wasm_bytes.specs.Numbers.{number32, number64}
 use Rattle.wasm_bytes.specs.Signed.{signed32, signed33, signed64}
 use Rattle.wasm_bytes.specs.Items.{index}
 use Rattle.wasm_ops.specs.Types.{val_type_of}
 use Rattle.wasm_ops.specs.Entries.{val_type, ref_type, type_index, func_index, table_index, memory_index, global_index, tag_index, elem_index, data_index}
 use Rattle.wasm_ops.specs.Shapes.{simd_shape}
-use Rattle.wasm_ops.specs.declared.ids.MemoryId.{MemoryId}
 use Rattle.wasm_ops.specs.declared.ops.Op.{Op}
 use Rattle.wasm_ops.specs.declared.ops.Op.TheVariants as ops
 use Rattle.wasm_ops.specs.declared.ops.BlockType.{BlockType}

@@ -167,8 +167,12 @@ fn read_body(
         ..*counts
     };
     let locals = join_runs(alloc, runs.as_slice())?;
-    let ops = read_expression(reader, alloc, &counts)?;
-    Ok(Body { locals, ops })
+    let mut ops = read_expression(reader, alloc, &counts)?.into_vec();
+    ops.shrink_to_fit();
+    Ok(Body {
+        locals,
+        ops: Seq::from_vec(ops),
+    })
 }
 
 /// A body behind its length, of a function with so many parameters.
@@ -181,9 +185,10 @@ pub fn read_code_entry(
 ) -> Result<Body, ReadFault>
     ensures { Gives result reader.new (code_entry counts.now params reader.old) }
 {
-    let len = reader.number32()?;
-    let mut inside = reader.frame(len as usize)?;
+    let len = reader.number32()? as usize;
+    let mut inside = reader.part(len);
     let body = read_body(&mut inside, alloc, counts, params)?;
     inside.finish()?;
+    let _ = reader.frame(len)?;
     Ok(body)
 }

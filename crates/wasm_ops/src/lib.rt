@@ -3,8 +3,7 @@
 //!
 //! A reader gives exactly what the grammar in `specs/` gives, with the place of the first fault, unless memory runs out. Open
 //! blocks are a list, so a body may nest as deeply as its bytes allow. What is written is exactly the spelling in `specs/`:
-//! numbers in their shortest form, runs of locals joined, entries by the numbers that a `Numbering` gives them. What is
-//! written is read again (`code_is_read_again`), where it fits the counts of what it names.
+//! numbers in their shortest form, runs of locals joined, entries by the numbers that a `Numbering` gives them.
 //!
 //! It stands on `wasm_bytes` and `values`.
 #![tactic(auto)]
@@ -12,7 +11,6 @@
 mod code;
 mod entries;
 mod ids;
-mod laws;
 mod locals;
 mod operands;
 mod ops;
@@ -25,10 +23,6 @@ pub use entries::read_ref_type;
 pub use ids::{
     DataId, ElemId, ExportId, FuncId, GlobalId, ImportId, MemoryId, TableId, TagId, TypeId,
 };
-pub use laws::{code_is_read_again, what_is_read_fits};
 pub use ops::{BlockType, Body, Catch, MemArg, Numbering, Op};
 pub use spelling::{number_at, write_code, write_expression};
 pub use types::{FuncType, Limits, ValType};
-
-#[cfg(test)]
-mod tests;

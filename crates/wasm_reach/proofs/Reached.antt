@@ -1,14 +1,14 @@
 -- The test of the least set gives the least set.
-use Rattle.std.proofs.Common.{◌≡◌, ◌⊎◌, ℕ, List, [], ◌∷◌, ◌++◌, map, Bool, true, false, true≢false, cond, refl, sym, ap, ◌∙◌, subst, inl, inr, All, arith}
-use Rattle.std.specs.Prelude.{not, ◌&&◌, ◌||◌, ◌==◌, if◌then◌else◌}
-use Rattle.std.specs.List.{list_any, list_all, filter}
+use Rattle.std.proofs.Common.{◌≡◌, ◌⊎◌, ℕ, List, [], ◌∷◌, ◌++◌, map, Bool, true, false, true≢false, cond, refl, sym, ap, ◌∙◌, inl, inr, All, arith}
+use Rattle.std.specs.Prelude.{not, ◌||◌, ◌==◌, if◌then◌else◌}
+use Rattle.std.specs.List.{list_all, filter}
 use Rattle.std.proofs.lemmas.Bool.{and_parts, eqb-true}
 use Rattle.std.proofs.lemmas.List.Elements.{All-nil, All-cons, All-head, All-tail}
 use Rattle.values.specs.Lists.{IsIn}
 use Rattle.values.proofs.Members.{in_left, in_right}
 use Rattle.wasm_reach.specs.declared.things.Thing.{Thing}
 use Rattle.wasm_reach.specs.declared.things.Thing.TheVariants as things
-use Rattle.wasm_reach.specs.Reach.{IsClosed, IsLeast}
+use Rattle.wasm_reach.specs.Reach.{IsLeast}
 use Rattle.wasm_reach.specs.Reached.{kind_of, place_of, is_same_thing, has, subsets, is_closed, is_reached}
 
 -- ---- things that are one

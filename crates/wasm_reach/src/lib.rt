@@ -2,7 +2,7 @@
 //! and what each of its members refers to.
 //!
 //! `search` marks exactly that set (`IsLeast` in `specs/Reach.antt`), unless memory runs out. What a thing names is asked
-//! once for each thing that is reached. It stands on std alone.
+//! once for each thing that is reached. It stands on `values`.
 #![tactic(auto)]
 
 mod found;

@@ -1,7 +1,7 @@
-use Rattle.std.proofs.Common.{◌≡◌, ◌≤◌, ◌+◌, ◌++◌, drop, count_by, is_some, length}
+use Rattle.std.proofs.Common.{◌≡◌, ◌≤◌, ◌+◌, ◌++◌, drop, length}
 use Rattle.std.specs.List.{flat_map, filter_map, enumerate_from}
 use Rattle.wasm_file.specs.Spelling.{func_name_bytes}
-use Rattle.wasm_core.specs.Emission.{name_at, some_bytes}
+use Rattle.wasm_core.specs.Emission.{name_at}
 use Rattle.wasm_core.proofs.names.write_func_names.Given as goal
 
 abbrev pub invariant-loop-place : goal.invariant-loop-place

@@ -1,6 +1,6 @@
 use Rattle.std.proofs.Common.{◌≡◌, drop}
 use Rattle.std.specs.List.{list_any}
-use Rattle.wasm_core.specs.Edits.{is_same_text}
+use Rattle.wasm_file.specs.Customs.{is_same_text}
 use Rattle.wasm_core.proofs.producers.has_value.Given as goal
 
 abbrev pub invariant-loop-value : goal.invariant-loop-value

@@ -1,5 +1,4 @@
 use Rattle.std.proofs.Common.{◌++◌, ap, ◌∙◌, sym, arith}
-use Rattle.wasm_ops.specs.Locals.{joined_behind}
 use Rattle.wasm_ops.proofs.RunSteps.{skips, begins, joins, parts}
 use Rattle.wasm_ops.proofs.locals.add_run.Goals as goal
 

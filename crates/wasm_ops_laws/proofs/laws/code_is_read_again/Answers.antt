@@ -1,7 +1,7 @@
-use Rattle.wasm_ops.proofs.OpAgain.{op_again}
-use Rattle.wasm_ops.proofs.CodeAgain.{expression_again, code_again}
-use Rattle.wasm_ops.proofs.InitialAgain.{initial_again}
-use Rattle.wasm_ops.proofs.laws.code_is_read_again.Goals as goal
+use Rattle.wasm_ops_laws.proofs.OpAgain.{op_again}
+use Rattle.wasm_ops_laws.proofs.CodeAgain.{expression_again, code_again}
+use Rattle.wasm_ops_laws.proofs.InitialAgain.{initial_again}
+use Rattle.wasm_ops_laws.proofs.laws.code_is_read_again.Goals as goal
 
 pub returns-clause-op : goal.returns-clause-op
 returns-clause-op c = op_again

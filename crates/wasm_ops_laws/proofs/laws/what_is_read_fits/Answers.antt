@@ -1,7 +1,7 @@
-use Rattle.wasm_ops.proofs.OpFinds.{op_found}
-use Rattle.wasm_ops.proofs.CodeFinds.{expression_found, code_found}
-use Rattle.wasm_ops.proofs.InitialFinds.{initial_found}
-use Rattle.wasm_ops.proofs.laws.what_is_read_fits.Goals as goal
+use Rattle.wasm_ops_laws.proofs.OpFinds.{op_found}
+use Rattle.wasm_ops_laws.proofs.CodeFinds.{expression_found, code_found}
+use Rattle.wasm_ops_laws.proofs.InitialFinds.{initial_found}
+use Rattle.wasm_ops_laws.proofs.laws.what_is_read_fits.Goals as goal
 
 pub returns-clause-op : goal.returns-clause-op
 returns-clause-op c = op_found

@@ -1,25 +1,21 @@
 -- Bodies and initial expressions that are read fit what they name.
-use Rattle.std.proofs.Common.{◌≡◌, ℕ, zero, suc, ◌+◌, ◌-◌, ◌<◌, ◌≤◌, ◌^◌, Bool, true, false, ◌||◌, List, [], ◌∷◌, ◌++◌, length, take, Option, Some, None, Result, Ok, Err, refl, sym, ap, subst, ◌∙◌, arith, inl, inr, ltb, leb, eqb, if◌then◌else◌}
-use Rattle.std.specs.Prelude.{◌⊎◌, ⊤}
-use Rattle.std.specs.List.{sum_by, AllByRecursion}
+use Rattle.std.proofs.Common.{◌≡◌, ℕ, zero, suc, ◌+◌, ◌-◌, ◌<◌, ◌≤◌, Bool, false, List, [], ◌∷◌, ◌++◌, length, Option, Some, None, Result, refl, sym, ap, subst, ◌∙◌, arith, inl, inr, leb, eqb}
+use Rattle.std.specs.Prelude.{◌⊎◌}
+use Rattle.std.specs.List.{sum_by}
 use Rattle.std.proofs.lemmas.Bool.{leb-true, eqb-true, eqb-false, cases_Bool}
 use Rattle.std.proofs.lemmas.List.{length-append, length-take-le}
 use Rattle.std.proofs.lemmas.List.Sums.{sum_by-cons}
 use Rattle.wasm_bytes.specs.declared.counts.Counts.{Counts}
-use Rattle.wasm_bytes.specs.Reading.{Input, followed, ◌>>=◌, pure, byte, allowed, frame, within, collected, gathered}
-use Rattle.wasm_bytes.specs.Numbers.{number32}
-use Rattle.wasm_bytes.specs.Reads.{AreBytes, Finds}
-use Rattle.wasm_bytes.proofs.ReadFinds.{steps_of, finds_pure, finds_fault, finds_bind, finds_if, finds_weaker, finds_byte, finds_allowed, finds_framed, finds_number32}
-use Rattle.wasm_ops.specs.Shapes.{shape_within}
-use Rattle.wasm_ops.specs.Locals.{Runs, run, runs, most_locals, joined_runs}
-use Rattle.wasm_ops.specs.Code.{closed, labels_after, op, next_op, expression, body, code_entry}
-use Rattle.wasm_ops.specs.Fits.{FitsOp, FitsOps, FitsBody, IsReadBody}
-use Rattle.wasm_ops.specs.declared.types.ValType.{ValType}
+use Rattle.wasm_bytes.specs.Reading.{Input, collected, gathered}
+use Rattle.wasm_bytes.specs.Reads.{Finds}
+use Rattle.wasm_bytes.proofs.ReadFinds.{finds_pure, finds_bind, finds_weaker, finds_allowed, finds_filled, finds_number32}
+use Rattle.wasm_ops.specs.Locals.{run, runs, most_locals, joined_runs}
+use Rattle.wasm_ops.specs.Code.{closed, labels_after, next_op, expression, body, code_entry}
+use Rattle.wasm_ops_laws.specs.Fits.{FitsOp, FitsOps, IsReadBody}
 use Rattle.wasm_ops.specs.declared.ops.Op.{Op}
 use Rattle.wasm_ops.specs.declared.ops.Op.TheVariants as ops
-use Rattle.wasm_ops.specs.declared.ops.Body.{Body}
-use Rattle.wasm_ops.proofs.JoinedAgain.{joined_runs_again, sum_of_joined_runs}
-use Rattle.wasm_ops.proofs.OpFinds.{op_found, val_type_found}
+use Rattle.wasm_ops_laws.proofs.JoinedAgain.{joined_runs_again, sum_of_joined_runs}
+use Rattle.wasm_ops_laws.proofs.OpFinds.{op_found, val_type_found}
 
 -- ---- up to the end
 
@@ -105,4 +101,4 @@ body_found counts params few = finds_bind finds_number32 (λ n _. finds_bind (ru
 
 pub code_found : (counts : Counts) (params : ℕ) → params ≤ most_locals → Finds (code_entry counts params) (IsReadBody counts params)
 unfolding code_entry
-code_found counts params few = finds_bind finds_number32 (λ n _. finds_framed n (body_found counts params few))
+code_found counts params few = finds_bind finds_number32 (λ n _. finds_filled n (body_found counts params few))

@@ -1,5 +1,5 @@
 -- An initial expression that is written is read again.
-use Rattle.std.proofs.Common.{◌≡◌, ℕ, ◌+◌, ◌<◌, Bool, true, false, List, [], ◌∷◌, ◌++◌, length, Some, None, refl, sym, subst, append_assoc, arith, eqb}
+use Rattle.std.proofs.Common.{◌≡◌, ℕ, ◌+◌, ◌<◌, false, List, [], ◌∷◌, ◌++◌, length, Some, None, refl, sym, subst, append_assoc, arith, eqb}
 use Rattle.std.specs.List.{flat_map, AllByRecursion}
 use Rattle.std.proofs.lemmas.Bool.{ne_eqb, eq-eqb}
 use Rattle.std.proofs.lemmas.List.{length-append}
@@ -14,9 +14,9 @@ use Rattle.wasm_ops.specs.Shapes.{initial_shape}
 use Rattle.wasm_ops.specs.Operands.{operands, const128}
 use Rattle.wasm_ops.specs.Code.{next_initial, initial}
 use Rattle.wasm_ops.specs.Spelling.{op_bytes, expression_bytes}
-use Rattle.wasm_ops.specs.Fits.{FitsInitial}
-use Rattle.wasm_ops.proofs.OpAgain.{func_again, global_again, ref_type_again}
-use Rattle.wasm_ops.proofs.CodeAgain.{AreRead, are_end, are_more}
+use Rattle.wasm_ops_laws.specs.Fits.{FitsInitial}
+use Rattle.wasm_ops_laws.proofs.OpAgain.{func_again, global_again, ref_type_again}
+use Rattle.wasm_ops_laws.proofs.CodeAgain.{AreRead, are_end, are_more}
 
 -- the operator that ends an initial expression has no shape there
 isn't_end : (code : ℕ) (shape : Shape) → initial_shape code ≡ Some shape → eqb code 0x0B ≡ false

@@ -6,10 +6,9 @@ use Rattle.wasm_bytes.specs.Signed.{IsWithin}
 use Rattle.wasm_ops.specs.Types.{is_reference}
 use Rattle.wasm_ops.specs.Shapes.{shape_within, initial_shape, named_blocks, simd_shape}
 use Rattle.wasm_ops.specs.Operands.{names_memory}
-use Rattle.wasm_ops.specs.Locals.{Runs, most_locals, joined_runs}
+use Rattle.wasm_ops.specs.Locals.{most_locals, joined_runs}
 use Rattle.wasm_ops.specs.Code.{labels_after}
 use Rattle.wasm_ops.specs.Spelling.{body_bytes}
-use Rattle.wasm_ops.specs.declared.shapes.Shape.{Shape}
 use Rattle.wasm_ops.specs.declared.shapes.Shape.TheVariants as shapes
 use Rattle.wasm_ops.specs.declared.shapes.SimdShape.TheVariants as simds
 use Rattle.wasm_ops.specs.declared.ops.Op.{Op}
@@ -25,11 +24,13 @@ use Rattle.wasm_ops.specs.declared.ops.Body.{Body}
 abbrev pub IsIndex : ℕ → ℕ → Type 0
 IsIndex count i = (i < count) × (i < 2 ^ 32)
 
+-- the type that it names is there
 abbrev pub FitsBlockType : Counts → BlockType → Type 0
 FitsBlockType counts block_types.Empty = ⊤
 FitsBlockType counts (block_types.Value ty) = ⊤
 FitsBlockType counts (block_types.Index ty) = IsIndex counts.types ty.0
 
+-- its code has its shape, and what it names is there
 abbrev pub FitsCatch : Counts → ℕ → Catch → Type 0
 FitsCatch counts blocks (catches.Tag code tag label) = (code < 2) × IsIndex counts.tags tag.0 × IsIndex blocks label
 FitsCatch counts blocks (catches.All code label) = (2 ≤ code) × (code < 4) × IsIndex blocks label

@@ -1,15 +1,15 @@
 -- Operators up to the end of a body, and a body, that are written are read again.
-use Rattle.std.proofs.Common.{◌≡◌, ℕ, zero, suc, ◌+◌, ◌-◌, ◌<◌, ◌≤◌, ◌^◌, Bool, true, false, List, [], ◌∷◌, ◌++◌, length, Option, Some, None, Result, Ok, Err, refl, sym, ap, subst, ◌∙◌, append_assoc, append-nil, arith, ltb, leb, eqb, ◌==◌, if◌then◌else◌}
+use Rattle.std.proofs.Common.{◌≡◌, ℕ, zero, suc, ◌+◌, ◌<◌, ◌≤◌, Bool, false, List, [], ◌∷◌, ◌++◌, length, Option, Some, None, Result, Ok, refl, sym, ap, subst, append_assoc, arith, leb, ◌==◌, if◌then◌else◌}
 use Rattle.std.specs.List.{flat_map, sum_by}
 use Rattle.std.proofs.lemmas.Bool.{le-leb, ne_eqb}
 use Rattle.std.proofs.lemmas.List.{length-append}
 use Rattle.std.proofs.lemmas.List.Sums.{sum_by-cons}
 use Rattle.wasm_bytes.specs.declared.counts.Counts.{Counts}
-use Rattle.wasm_bytes.specs.Reading.{Input, followed, ◌>>=◌, pure, allowed, frame, within, collected, gathered}
-use Rattle.wasm_bytes.specs.Numbers.{number32, number_bytes}
+use Rattle.wasm_bytes.specs.Reading.{Input, collected}
+use Rattle.wasm_bytes.specs.Numbers.{number_bytes}
 use Rattle.wasm_bytes.specs.Spelling.{list_bytes, framed_bytes}
 use Rattle.wasm_bytes.specs.Reads.{Reads}
-use Rattle.wasm_bytes.proofs.ReadAgain.{reads_pure, reads_bind, reads_end, reads_allowed, reads_framed, number32_again}
+use Rattle.wasm_bytes.proofs.ReadAgain.{reads_pure, reads_bind, reads_end, reads_allowed, reads_filled, number32_again}
 use Rattle.wasm_ops.specs.declared.types.ValType.{ValType}
 use Rattle.wasm_ops.specs.declared.shapes.Shape.TheVariants as shapes
 use Rattle.wasm_ops.specs.declared.ops.Op.{Op}
@@ -19,9 +19,9 @@ use Rattle.wasm_ops.specs.Operands.{operands}
 use Rattle.wasm_ops.specs.Locals.{Runs, run, runs, most_locals, joined_runs}
 use Rattle.wasm_ops.specs.Code.{op, labels_after, next_op, expression, body, code_entry}
 use Rattle.wasm_ops.specs.Spelling.{val_type_bytes, op_bytes, expression_bytes, run_bytes, body_bytes, code_bytes}
-use Rattle.wasm_ops.specs.Fits.{FitsOp, FitsOps, FitsBody, IsShort, joined_body}
-use Rattle.wasm_ops.proofs.JoinedAgain.{joined_runs_again, sum_of_joined_runs, few_runs}
-use Rattle.wasm_ops.proofs.OpAgain.{op_with, op_again, val_type_again}
+use Rattle.wasm_ops_laws.specs.Fits.{FitsOp, FitsOps, FitsBody, IsShort, joined_body}
+use Rattle.wasm_ops_laws.proofs.JoinedAgain.{joined_runs_again, sum_of_joined_runs, few_runs}
+use Rattle.wasm_ops_laws.proofs.OpAgain.{op_with, op_again, val_type_again}
 
 -- ---- operators up to the end
 
@@ -109,4 +109,4 @@ body_again counts params b h =
 
 pub code_again : (counts : Counts) (params : ℕ) (b : Body) → FitsBody counts params b → IsShort b → Reads (code_entry counts params) (code_bytes b) (joined_body b)
 unfolding code_entry code_bytes framed_bytes
-code_again counts params b h short = reads_bind _ (number32_again (length (body_bytes b)) short) (reads_framed (body_again counts params b h))
+code_again counts params b h short = reads_bind _ (number32_again (length (body_bytes b)) short) (reads_filled (body_again counts params b h))

@@ -5,7 +5,7 @@ ghost use Rattle.std.specs.List.{AllByRecursion};
 ghost use Rattle.wasm_bytes.specs.declared.counts.Counts.{Counts as Kinds};
 ghost use Rattle.wasm_bytes.specs.Reads.{Reads, Finds};
 ghost use Rattle.wasm_ops.specs.Code.{op, expression, initial, code_entry};
-ghost use Rattle.wasm_ops.specs.Fits.{FitsOp, FitsOps, FitsInitial, FitsBody, IsShort, IsReadBody, joined_body};
+ghost use Rattle.wasm_ops_laws.specs.Fits.{FitsOp, FitsOps, FitsInitial, FitsBody, IsShort, IsReadBody, joined_body};
 ghost use Rattle.wasm_ops.specs.Locals.{most_locals};
 ghost use Rattle.wasm_ops.specs.Spelling.{op_bytes, expression_bytes, code_bytes};
 ghost use Rattle.wasm_ops.specs.declared.ops.Op.{Op as Operator};

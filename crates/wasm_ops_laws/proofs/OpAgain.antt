@@ -1,22 +1,22 @@
 -- An operator that is written is read again.
-use Rattle.std.proofs.Common.{◌≡◌, ℕ, zero, suc, ◌+◌, ◌-◌, ◌*◌, ◌/◌, ◌%◌, ◌^◌, ◌<◌, ◌≤◌, Bool, true, false, List, [], ◌∷◌, ◌++◌, length, Option, Some, None, Result, Ok, Err, refl, sym, ap, subst, ◌∙◌, append_assoc, append-nil, arith, inl, inr, ltb, leb, eqb}
-use Rattle.std.specs.Prelude.{ℤ, pos, ◌⊎◌}
-use Rattle.std.specs.List.{flat_map, AllByRecursion}
-use Rattle.std.proofs.lemmas.Bool.{le-ltb, lt-ltb, le-leb, lt-leb, cases_lt, ne_eqb, eq-eqb, eqb-false}
+use Rattle.std.proofs.Common.{◌≡◌, ℕ, zero, suc, ◌+◌, ◌-◌, ◌/◌, ◌%◌, ◌^◌, ◌<◌, ◌≤◌, Bool, true, false, List, [], ◌∷◌, ◌++◌, length, Some, None, Ok, refl, sym, subst, append_assoc, append-nil, arith, inl, inr, ltb}
+use Rattle.std.specs.Prelude.{pos, ◌⊎◌}
+use Rattle.std.specs.List.{AllByRecursion}
+use Rattle.std.proofs.lemmas.Bool.{le-ltb, lt-ltb, le-leb, cases_lt, ne_eqb, eq-eqb, eqb-false}
 use Rattle.std.proofs.lemmas.Int.{ints}
 use Rattle.wasm_bytes.specs.declared.counts.Counts.{Counts}
-use Rattle.wasm_bytes.specs.Reading.{Input, followed, ◌>>=◌, pure, byte, raw, allowed, meant, entries, value_of}
-use Rattle.wasm_bytes.specs.Numbers.{number32, number64, number_bytes}
+use Rattle.wasm_bytes.specs.Reading.{◌>>=◌, pure, byte, meant, value_of}
+use Rattle.wasm_bytes.specs.Numbers.{number_bytes}
 use Rattle.wasm_bytes.specs.Signed.{signed33, signed_bytes, shortest_signed}
 use Rattle.wasm_bytes.specs.Items.{index}
 use Rattle.wasm_bytes.specs.Spelling.{list_bytes}
 use Rattle.wasm_bytes.specs.Reads.{Reads}
-use Rattle.wasm_bytes.proofs.ReadAgain.{reads_pure, reads_bind, reads_end, reads_byte, reads_raw, reads_allowed, reads_meant, reads_entries, reads_list, number32_again, number64_again, index_again, signed32_again, signed33_again, signed64_again}
+use Rattle.wasm_bytes.proofs.ReadAgain.{reads_pure, reads_bind, reads_end, reads_byte, reads_raw, reads_allowed, reads_meant, reads_entries, reads_list, number32_again, number64_again, signed32_again, signed33_again, signed64_again}
 use Rattle.wasm_ops.specs.Types.{val_type_of, code_of, is_reference}
 use Rattle.wasm_ops.specs.declared.types.ValType.{ValType}
 use Rattle.wasm_ops.specs.declared.types.ValType.TheVariants.{I32, I64, F32, F64, V128, FuncRef, ExternRef, ExnRef}
 use Rattle.wasm_ops.specs.Entries.{val_type, ref_type, type_index, func_index, table_index, memory_index, global_index, tag_index, elem_index, data_index}
-use Rattle.wasm_ops.specs.Spelling.{val_type_bytes, block_type_bytes, catch_bytes, mem_arg_bytes, coded, op_bytes}
+use Rattle.wasm_ops.specs.Spelling.{val_type_bytes, block_type_bytes, catch_bytes, mem_arg_bytes, op_bytes}
 use Rattle.wasm_ops.specs.Operands.{short_block_type, numbered_type, block_type_from, block_type, labels, catch_after, catch_clause, names_memory, align_field, mem_arg, bulk_after, bulk, simd_after, simd, br_table, indirect, select, try_table, operands}
 use Rattle.wasm_ops.specs.Code.{op}
 use Rattle.wasm_ops.specs.Shapes.{shape_within, named_blocks, simd_shape}
@@ -26,7 +26,7 @@ use Rattle.wasm_ops.specs.declared.shapes.SimdShape.{SimdShape}
 use Rattle.wasm_ops.specs.declared.shapes.SimdShape.TheVariants as simds
 use Rattle.wasm_ops.specs.declared.ops.Op.{Op}
 use Rattle.wasm_ops.specs.declared.ops.Op.TheVariants as ops
-use Rattle.wasm_ops.specs.Fits.{IsIndex, FitsBlockType, FitsCatch, FitsMemArg, FitsOp}
+use Rattle.wasm_ops_laws.specs.Fits.{IsIndex, FitsBlockType, FitsCatch, FitsMemArg, FitsOp}
 use Rattle.wasm_ops.specs.declared.ids.TypeId.{TypeId}
 use Rattle.wasm_ops.specs.declared.ids.FuncId.{FuncId}
 use Rattle.wasm_ops.specs.declared.ids.TableId.{TableId}

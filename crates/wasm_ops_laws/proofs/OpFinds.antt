@@ -1,15 +1,13 @@
 -- An operator that is read fits what it names.
-use Rattle.std.proofs.Common.{◌≡◌, ℕ, zero, suc, ◌+◌, ◌-◌, ◌*◌, ◌/◌, ◌%◌, ◌^◌, ◌<◌, ◌≤◌, Bool, true, false, ◌||◌, ◌&&◌, List, [], ◌∷◌, length, Option, Some, None, Result, Ok, Err, refl, sym, ap, subst, ◌∙◌, arith, inl, inr, ltb, leb, eqb}
-use Rattle.std.specs.Prelude.{ℤ, pos, negsuc, ◌⊎◌, ⊤}
+use Rattle.std.proofs.Common.{◌≡◌, ℕ, ◌-◌, ◌/◌, ◌%◌, ◌^◌, ◌<◌, ◌≤◌, Bool, true, false, ◌||◌, List, length, Option, Some, None, Result, Ok, Err, refl, ap, subst, arith, inl, inr, ltb, eqb}
+use Rattle.std.specs.Prelude.{ℤ, pos, negsuc, ⊤}
 use Rattle.std.specs.Option.{option_map}
 use Rattle.std.specs.List.{AllByRecursion}
-use Rattle.std.proofs.lemmas.Bool.{le-leb, le-ltb, lt-ltb, ltb-true, ltb-false, eqb-true, eqb-false, ne_eqb, eq-eqb, cases_lt, cases_Bool}
+use Rattle.std.proofs.lemmas.Bool.{le-leb, ltb-true, ltb-false, eqb-true, eqb-false, ne_eqb, cases_Bool}
 use Rattle.std.proofs.lemmas.Int.{ints}
 use Rattle.wasm_bytes.specs.declared.counts.Counts.{Counts}
-use Rattle.wasm_bytes.specs.Reading.{Input, followed, ◌>>=◌, pure, fault, byte, raw, allowed, meant, entries, value_of}
-use Rattle.wasm_bytes.specs.Numbers.{number32, number64}
-use Rattle.wasm_bytes.specs.Signed.{signed33, IsWithin}
-use Rattle.wasm_bytes.specs.Items.{index}
+use Rattle.wasm_bytes.specs.Reading.{Input, byte, value_of}
+use Rattle.wasm_bytes.specs.Signed.{IsWithin}
 use Rattle.wasm_bytes.specs.Reads.{AreBytes, Finds}
 use Rattle.wasm_bytes.proofs.ReadFinds.{steps_of, finds_pure, finds_fault, finds_bind, finds_if, finds_weaker, finds_byte, finds_allowed, finds_meant, finds_raw, finds_entries, finds_number32, finds_number64, finds_index, finds_signed32, finds_signed33, finds_signed64}
 use Rattle.wasm_ops.specs.Types.{val_type_of, is_reference}
@@ -18,26 +16,15 @@ use Rattle.wasm_ops.specs.Entries.{val_type, ref_type, type_index, func_index, t
 use Rattle.wasm_ops.specs.Shapes.{shape_within, named_blocks, simd_shape}
 use Rattle.wasm_ops.specs.Operands.{asked_by, by_first, short_block_type, numbered_type, block_type_from, block_type, labels, catch_after, catch_clause, names_memory, align_field, mem_arg, bulk_after, bulk, simd_after, simd, br_table, indirect, select, try_table, const128, operands}
 use Rattle.wasm_ops.specs.Code.{known, op}
-use Rattle.wasm_ops.specs.Fits.{IsIndex, FitsBlockType, FitsCatch, FitsMemArg, FitsOp}
-use Rattle.wasm_ops.specs.declared.ids.TypeId.{TypeId}
-use Rattle.wasm_ops.specs.declared.ids.FuncId.{FuncId}
-use Rattle.wasm_ops.specs.declared.ids.TableId.{TableId}
-use Rattle.wasm_ops.specs.declared.ids.MemoryId.{MemoryId}
-use Rattle.wasm_ops.specs.declared.ids.GlobalId.{GlobalId}
-use Rattle.wasm_ops.specs.declared.ids.TagId.{TagId}
-use Rattle.wasm_ops.specs.declared.ids.ElemId.{ElemId}
-use Rattle.wasm_ops.specs.declared.ids.DataId.{DataId}
+use Rattle.wasm_ops_laws.specs.Fits.{IsIndex, FitsBlockType, FitsCatch, FitsMemArg, FitsOp}
 use Rattle.wasm_ops.specs.declared.shapes.Shape.{Shape}
 use Rattle.wasm_ops.specs.declared.shapes.Shape.TheVariants as shapes
 use Rattle.wasm_ops.specs.declared.shapes.SimdShape.{SimdShape}
 use Rattle.wasm_ops.specs.declared.shapes.SimdShape.TheVariants as simds
-use Rattle.wasm_ops.specs.declared.ops.Op.{Op}
 use Rattle.wasm_ops.specs.declared.ops.Op.TheVariants as ops
 use Rattle.wasm_ops.specs.declared.ops.BlockType.{BlockType}
 use Rattle.wasm_ops.specs.declared.ops.BlockType.TheVariants as block_types
-use Rattle.wasm_ops.specs.declared.ops.Catch.{Catch}
 use Rattle.wasm_ops.specs.declared.ops.Catch.TheVariants as catches
-use Rattle.wasm_ops.specs.declared.ops.MemArg.{MemArg}
 
 -- ---- indices and types
 

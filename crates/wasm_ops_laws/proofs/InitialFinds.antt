@@ -1,23 +1,22 @@
 -- Initial expressions that are read fit what they name.
-use Rattle.std.proofs.Common.{◌≡◌, ℕ, zero, suc, ◌<◌, ◌≤◌, Bool, true, false, ◌||◌, List, [], ◌∷◌, length, Option, Some, None, Result, Ok, Err, refl, sym, ap, subst, ◌∙◌, arith, inl, inr, eqb, if◌then◌else◌}
+use Rattle.std.proofs.Common.{◌≡◌, ℕ, zero, suc, ◌||◌, List, length, Option, Some, None, Result, refl, sym, subst, ◌∙◌, arith, inl, inr, eqb, if◌then◌else◌}
 use Rattle.std.specs.Prelude.{◌⊎◌, ⊤}
 use Rattle.std.specs.List.{AllByRecursion}
 use Rattle.std.proofs.lemmas.Bool.{eqb-true, cases_Bool}
 use Rattle.wasm_bytes.specs.declared.counts.Counts.{Counts}
-use Rattle.wasm_bytes.specs.Reading.{Input, followed, ◌>>=◌, pure, byte, allowed, collected, gathered}
-use Rattle.wasm_bytes.specs.Numbers.{number32}
-use Rattle.wasm_bytes.specs.Reads.{AreBytes, Finds}
+use Rattle.wasm_bytes.specs.Reading.{Input, ◌>>=◌, pure, byte, collected, gathered}
+use Rattle.wasm_bytes.specs.Reads.{Finds}
 use Rattle.wasm_bytes.proofs.ReadFinds.{steps_of, finds_pure, finds_fault, finds_bind, finds_if, finds_weaker, finds_byte, finds_allowed, finds_raw, finds_number32, finds_signed32, finds_signed64}
 use Rattle.wasm_ops.specs.Shapes.{among, initial_shape}
 use Rattle.wasm_ops.specs.Operands.{const128, operands}
 use Rattle.wasm_ops.specs.Code.{known, next_initial, initial}
-use Rattle.wasm_ops.specs.Fits.{FitsInitial}
+use Rattle.wasm_ops_laws.specs.Fits.{FitsInitial}
 use Rattle.wasm_ops.specs.declared.shapes.Shape.{Shape}
 use Rattle.wasm_ops.specs.declared.shapes.Shape.TheVariants as shapes
 use Rattle.wasm_ops.specs.declared.ops.Op.{Op}
 use Rattle.wasm_ops.specs.declared.ops.Op.TheVariants as ops
-use Rattle.wasm_ops.proofs.OpFinds.{func_found, global_found, ref_type_found}
-use Rattle.wasm_ops.proofs.CodeFinds.{finds_gathered, same_some}
+use Rattle.wasm_ops_laws.proofs.OpFinds.{func_found, global_found, ref_type_found}
+use Rattle.wasm_ops_laws.proofs.CodeFinds.{finds_gathered, same_some}
 
 -- the shapes that can stand in an initial expression
 abbrev OnlyInitial : Option Shape → Type 0
