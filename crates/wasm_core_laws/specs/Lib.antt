@@ -1,0 +1,3 @@
+pub mod ModuleFits
+pub mod Again
+pub mod Renumbered

@@ -1,0 +1,11 @@
+pub mod ContentAgain
+pub mod CountsGrow
+pub mod CustomsAgain
+pub mod CustomsFit
+pub mod EachItem
+pub mod EntriesAgain
+pub mod EntriesFit
+pub mod FileAgain
+pub mod FileFits
+pub mod SectionsAgain
+pub mod SectionsFit

@@ -1,0 +1,2 @@
+pub mod FileFits
+pub mod CustomFits
