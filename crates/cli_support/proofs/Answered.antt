@@ -15,14 +15,16 @@ use Rattle.glue_shared.specs.declared.description.Lowered.{Lowered}
 use Rattle.glue_shared.specs.Names.{host_names}
 use Rattle.cli_support.specs.declared.fault.Fault.{Fault}
 use Rattle.cli_support.specs.declared.fault.Fault.TheVariants as fault
-use Rattle.cli_support.specs.Resolving.{entry_at, adapter_steps}
-use Rattle.cli_support.specs.Items.{Matches, IsDeclareItem, IsDefineItem, IsGlue, is_bindable, is_definable, is_resolved}
-use Rattle.cli_support.specs.Check.{is_built}
-use Rattle.cli_support.specs.Keys.{described_keys}
-use Rattle.cli_support.specs.Linked.{IsLinked}
-use Rattle.cli_support.specs.Defined.{IsDefined}
-use Rattle.cli_support.specs.Generating.{Made, IsMadeOf, IsMadeFrom, IsFaultOf, IsLate, Answers, IsKept, IsPlain, Input, Configured, settings_of, stem_of, answer_to, answer_of, moved, rewritten, collected_description, after_reading, after_lowering, after_parsing, after_input, fault_of, is_deno, is_stem, prepared, reading}
-use Rattle.cli_support.proofs.Made.{sound, rewritten_is}
+use Rattle.glue_check.specs.Resolving.{entry_at, adapter_steps}
+use Rattle.glue_items.specs.Items.{Matches, IsDeclareItem, IsDefineItem, IsGlue, is_bindable, is_definable, is_resolved}
+use Rattle.glue_check.specs.Check.{is_built}
+use Rattle.glue_items.specs.Keys.{described_keys}
+use Rattle.glue_items.specs.Linked.{IsLinked}
+use Rattle.glue_items.specs.Defined.{IsDefined}
+use Rattle.cli_support.specs.Generating.{Made, IsMadeOf, IsFaultOf, IsLate, Answers, Input, Configured, settings_of, stem_of, answer_to, answer_of, collected_description, after_reading, after_lowering, after_parsing, after_input, fault_of, is_stem, prepared, reading}
+use Rattle.glue_items.specs.Plain.{IsKept, IsPlain, is_deno}
+use Rattle.glue_items.specs.Rewritten.{moved, rewritten}
+use Rattle.glue_items.proofs.Made.{sound, rewritten_is}
 
 -- ---- what is made
 

@@ -1,18 +1,17 @@
 -- What a call of the generator comes to.
-use Rattle.std.specs.Prelude.{◌≡◌, ℕ, ◌==◌, nat_le, Bool, true, false, ◌&&◌, ◌||◌, List, [], ◌∷◌, ◌++◌, codes, Option, Some, None, Result, Ok, Err, if◌then◌else◌}
+use Rattle.std.specs.Prelude.{◌≡◌, ℕ, ◌==◌, Bool, true, false, ◌&&◌, ◌||◌, List, [], ◌∷◌, codes, Option, Some, None, Result, Ok, Err, if◌then◌else◌}
 use Rattle.std.specs.List.{list_all}
 use Rattle.std.specs.Char.{is_ascii_alphanumeric}
 use Rattle.wasm_core.specs.Contents.{Contents}
 use Rattle.wasm_core.specs.Parsing.{module_of}
-use Rattle.wasm_core.specs.Edits.{with_processed_by, with_import}
+use Rattle.wasm_core.specs.Edits.{with_processed_by}
 use Rattle.wasm_core.specs.Collected.{collected}
-use Rattle.wasm_core.specs.declared.types.Import.{Import}
 use Rattle.wasm_core.specs.declared.types.ParseConfig.{ParseConfig}
 use Rattle.wasm_core.specs.declared.faults.ParseFault.{ParseFault}
 use Rattle.wasm_core.specs.declared.faults.ParseFault.TheVariants as parse
 use Rattle.glue_scope.specs.declared.item.Item.{Item}
 use Rattle.glue_scope.specs.Words.{printed}
-use Rattle.glue_shared.specs.Names.{own_imports, host_names}
+use Rattle.glue_shared.specs.Names.{host_names}
 use Rattle.glue_shared.specs.Roots.{roots_of}
 use Rattle.glue_shared.specs.declared.settings.Settings.{Settings}
 use Rattle.glue_shared.specs.declared.settings.Target.{Target}
@@ -20,15 +19,16 @@ use Rattle.glue_shared.specs.declared.settings.Target.TheVariants as target
 use Rattle.glue_shared.specs.declared.settings.EncodeInto.{EncodeInto}
 use Rattle.glue_shared.specs.declared.settings.EncodeInto.TheVariants as encode
 use Rattle.glue_shared.specs.declared.description.Lowered.{Lowered}
-use Rattle.cli_support.specs.Check.{is_built}
+use Rattle.glue_check.specs.Check.{is_built}
 use Rattle.cli_support.specs.declared.fault.Fault.{Fault}
 use Rattle.cli_support.specs.declared.fault.Fault.TheVariants as fault
-use Rattle.cli_support.specs.Resolving.{entry_at}
-use Rattle.cli_support.specs.Items.{is_resolved, IsGlue}
-use Rattle.cli_support.specs.Linked.{IsLinked}
-use Rattle.cli_support.specs.Defined.{IsDefined}
-use Rattle.cli_support.specs.Published.{IsPublished, fixed_public}
-use Rattle.cli_support.specs.Keys.{described_keys}
+use Rattle.glue_items.specs.Items.{is_resolved, IsGlue}
+use Rattle.glue_items.specs.Plain.{is_deno}
+use Rattle.glue_items.specs.Rewritten.{rewritten}
+use Rattle.glue_items.specs.Linked.{IsLinked}
+use Rattle.glue_items.specs.Defined.{IsDefined}
+use Rattle.glue_targets.specs.Published.{IsPublished, fixed_public}
+use Rattle.glue_items.specs.Keys.{described_keys}
 
 -- the name that the files begin with, and a module's bytes
 abbrev pub Input : Type 0
@@ -79,22 +79,6 @@ reading = record { keep_debug = false; names = true; producers = true }
 abbrev pub prepared : Contents → Contents
 prepared m = with_processed_by (codes "wasm-bindgen") (codes "0.2.130") m
 
-abbrev pub is_deno : Target → Bool
-is_deno target.Deno = true
-is_deno t = false
-
--- settings that no setter changes
-pub record IsKept (s : Settings) : Type 0 where
-  pub debug : s.debug ≡ false
-  pub omit_imports : s.omit_imports ≡ false
-  pub export_wasm : s.export_wasm ≡ false
-  pub reset_state : s.reset_state ≡ false
-
--- such settings, for Deno
-pub record IsPlain (s : Settings) : Type 0 where
-  pub deno : is_deno s.target ≡ true
-  pub kept : IsKept s
-
 -- a description with nothing left of its module but what can be reached from the exports and from what the description names
 abbrev pub collected_description : Lowered → Lowered
 collected_description l = record l { «module» = collected (roots_of l) l.«module» }
@@ -133,23 +117,6 @@ answer_to told c (Some input) = after_input told (settings_of c input.0) input.1
 
 abbrev pub answer_of : (Settings → Contents → Option (Option Lowered)) → Configured → Option (Result Lowered Fault)
 answer_of told c = answer_to told c c.input
-
--- the module that own imports move to
-abbrev pub glue_module : List ℕ → List ℕ
-glue_module stem = codes "./" ++ (stem ++ codes "_bg.js")
-
--- the import at a place moved to the glue file's module, under its name
-abbrev pub moved_one : List ℕ → ℕ → Option Import → Contents → Contents
-moved_one stem place None m = m
-moved_one stem place (Some i) m = with_import place (glue_module stem) i.name m
-
-abbrev pub moved : List ℕ → List ℕ → Contents → Contents
-moved stem [] m = m
-moved stem (place ∷ places) m = moved stem places (moved_one stem place (entry_at m.imports place) m)
-
--- the module that is written: each own import moved, and nothing else changed
-abbrev pub rewritten : Settings → Lowered → Contents
-rewritten settings l = moved settings.stem (own_imports settings l.«module» l.wit l.aux) l.«module»
 
 -- what is made: the settings of the call, the items, their text and the module
 pub record Made : Type 0 where

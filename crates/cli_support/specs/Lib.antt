@@ -1,12 +1,3 @@
-pub mod Check
-pub mod Defined
-pub mod Doubles
 pub mod Generating
-pub mod Items
-pub mod Keys
-pub mod Linked
 pub mod Plan
-pub mod Published
-pub mod Resolving
-pub mod RoleWords
-pub mod Targets
+pub mod Setting

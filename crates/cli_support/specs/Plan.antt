@@ -1,5 +1,5 @@
 -- The planned files.
-use Rattle.std.specs.Prelude.{ℕ, List, [], ◌∷◌, ◌++◌, codes, true, false}
+use Rattle.std.specs.Prelude.{List, [], ◌∷◌, ◌++◌, codes, true, false}
 use Rattle.wasm_core.specs.Emission.{bytes_of}
 use Rattle.glue_ends.specs.declared.plan.PlannedFile.{PlannedFile}
 use Rattle.glue_layout.specs.Layout.{indented}

@@ -9,15 +9,19 @@ ghost use Rattle.glue_shared.specs.declared.settings.Settings.{Settings};
 ghost use Rattle.glue_shared.specs.declared.description.Lowered.{Lowered};
 ghost use Rattle.cli_support.specs.declared.fault.Fault.{Fault};
 ghost use Rattle.wasm_core.specs.declared.types.Import.{Import};
-ghost use Rattle.cli_support.specs.Resolving.{entry_at};
-ghost use Rattle.cli_support.specs.Check.{is_built as is_built_form};
-ghost use Rattle.cli_support.specs.Items.{IsGlue};
-ghost use Rattle.cli_support.specs.Generating.{Input, settings_of as the_settings, is_stem as the_stem_test, reading, prepared, collected_description, is_deno as the_deno_test, is_stem_byte as stem_byte, glue_module, after_reading, after_lowering, after_parsing, after_input, answer_to, answer_of, moved, moved_one, rewritten, IsMadeOf, IsFaultOf, IsKept, IsPlain, Answers, stem_of, fault_of};
+ghost use Rattle.glue_check.specs.Resolving.{entry_at};
+ghost use Rattle.glue_check.specs.Check.{is_built as is_built_form};
+ghost use Rattle.glue_items.specs.Items.{IsGlue};
+ghost use Rattle.cli_support.specs.Generating.{Input, settings_of as the_settings, is_stem as the_stem_test, reading, prepared, collected_description, is_stem_byte as stem_byte, after_reading, after_lowering, after_parsing, after_input, answer_to, answer_of, IsMadeOf, IsFaultOf, Answers, stem_of, fault_of};
+ghost use Rattle.glue_items.specs.Plain.{is_deno as the_deno_test, IsKept, IsPlain};
+ghost use Rattle.glue_items.specs.Rewritten.{glue_module, moved, moved_one, rewritten};
+ghost use Rattle.std.specs.Borrow.{sem};
+ghost use Rattle.cli_support.specs.Setting.{Rests, HeldRests, released};
 
-use crate::check::is_built;
 use crate::fault::Fault;
-use crate::items::glue_items;
 use crate::output::Output;
+use glue_check::is_built;
+use glue_items::glue_items;
 use glue_lower::{LowerFault, Lowering};
 use glue_scope::{IdentScope, Item, print};
 use glue_shared::{AdapterId, EncodeInto, Lowered, Settings, Target, roots};
@@ -59,6 +63,38 @@ impl Model for Bindgen {
     ghost Value = { Configured };
 
     ghost view = { λ b. record { target = b.target; externref = b.externref; multi_value = b.multi_value; encode_into = b.encode_into; input = b.input } };
+}
+
+// The generator, as a setter answers it. Its contract can say what stands where the setter refuses.
+#[derive(Drop)]
+struct Held<'a> {
+    at: &'a mut Bindgen,
+}
+
+// The generator itself.
+fn release_set<'a>(held: Result<Held<'a>, SetFault>) -> Result<&'a mut Bindgen, SetFault>
+    ensures same { result ≡ released held.entry }
+{
+    match held {
+        Ok(held) => {
+            let Held { at } = held;
+            Ok(at)
+        }
+        Err(fault) => Err(fault),
+    }
+}
+
+// The generator itself.
+fn release_input<'a>(held: Result<Held<'a>, AllocError>) -> Result<&'a mut Bindgen, AllocError>
+    ensures same { result ≡ released held.entry }
+{
+    match held {
+        Ok(held) => {
+            let Held { at } = held;
+            Ok(at)
+        }
+        Err(fault) => Err(fault),
+    }
 }
 
 fn is_stem_byte(b: u8) -> bool
@@ -358,13 +394,11 @@ impl Bindgen {
         }
     }
 
-    /// Makes files for Deno, where `enable` says so. `ModeTwice` comes exactly where a target other than the bundler's stands,
-    /// and changes nothing.
-    pub fn deno(&mut self, enable: bool) -> Result<(), SetFault>
+    fn set_deno(&mut self, enable: bool) -> Result<(), SetFault>
         ensures ok { OnOk result (self.new ≡ with_deno enable self.old) }
         ensures refused { OnErr result (self.new ≡ self.old) }
         ensures cause { IsErr result ↔ (is_free enable self.old.target ≡ false) }
-        ensures twice { OnErr result (result ≡ Err SetFault.ModeTwice) }
+        ensures twice { IfErr result (λ e. e ≡ SetFault.ModeTwice) }
     {
         if !enable {
             return Ok(());
@@ -379,20 +413,65 @@ impl Bindgen {
         }
     }
 
-    /// Hands in a module's bytes, and the name that its files begin with, in place of an earlier input.
-    /// Where memory runs out the bytes are dropped, and the earlier input stays.
-    pub fn input_bytes(
-        &mut self,
-        alloc: Global,
-        name: &str,
-        bytes: Vec<u8>,
-    ) -> Result<(), AllocError>
+    fn hold_deno(&mut self, enable: bool) -> Result<Held<'_>, SetFault>
+        ensures* refused { sem 𝓛 (HeldRests self.entry result) }
+        ensures ok { IfOk result (λ b. b.at.now ≡ with_deno enable self.old) }
+        ensures same_reference { IfOk result (λ b. b.at.ghost_name ≡ self.entry.ghost_name) }
+        ensures cause { IsErr result ↔ (is_free enable self.old.target ≡ false) }
+        ensures twice { IfErr result (λ e. e ≡ SetFault.ModeTwice) }
+    {
+        self.set_deno(enable)?;
+        Ok(Held { at: self })
+    }
+
+    /// Makes files for Deno, where `enable` says so, and answers the generator. `ModeTwice` comes exactly where a target other
+    /// than the bundler's stands, and changes nothing.
+    pub fn deno(&mut self, enable: bool) -> Result<&mut Bindgen, SetFault>
+        ensures* refused { sem 𝓛 (Rests self.entry result) }
+        ensures ok { IfOk result (λ b. b.now ≡ with_deno enable self.old) }
+        ensures same_reference { IfOk result (λ b. b.ghost_name ≡ self.entry.ghost_name) }
+        ensures cause { IsErr result ↔ (is_free enable self.old.target ≡ false) }
+        ensures twice { IfErr result (λ e. e ≡ SetFault.ModeTwice) }
+    {
+        release_set(self.hold_deno(enable))
+    }
+
+    fn set_input(&mut self, alloc: Global, name: &str, bytes: Vec<u8>) -> Result<(), AllocError>
         ensures ok { OnOk result (self.new ≡ record self.old { input = Some (name.now, bytes.items) }) }
         ensures refused { OnErr result (self.new ≡ self.old) }
     {
         let stem = Text::from_str(alloc, name)?;
         self.input = Some((stem, Seq::from_vec(bytes)));
         Ok(())
+    }
+
+    fn hold_input(
+        &mut self,
+        alloc: Global,
+        name: &str,
+        bytes: Vec<u8>,
+    ) -> Result<Held<'_>, AllocError>
+        ensures* refused { sem 𝓛 (HeldRests self.entry result) }
+        ensures ok { IfOk result (λ b. b.at.now ≡ record self.old { input = Some (name.now, bytes.items) }) }
+        ensures same_reference { IfOk result (λ b. b.at.ghost_name ≡ self.entry.ghost_name) }
+    {
+        self.set_input(alloc, name, bytes)?;
+        Ok(Held { at: self })
+    }
+
+    /// Hands in a module's bytes, and the name that its files begin with, in place of an earlier input, and answers the generator.
+    /// Where memory runs out the bytes are dropped, and the earlier input stays.
+    pub fn input_bytes(
+        &mut self,
+        alloc: Global,
+        name: &str,
+        bytes: Vec<u8>,
+    ) -> Result<&mut Bindgen, AllocError>
+        ensures* refused { sem 𝓛 (Rests self.entry result) }
+        ensures ok { IfOk result (λ b. b.now ≡ record self.old { input = Some (name.now, bytes.items) }) }
+        ensures same_reference { IfOk result (λ b. b.ghost_name ≡ self.entry.ghost_name) }
+    {
+        release_input(self.hold_input(alloc, name, bytes))
     }
 
     /// The name that was handed in with the input.

@@ -10,9 +10,10 @@ use Rattle.glue_shared.specs.declared.description.Lowered.{Lowered}
 use Rattle.glue_lower.specs.Lowering.{lowered_of}
 use Rattle.cli_support.specs.declared.fault.Fault.{Fault}
 use Rattle.cli_support.specs.declared.fault.Fault.TheVariants as fault
-use Rattle.cli_support.specs.Check.{is_built}
-use Rattle.cli_support.specs.Items.{is_resolved}
-use Rattle.cli_support.specs.Generating.{Made, Configured, settings_of, stem_of, Answers, IsMadeFrom, IsFaultOf, answer_of, after_parsing, after_lowering, after_reading, reading, prepared, collected_description, rewritten, fault_of, IsMadeOf}
+use Rattle.glue_check.specs.Check.{is_built}
+use Rattle.glue_items.specs.Items.{is_resolved}
+use Rattle.cli_support.specs.Generating.{Made, Configured, settings_of, stem_of, Answers, IsMadeFrom, IsFaultOf, answer_of, after_parsing, after_lowering, after_reading, reading, prepared, collected_description, fault_of, IsMadeOf}
+use Rattle.glue_items.specs.Rewritten.{rewritten}
 use Rattle.glue_program.specs.Headline.{deno_settings, IsOutputOf}
 use Rattle.glue_program.specs.Outcome.{Refused, outcome, outcome_of, planning, with_bytes, is_memory, fault_line, ComesTo, IsCut, Wrote, Answered}
 use Rattle.std.specs.Io.KnownBytes.{Appends}

@@ -8,7 +8,8 @@ use Rattle.glue_shared.specs.declared.description.Lowered.{Lowered}
 use Rattle.glue_lower.specs.Lowering.{lowered_of}
 use Rattle.cli_support.specs.declared.fault.Fault.{Fault}
 use Rattle.cli_support.specs.declared.fault.Fault.TheVariants as fault
-use Rattle.cli_support.specs.Generating.{Made, Configured, answer_of, rewritten}
+use Rattle.cli_support.specs.Generating.{Made, Configured, answer_of}
+use Rattle.glue_items.specs.Rewritten.{rewritten}
 use Rattle.cli_support.specs.Plan.{plan_of}
 use Rattle.glue_program.specs.Headline.{deno, deno_settings, IsOutputOf}
 

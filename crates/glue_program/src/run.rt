@@ -91,7 +91,7 @@ fn generator(alloc: Global, bytes: Vec<u8>) -> Result<Bindgen, Fault>
 {
     let mut generator = Bindgen::new(false, false);
     match generator.deno(true) {
-        Ok(()) => {}
+        Ok(_) => {}
         Err(_) => unreachable!(),
     }
     generator.input_bytes(alloc, "out", bytes)?;

@@ -1,6 +1,6 @@
 use Rattle.std.proofs.Common.{◌≡◌, ℕ, drop, map}
 use Rattle.wasm_ops.specs.declared.ids.ImportId.{ImportId}
-use Rattle.cli_support.specs.Generating.{moved}
+use Rattle.glue_items.specs.Rewritten.{moved}
 use Rattle.cli_support.proofs.bindgen.move_imports.Given as goal
 
 abbrev pub invariant-loop-pair : goal.invariant-loop-pair

@@ -1,0 +1,4 @@
+mod Doubles
+pub mod Named
+mod Passing
+mod Resolved

@@ -1,0 +1,4 @@
+pub mod Check
+pub mod Doubles
+pub mod Exported
+pub mod Resolving

@@ -1,0 +1,6 @@
+pub mod Defined
+pub mod Items
+pub mod Keys
+pub mod Linked
+pub mod Plain
+pub mod Rewritten

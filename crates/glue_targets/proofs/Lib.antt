@@ -1,0 +1,2 @@
+pub mod FixedItems
+pub mod FixedNames
