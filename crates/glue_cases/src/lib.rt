@@ -1,4 +1,4 @@
-//! Tests of the crates from `glue_scope` to `cli_support`: texts and files that were worked out by hand.
+//! Tests of the crates from `glue_scope` to `glue_lower`: texts and files that were worked out by hand.
 #![tactic(auto)]
 
 #[cfg(test)]
@@ -15,5 +15,3 @@ mod lower;
 mod scope;
 #[cfg(test)]
 mod shared;
-#[cfg(test)]
-mod support;

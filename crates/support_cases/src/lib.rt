@@ -1,0 +1,5 @@
+//! Tests of `cli_support`: what is answered for settings and inputs, with the lengths of the files.
+#![tactic(auto)]
+
+#[cfg(test)]
+mod support;
