@@ -2,7 +2,7 @@
 
 ghost use Rattle.std.specs.Prelude.{◌≡◌};
 ghost use Rattle.wasm_bytes.specs.Gives.{Gives};
-ghost use Rattle.wasm_bytes.specs.Reading.{entries, raw};
+ghost use Rattle.wasm_bytes.specs.Reading.{followed, pure, entries, raw};
 ghost use Rattle.wasm_bytes.specs.Numbers.{number32};
 ghost use Rattle.wasm_bytes.specs.Items.{index};
 ghost use Rattle.wasm_ops.specs.Entries.{val_type};
@@ -210,6 +210,19 @@ fn read_array<const N: usize>(reader: &mut Reader<'_>) -> Result<[u8; N], ReadFa
     Ok(*bytes.as_array().unwrap())
 }
 
+/// An entry and another one behind it.
+fn read_pair<A: Entry, B: Entry>(
+    reader: &mut Reader<'_>,
+    alloc: Global,
+    counts: &Counts,
+) -> Result<(A, B), ReadFault>
+    ensures { Gives result reader.new (followed (A.grammar counts.now reader.old) (λ first rest. followed (B.grammar counts.now rest) (λ second. pure (first, second)))) }
+{
+    let first = A::read(reader, alloc, counts)?;
+    let second = B::read(reader, alloc, counts)?;
+    Ok((first, second))
+}
+
 /// What a number after the prefix FC asks for (WebAssembly core specification, 5.4.5 to 5.4.7).
 #[tactic(auto, unfolding(crate::specs::Operands::bulk_after))]
 fn read_bulk_after(
@@ -223,23 +236,23 @@ fn read_bulk_after(
     match code {
         0..=7 => Ok(Op::FcPlain(code)),
         8 => {
-            let segment = DataId::read(reader, alloc, counts)?;
-            Ok(Op::MemoryInit(segment, MemoryId::read(reader, alloc, counts)?))
+            let (segment, memory) = read_pair(reader, alloc, counts)?;
+            Ok(Op::MemoryInit(segment, memory))
         }
         9 => Ok(Op::DataDrop(DataId::read(reader, alloc, counts)?)),
         10 => {
-            let to = MemoryId::read(reader, alloc, counts)?;
-            Ok(Op::MemoryCopy(to, MemoryId::read(reader, alloc, counts)?))
+            let (to, from) = read_pair(reader, alloc, counts)?;
+            Ok(Op::MemoryCopy(to, from))
         }
         11 => Ok(Op::MemoryFill(MemoryId::read(reader, alloc, counts)?)),
         12 => {
-            let elem = ElemId::read(reader, alloc, counts)?;
-            Ok(Op::TableInit(elem, TableId::read(reader, alloc, counts)?))
+            let (elem, table) = read_pair(reader, alloc, counts)?;
+            Ok(Op::TableInit(elem, table))
         }
         13 => Ok(Op::ElemDrop(ElemId::read(reader, alloc, counts)?)),
         14 => {
-            let to = TableId::read(reader, alloc, counts)?;
-            Ok(Op::TableCopy(to, TableId::read(reader, alloc, counts)?))
+            let (to, from) = read_pair(reader, alloc, counts)?;
+            Ok(Op::TableCopy(to, from))
         }
         _ => Ok(Op::FcTable(code, TableId::read(reader, alloc, counts)?)),
     }

@@ -34,7 +34,7 @@ pub struct MemArg {
 }
 
 /// An operator.
-#[derive(Debug, PartialEq, Eq, Drop)]
+#[derive(Debug, Drop)]
 pub enum Op {
     Plain(u8),
     Block(u8, BlockType),
@@ -72,7 +72,7 @@ pub enum Op {
 }
 
 /// The body of a function: runs of locals of one type, and operators without the last 0B.
-#[derive(Debug, PartialEq, Eq, Drop)]
+#[derive(Debug, Drop)]
 pub struct Body {
     pub locals: Seq<(u32, ValType)>,
     pub ops: Seq<Op>,

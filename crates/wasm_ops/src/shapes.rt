@@ -4,7 +4,7 @@ ghost use Rattle.std.specs.Prelude.{◌≡◌};
 ghost use Rattle.wasm_ops.specs.Shapes.{simd_shape, shape_of, initial_shape, shape_within, named_blocks};
 
 /// The operands that follow an opcode.
-#[derive(Clone, Copy, Debug, PartialEq, Eq)]
+#[derive(Clone, Copy)]
 pub enum Shape {
     Plain,
     Block,
@@ -34,7 +34,7 @@ pub enum Shape {
 }
 
 /// The operands that follow the number of a vector operator.
-#[derive(Clone, Copy, Debug, PartialEq, Eq)]
+#[derive(Clone, Copy)]
 pub enum SimdShape {
     Plain,
     Mem,

@@ -3,17 +3,19 @@
 ghost use Rattle.std.specs.Prelude.{◌≡◌, ◌∷◌, ◌++◌, map, OnOk};
 ghost use Rattle.std.specs.List.{flat_map};
 ghost use Rattle.wasm_bytes.specs.Numbers.{number_bytes};
+ghost use Rattle.wasm_bytes.specs.Signed.{signed_bytes};
 ghost use Rattle.wasm_bytes.specs.Spelling.{list_bytes};
 ghost use Rattle.wasm_ops.specs.Locals.{joined_runs};
 ghost use Rattle.wasm_ops.specs.Numbers.{renumbered_block_type, renumbered_catch, renumbered_arg, renumbered_op, renumbered_ops, renumbered_body, number_at};
 ghost use Rattle.wasm_ops.specs.Spelling.{val_type_bytes, func_type_bytes, block_type_bytes, catch_bytes, mem_arg_bytes, coded, op_bytes, run_bytes, expression_bytes, code_bytes};
 
+use crate::ids::{TableId, TypeId};
 use crate::locals::join_runs;
 use crate::ops::{BlockType, Body, Catch, MemArg, Numbering, Op};
 use crate::types::{FuncType, ValType};
 use std::alloc::{AllocError, Global};
 use values::Seq;
-use wasm_bytes::{Spell, push_i32, push_i64, push_number, push_u32, write_framed, write_list};
+use wasm_bytes::{Spell, push_i64, push_number, push_u32, write_framed, write_list};
 
 impl Spell for ValType {
     ghost spelled = { val_type_bytes };
@@ -62,13 +64,33 @@ fn push_coded_pair(out: &mut Vec<u8>, code: u8, first: u32, second: u32) -> Resu
     push_u32(out, second)
 }
 
-/// Appends the prefix of operators in bulk, the number of one, and two numbers that follow.
-fn push_bulk(out: &mut Vec<u8>, code: u32, first: u32, second: u32) -> Result<(), AllocError>
-    ensures { OnOk result (out.new.items ≡ out.old.items ++ (coded 0xFC code ++ (number_bytes first ++ number_bytes second))) }
+/// Appends a byte and the number of a place.
+fn push_place(out: &mut Vec<u8>, code: u8, numbers: &Seq<u32>, place: u32) -> Result<(), AllocError>
+    ensures { OnOk result (out.new.items ≡ out.old.items ++ coded code (number_at numbers.now place)) }
 {
-    push_coded(out, 0xFC, code)?;
-    push_u32(out, first)?;
-    push_u32(out, second)
+    push_coded(out, code, number_at(numbers, place))
+}
+
+/// Appends the prefix of operators in bulk, the number of one, and the number of a place.
+fn push_bulk(out: &mut Vec<u8>, code: u32, numbers: &Seq<u32>, place: u32) -> Result<(), AllocError>
+    ensures { OnOk result (out.new.items ≡ out.old.items ++ (coded 0xFC code ++ number_bytes (number_at numbers.now place))) }
+{
+    push_coded_pair(out, 0xFC, code, number_at(numbers, place))
+}
+
+/// The same with the numbers of two places, each in its list.
+fn push_bulk_pair(
+    out: &mut Vec<u8>,
+    code: u32,
+    firsts: &Seq<u32>,
+    first: u32,
+    seconds: &Seq<u32>,
+    second: u32,
+) -> Result<(), AllocError>
+    ensures { OnOk result (out.new.items ≡ out.old.items ++ (coded 0xFC code ++ (number_bytes (number_at firsts.now first) ++ number_bytes (number_at seconds.now second)))) }
+{
+    push_bulk(out, code, firsts, first)?;
+    push_u32(out, number_at(seconds, second))
 }
 
 #[tactic(auto, unfolding(crate::specs::Spelling::block_type_bytes))]
@@ -113,15 +135,6 @@ fn write_each_catch(
     Ok(())
 }
 
-fn write_each_label(out: &mut Vec<u8>, labels: &[u32]) -> Result<(), AllocError>
-    ensures { OnOk result (out.new.items ≡ out.old.items ++ flat_map number_bytes labels.now) }
-{
-    for label in labels {
-        push_u32(out, *label)?;
-    }
-    Ok(())
-}
-
 #[tactic(auto, unfolding(crate::specs::Spelling::mem_arg_bytes))]
 fn write_mem_arg(out: &mut Vec<u8>, numbers: &Numbering, arg: MemArg) -> Result<(), AllocError>
     ensures { OnOk result (out.new.items ≡ out.old.items ++ mem_arg_bytes (renumbered_arg numbers.now arg)) }
@@ -134,14 +147,6 @@ fn write_mem_arg(out: &mut Vec<u8>, numbers: &Numbering, arg: MemArg) -> Result<
     push_number(out, arg.align as u64 + 64)?;
     push_u32(out, memory)?;
     push_number(out, arg.offset)
-}
-/// Appends a list of labels.
-#[tactic(auto, unfolding(wasm_bytes::specs::Spelling::list_bytes))]
-fn write_labels(out: &mut Vec<u8>, labels: &[u32]) -> Result<(), AllocError>
-    ensures { OnOk result (out.new.items ≡ out.old.items ++ list_bytes number_bytes labels.now) }
-{
-    push_number(out, labels.len() as u64)?;
-    write_each_label(out, labels)
 }
 
 /// Appends a list of catch clauses.
@@ -193,6 +198,84 @@ fn push_bytes(out: &mut Vec<u8>, code: u8, bytes: &[u8]) -> Result<(), AllocErro
     out.extend_from_slice(bytes)
 }
 
+/// Appends an opcode and the type of a block.
+fn write_block(
+    out: &mut Vec<u8>,
+    code: u8,
+    numbers: &Numbering,
+    ty: BlockType,
+) -> Result<(), AllocError>
+    ensures { OnOk result (out.new.items ≡ out.old.items ++ code ∷ block_type_bytes (renumbered_block_type numbers.now ty)) }
+{
+    out.push(code)?;
+    write_block_type(out, numbers, ty)
+}
+
+/// Appends a branch by a table of labels and the one that it has beside them.
+fn write_br_table(out: &mut Vec<u8>, labels: &[u32], label: u32) -> Result<(), AllocError>
+    ensures { OnOk result (out.new.items ≡ out.old.items ++ 0x0E ∷ (list_bytes number_bytes labels.now ++ number_bytes label)) }
+{
+    out.push(0x0E)?;
+    write_list(labels, out)?;
+    push_u32(out, label)
+}
+
+/// Appends a selection among values of these types.
+fn write_select(out: &mut Vec<u8>, types: &[ValType]) -> Result<(), AllocError>
+    ensures { OnOk result (out.new.items ≡ out.old.items ++ 0x1C ∷ list_bytes val_type_bytes types.now) }
+{
+    out.push(0x1C)?;
+    write_list(types, out)
+}
+
+/// Appends a block that catches exceptions: its type, and its catch clauses.
+fn write_try_table(
+    out: &mut Vec<u8>,
+    numbers: &Numbering,
+    ty: BlockType,
+    clauses: &[Catch],
+) -> Result<(), AllocError>
+    ensures { OnOk result (out.new.items ≡ out.old.items ++ 0x1F ∷ (block_type_bytes (renumbered_block_type numbers.now ty) ++ list_bytes catch_bytes (map (renumbered_catch numbers.now) clauses.now))) }
+{
+    write_block(out, 0x1F, numbers, ty)?;
+    write_catches(out, numbers, clauses)
+}
+
+/// Appends the opcode of an indirect call, and the numbers of its type and table.
+fn write_indirect(
+    out: &mut Vec<u8>,
+    code: u8,
+    numbers: &Numbering,
+    ty: TypeId,
+    table: TableId,
+) -> Result<(), AllocError>
+    ensures { OnOk result (out.new.items ≡ out.old.items ++ (coded code (number_at numbers.now.types ty.0) ++ number_bytes (number_at numbers.now.tables table.0))) }
+{
+    push_place(out, code, &numbers.types, ty.0)?;
+    push_u32(out, number_at(&numbers.tables, table.0))
+}
+
+/// Appends an opcode and a memory argument.
+fn write_mem(
+    out: &mut Vec<u8>,
+    code: u8,
+    numbers: &Numbering,
+    arg: MemArg,
+) -> Result<(), AllocError>
+    ensures { OnOk result (out.new.items ≡ out.old.items ++ code ∷ mem_arg_bytes (renumbered_arg numbers.now arg)) }
+{
+    out.push(code)?;
+    write_mem_arg(out, numbers, arg)
+}
+
+/// Appends an opcode and a number with a sign.
+fn push_coded_signed(out: &mut Vec<u8>, code: u8, value: i64) -> Result<(), AllocError>
+    ensures { OnOk result (out.new.items ≡ out.old.items ++ code ∷ signed_bytes value) }
+{
+    out.push(code)?;
+    push_i64(out, value)
+}
+
 /// Appends an operator with the numbers of what it names.
 #[tactic(auto, unfolding(crate::specs::Spelling::op_bytes, crate::specs::Spelling::val_type_bytes, crate::specs::Numbers::renumbered_op))]
 fn write_op(out: &mut Vec<u8>, numbers: &Numbering, op: &Op) -> Result<(), AllocError>
@@ -200,81 +283,48 @@ fn write_op(out: &mut Vec<u8>, numbers: &Numbering, op: &Op) -> Result<(), Alloc
 {
     match op {
         Op::Plain(code) => push_bytes(out, *code, &[]),
-        Op::Block(code, ty) => {
-            out.push(*code)?;
-            write_block_type(out, numbers, *ty)
-        }
-        Op::Tag(code, tag) => push_coded(out, *code, number_at(&numbers.tags, tag.0)),
+        Op::Block(code, ty) => write_block(out, *code, numbers, *ty),
+        Op::Tag(code, tag) => push_place(out, *code, &numbers.tags, tag.0),
         Op::Label(code, label) => push_coded(out, *code, *label),
-        Op::BrTable(labels, label) => {
-            out.push(0x0E)?;
-            write_labels(out, labels.as_slice())?;
-            push_u32(out, *label)
-        }
-        Op::Func(code, func) => push_coded(out, *code, number_at(&numbers.funcs, func.0)),
-        Op::Indirect(code, ty, table) => {
-            let ty = number_at(&numbers.types, ty.0);
-            push_coded_pair(out, *code, ty, number_at(&numbers.tables, table.0))
-        }
-        Op::Select(types) => {
-            out.push(0x1C)?;
-            write_list(types.as_slice(), out)
-        }
-        Op::TryTable(ty, clauses) => {
-            out.push(0x1F)?;
-            write_block_type(out, numbers, *ty)?;
-            write_catches(out, numbers, clauses.as_slice())
-        }
+        Op::BrTable(labels, label) => write_br_table(out, labels.as_slice(), *label),
+        Op::Func(code, func) => push_place(out, *code, &numbers.funcs, func.0),
+        Op::Indirect(code, ty, table) => write_indirect(out, *code, numbers, *ty, *table),
+        Op::Select(types) => write_select(out, types.as_slice()),
+        Op::TryTable(ty, clauses) => write_try_table(out, numbers, *ty, clauses.as_slice()),
         Op::Local(code, local) => push_coded(out, *code, *local),
-        Op::Global(code, global) => {
-            push_coded(out, *code, number_at(&numbers.globals, global.0))
-        }
-        Op::Table(code, table) => push_coded(out, *code, number_at(&numbers.tables, table.0)),
-        Op::Mem(code, arg) => {
-            out.push(*code)?;
-            write_mem_arg(out, numbers, *arg)
-        }
-        Op::Memory(code, memory) => {
-            push_coded(out, *code, number_at(&numbers.memories, memory.0))
-        }
-        Op::Const32(value) => {
-            out.push(0x41)?;
-            push_i32(out, *value)
-        }
-        Op::Const64(value) => {
-            out.push(0x42)?;
-            push_i64(out, *value)
-        }
+        Op::Global(code, global) => push_place(out, *code, &numbers.globals, global.0),
+        Op::Table(code, table) => push_place(out, *code, &numbers.tables, table.0),
+        Op::Mem(code, arg) => write_mem(out, *code, numbers, *arg),
+        Op::Memory(code, memory) => push_place(out, *code, &numbers.memories, memory.0),
+        Op::Const32(value) => push_coded_signed(out, 0x41, *value as i64),
+        Op::Const64(value) => push_coded_signed(out, 0x42, *value),
         Op::Raw4(bytes) => push_bytes(out, 0x43, bytes),
         Op::Raw8(bytes) => push_bytes(out, 0x44, bytes),
         Op::RefNull(ty) => push_bytes(out, 0xD0, &[ty.code()]),
         Op::FcPlain(code) => push_coded(out, 0xFC, *code),
         Op::MemoryInit(segment, memory) => {
-            let segment = number_at(&numbers.segments, segment.0);
-            push_bulk(out, 8, segment, number_at(&numbers.memories, memory.0))
+            push_bulk_pair(
+                out,
+                8,
+                &numbers.segments,
+                segment.0,
+                &numbers.memories,
+                memory.0,
+            )
         }
-        Op::DataDrop(segment) => {
-            push_coded_pair(out, 0xFC, 9, number_at(&numbers.segments, segment.0))
-        }
+        Op::DataDrop(segment) => push_bulk(out, 9, &numbers.segments, segment.0),
         Op::MemoryCopy(to, from) => {
-            let to = number_at(&numbers.memories, to.0);
-            push_bulk(out, 10, to, number_at(&numbers.memories, from.0))
+            push_bulk_pair(out, 10, &numbers.memories, to.0, &numbers.memories, from.0)
         }
-        Op::MemoryFill(memory) => {
-            push_coded_pair(out, 0xFC, 11, number_at(&numbers.memories, memory.0))
-        }
+        Op::MemoryFill(memory) => push_bulk(out, 11, &numbers.memories, memory.0),
         Op::TableInit(elem, table) => {
-            let elem = number_at(&numbers.elems, elem.0);
-            push_bulk(out, 12, elem, number_at(&numbers.tables, table.0))
+            push_bulk_pair(out, 12, &numbers.elems, elem.0, &numbers.tables, table.0)
         }
-        Op::ElemDrop(elem) => push_coded_pair(out, 0xFC, 13, number_at(&numbers.elems, elem.0)),
+        Op::ElemDrop(elem) => push_bulk(out, 13, &numbers.elems, elem.0),
         Op::TableCopy(to, from) => {
-            let to = number_at(&numbers.tables, to.0);
-            push_bulk(out, 14, to, number_at(&numbers.tables, from.0))
+            push_bulk_pair(out, 14, &numbers.tables, to.0, &numbers.tables, from.0)
         }
-        Op::FcTable(code, table) => {
-            push_coded_pair(out, 0xFC, *code, number_at(&numbers.tables, table.0))
-        }
+        Op::FcTable(code, table) => push_bulk(out, *code, &numbers.tables, table.0),
         Op::Simd(code) => push_coded(out, 0xFD, *code),
         Op::SimdMem(code, arg) => write_simd_mem(out, numbers, *code, *arg, &[]),
         Op::SimdMemLane(code, arg, lane) => write_simd_mem(out, numbers, *code, *arg, &[*lane]),
