@@ -1,5 +1,5 @@
 //! Lines and their levels.
-ghost use Rattle.std.specs.Prelude.{◌≡◌, ◌<◌, ◌≤◌, ◌+◌, ◌*◌, ◌++◌, IfOk, OnOk, length, map, replicate, string_bytes};
+ghost use Rattle.std.specs.Prelude.{◌≡◌, ◌==◌, ◌<◌, ◌≤◌, ◌+◌, ◌*◌, ◌++◌, if◌then◌else◌, IfOk, OnOk, length, map, replicate, slice_index, string_bytes};
 ghost use Rattle.std.specs.Str.{trim};
 ghost use Rattle.std.specs.Str.Lines.{lines};
 ghost use Rattle.glue_layout.specs.Layout.{columns, indented, laid_line, level_after, level_at, trimmed_lines};
@@ -44,23 +44,33 @@ fn push_levels(laid: &mut String, count: usize) -> Result<(), AllocError>
     Ok(())
 }
 
-// Appends the spaces before a line.
+// The levels before a line, none if it is empty.
 #[tactic(auto, unfolding(crate::specs::Layout::columns))]
+fn levels_before(level: usize, line: &str) -> usize
+    requires { level < usize.MAX }
+    ensures { columns level line.now ≡ 4 * result + (if slice_index line.now 0 == 42 then 1 else 0) }
+{
+    if line.is_empty() {
+        0
+    } else if line.starts_with('*') {
+        level
+    } else if line.starts_with(':') || line.starts_with('?') {
+        level + 1
+    } else {
+        level_at(level, line)
+    }
+}
+
+// Appends the spaces before a line.
 fn push_columns(laid: &mut String, level: usize, line: &str) -> Result<(), AllocError>
     requires { level < usize.MAX }
     ensures { OnOk result (string_bytes laid.new ≡ string_bytes laid.old ++ replicate (columns level line.now) 32) }
 {
-    if line.is_empty() {
-        return Ok(());
-    }
+    push_levels(laid, levels_before(level, line))?;
     if line.starts_with('*') {
-        push_levels(laid, level)?;
         return laid.push(' ');
     }
-    if line.starts_with(':') || line.starts_with('?') {
-        return push_levels(laid, level + 1);
-    }
-    push_levels(laid, level_at(level, line))
+    Ok(())
 }
 
 // Appends a trimmed line.

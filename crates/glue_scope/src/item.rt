@@ -23,7 +23,7 @@ pub enum Thing {
 }
 
 /// What an item is for.
-#[derive(Debug, PartialEq, Eq, PartialOrd, Ord, Hash, Drop)]
+#[derive(Debug, PartialEq, Eq, Drop)]
 pub enum Role {
     /// An import of a JavaScript module.
     Import,
@@ -50,7 +50,7 @@ pub enum Role {
 }
 
 /// A piece of the glue file.
-#[derive(Debug, PartialEq, Eq, PartialOrd, Ord, Hash, Drop)]
+#[derive(Debug, PartialEq, Eq, Drop)]
 pub struct Item {
     /// What the item is for.
     pub role: Role,
@@ -71,6 +71,21 @@ impl Duplicate for Thing {
     }
 }
 
+/// Copies of a path, of the thing that stands there, and of the name that it is bound to.
+fn copy_place(
+    path: &Seq<Text>,
+    thing: &Thing,
+    name: &Text,
+    alloc: Global,
+) -> Result<(Seq<Text>, Thing, Text), AllocError>
+    ensures { IfOk result (λ place. place ≡ (path.now, thing.now, name.now)) }
+{
+    let path = path.copy(alloc)?;
+    let name = name.copy(alloc)?;
+    let thing = thing.copy(alloc)?;
+    Ok((path, thing, name))
+}
+
 impl Duplicate for Role {
     fn copy(&self, alloc: Global) -> Result<Role, AllocError> {
         match self {
@@ -79,17 +94,15 @@ impl Duplicate for Role {
             Role::Fixed => Ok(Role::Fixed),
             Role::Define(place) => Ok(Role::Define(*place)),
             Role::Declare(thing) => Ok(Role::Declare(thing.copy(alloc)?)),
-            Role::Publish(path, thing, name) => Ok(Role::Publish(
-                path.copy(alloc)?,
-                thing.copy(alloc)?,
-                name.copy(alloc)?,
-            )),
+            Role::Publish(path, thing, name) => {
+                let (path, thing, name) = copy_place(path, thing, name, alloc)?;
+                Ok(Role::Publish(path, thing, name))
+            }
             Role::Namespace(path) => Ok(Role::Namespace(path.copy(alloc)?)),
-            Role::Assign(path, thing, name) => Ok(Role::Assign(
-                path.copy(alloc)?,
-                thing.copy(alloc)?,
-                name.copy(alloc)?,
-            )),
+            Role::Assign(path, thing, name) => {
+                let (path, thing, name) = copy_place(path, thing, name, alloc)?;
+                Ok(Role::Assign(path, thing, name))
+            }
             Role::Helper(key) => Ok(Role::Helper(key.copy(alloc)?)),
             Role::Body => Ok(Role::Body),
             Role::Loading => Ok(Role::Loading),
@@ -99,9 +112,8 @@ impl Duplicate for Role {
 
 impl Duplicate for Item {
     fn copy(&self, alloc: Global) -> Result<Item, AllocError> {
-        Ok(Item {
-            role: self.role.copy(alloc)?,
-            words: self.words.copy(alloc)?,
-        })
+        let words = self.words.copy(alloc)?;
+        let role = self.role.copy(alloc)?;
+        Ok(Item { role, words })
     }
 }

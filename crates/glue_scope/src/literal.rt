@@ -11,16 +11,15 @@ fn push_escaped(out: &mut String, ch: char) -> Result<(), AllocError>
     ensures { IfOk result (λ _. string_bytes out.new ≡ string_bytes out.old ++ escaped_char ch) }
 {
     match ch {
-        '"' => out.push_str("\\\"")?,
-        '\\' => out.push_str("\\\\")?,
-        '\n' => out.push_str("\\n")?,
-        '\r' => out.push_str("\\r")?,
-        '\u{2028}' => out.push_str("\\u2028")?,
-        '\u{2029}' => out.push_str("\\u2029")?,
-        '\0'..='\u{1f}' | '\u{7f}' => push_hex_escape(out, ch as u32)?,
-        _ => out.push(ch)?,
+        '"' => out.push_str("\\\""),
+        '\\' => out.push_str("\\\\"),
+        '\n' => out.push_str("\\n"),
+        '\r' => out.push_str("\\r"),
+        '\u{2028}' => out.push_str("\\u2028"),
+        '\u{2029}' => out.push_str("\\u2029"),
+        '\0'..='\u{1f}' | '\u{7f}' => push_hex_escape(out, ch as u32),
+        _ => out.push(ch),
     }
-    Ok(())
 }
 
 /// Writes `\x` and two digits.
@@ -30,8 +29,7 @@ fn push_hex_escape(out: &mut String, code: u32) -> Result<(), AllocError>
 {
     out.push_str("\\x")?;
     out.push(digit(code / 16))?;
-    out.push(digit(code % 16))?;
-    Ok(())
+    out.push(digit(code % 16))
 }
 
 /// A hexadecimal digit in lower case.

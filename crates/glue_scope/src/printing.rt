@@ -4,6 +4,7 @@ ghost use Rattle.std.specs.List.{flat_map};
 ghost use Rattle.std.specs.String.{string_bytes};
 ghost use Rattle.std.specs.Fmt.{signed_decimal};
 ghost use Rattle.glue_scope.specs.Literal.{literal};
+ghost use Rattle.glue_scope.specs.declared.word.NoteKind.TheVariants.{Block};
 ghost use Rattle.glue_scope.specs.Words.{access, note_body, note_char, note_text as text_of_note, outer, printed, text_of};
 
 use crate::ident::is_valid_ident;
@@ -36,27 +37,32 @@ fn push_note_char(out: &mut String, after_star: bool, ch: char) -> Result<(), Al
     }
 }
 
+/// Writes a mark and the characters of a note behind it.
+fn push_marked(out: &mut String, mark: &str, text: &str) -> Result<(), AllocError>
+    ensures { IfOk result (λ _. string_bytes out.new ≡ string_bytes out.old ++ mark.now ++ note_body text.now) }
+{
+    out.push_str(mark)?;
+    push_note_body(out, text)
+}
+
+/// Writes `/* text */`.
+fn push_block(out: &mut String, text: &str) -> Result<(), AllocError>
+    ensures { IfOk result (λ _. string_bytes out.new ≡ string_bytes out.old ++ text_of_note Block text.now) }
+{
+    push_marked(out, "/* ", text)?;
+    out.push_str(" */")
+}
+
 fn push_note(out: &mut String, kind: NoteKind, text: &str) -> Result<(), AllocError>
     ensures { IfOk result (λ _. string_bytes out.new ≡ string_bytes out.old ++ text_of_note kind text.now) }
 {
     match kind {
-        NoteKind::Open => out.push_str("/**")?,
-        NoteKind::Line => {
-            out.push_str(" * ")?;
-            push_note_body(out, text)?;
-        }
-        NoteKind::Close => out.push_str(" */")?,
-        NoteKind::Slash => {
-            out.push_str("// ")?;
-            push_note_body(out, text)?;
-        }
-        NoteKind::Block => {
-            out.push_str("/* ")?;
-            push_note_body(out, text)?;
-            out.push_str(" */")?;
-        }
+        NoteKind::Open => out.push_str("/**"),
+        NoteKind::Line => push_marked(out, " * ", text),
+        NoteKind::Close => out.push_str(" */"),
+        NoteKind::Slash => push_marked(out, "// ", text),
+        NoteKind::Block => push_block(out, text),
     }
-    Ok(())
 }
 
 fn push_literal(alloc: Global, out: &mut String, text: &str) -> Result<(), AllocError>

@@ -1,5 +1,5 @@
 //! Properties, by their names and by computed keys.
-ghost use Rattle.std.specs.Prelude.{◌≡◌, ◌++◌, ◌==◌, IfOk, OnOk};
+ghost use Rattle.std.specs.Prelude.{◌≡◌, ◌++◌, ◌∷◌, ◌==◌, [], IfOk, OnOk};
 ghost use Rattle.glue_scope.specs.Limits.{first_passes, last_passes, is_computed};
 ghost use Rattle.glue_scope.specs.Properties.{property_parts, segment_words};
 
@@ -36,21 +36,26 @@ pub fn is_computed_key(name: &str) -> bool
     begins_with(bytes, b'[') && ends_with(bytes, b']')
 }
 
+/// Adds a word.
+fn push(words: &mut Vec<Word>, word: Word) -> Result<(), AllocError>
+    ensures { OnOk result (words.new.items ≡ words.old.items ++ word ∷ []) }
+{
+    words.push(word)?;
+    Ok(())
+}
+
 /// Adds the access of a property: `.name`, or `["name"]` where the name is no identifier.
 #[tactic(auto, unfolding(crate::specs::Properties::segment_words))]
 fn push_segment(alloc: Global, words: &mut Vec<Word>, segment: &str) -> Result<(), AllocError>
     ensures { OnOk result (words.new.items ≡ words.old.items ++ segment_words segment.now) }
 {
-    let text = Text::from_str(alloc, segment)?;
     if is_valid_ident(segment) {
-        words.push(Word::Punct(6))?;
-        words.push(Word::Prop(text))?;
-        return Ok(());
+        push(words, Word::Punct(6))?;
+        return push(words, Word::Prop(Text::from_str(alloc, segment)?));
     }
-    words.push(Word::Punct(4))?;
-    words.push(Word::Text(text))?;
-    words.push(Word::Punct(5))?;
-    Ok(())
+    push(words, Word::Punct(4))?;
+    push(words, Word::Text(Text::from_str(alloc, segment)?))?;
+    push(words, Word::Punct(5))
 }
 
 /// The words that access a property after an object.
@@ -62,7 +67,7 @@ pub fn property_words(alloc: Global, name: &str) -> Result<Vec<Word>, AllocError
 {
     let mut words = Vec::new(alloc);
     if is_computed_key(name) {
-        words.push(Word::Splice(Text::from_str(alloc, name)?))?;
+        push(&mut words, Word::Splice(Text::from_str(alloc, name)?))?;
         return Ok(words);
     }
     for segment in name.split('.') {

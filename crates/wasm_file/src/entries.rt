@@ -5,7 +5,7 @@ use wasm_ops::{
 };
 
 /// What an import asks for.
-#[derive(Clone, Copy, Debug, PartialEq, Eq)]
+#[derive(Clone, Copy, Debug)]
 pub enum ImportType {
     Func(TypeId),
     Table(ValType, Limits),
@@ -16,7 +16,7 @@ pub enum ImportType {
 }
 
 /// An import as a file has it: its type stands in it.
-#[derive(Debug, PartialEq, Eq, Drop)]
+#[derive(Debug, Drop)]
 pub struct FileImport {
     pub module: Text,
     pub name: Text,
@@ -48,7 +48,7 @@ pub struct Custom {
 }
 
 /// A table as a file has it: a reference type and limits.
-#[derive(Clone, Copy, Debug, PartialEq, Eq)]
+#[derive(Clone, Copy, Debug)]
 pub struct TableType {
     pub elem: ValType,
     pub limits: Limits,

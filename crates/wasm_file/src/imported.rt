@@ -1,12 +1,13 @@
 //! How many items of each kind a file imports.
 
 ghost use Rattle.std.specs.Prelude.{◌≡◌, ◌≤◌, length};
-ghost use Rattle.wasm_file.specs.Parts.{AreAtMost, AreNumbersOf, number_of, is_func, is_table, is_memory, is_global, is_tag};
+ghost use Rattle.wasm_file.specs.Kinds.{is_of};
+ghost use Rattle.wasm_file.specs.Parts.{AreAtMost, AreNumbersOf, number_of};
 
 use crate::entries::{FileImport, ImportType};
 
 /// The numbers of imported items of each kind.
-#[derive(Clone, Copy, Debug)]
+#[derive(Clone, Copy)]
 pub(crate) struct Imported {
     pub funcs: usize,
     pub tables: usize,
@@ -15,74 +16,36 @@ pub(crate) struct Imported {
     pub tags: usize,
 }
 
-fn is_func(ty: ImportType) -> bool
-    ensures { result ≡ is_func ty }
-{
-    matches!(ty, ImportType::Func(_))
+/// A kind of item that is imported.
+#[derive(Clone, Copy)]
+enum Kind {
+    Func,
+    Table,
+    Memory,
+    Global,
+    Tag,
 }
 
-fn is_table(ty: ImportType) -> bool
-    ensures { result ≡ is_table ty }
+/// Whether an item of this kind is asked for.
+fn is_of(kind: Kind, ty: ImportType) -> bool
+    ensures { result ≡ is_of kind ty }
 {
-    matches!(ty, ImportType::Table(_, _))
+    match kind {
+        Kind::Func => matches!(ty, ImportType::Func(_)),
+        Kind::Table => matches!(ty, ImportType::Table(_, _)),
+        Kind::Memory => matches!(ty, ImportType::Memory(_)),
+        Kind::Global => matches!(ty, ImportType::Global(_, _)),
+        Kind::Tag => matches!(ty, ImportType::Tag(_)),
+    }
 }
 
-fn is_memory(ty: ImportType) -> bool
-    ensures { result ≡ is_memory ty }
-{
-    matches!(ty, ImportType::Memory(_))
-}
-
-fn is_global(ty: ImportType) -> bool
-    ensures { result ≡ is_global ty }
-{
-    matches!(ty, ImportType::Global(_, _))
-}
-
-fn is_tag(ty: ImportType) -> bool
-    ensures { result ≡ is_tag ty }
-{
-    matches!(ty, ImportType::Tag(_))
-}
-
+/// How many imports ask for an item of this kind.
 #[tactic(auto, unfolding(crate::specs::Parts::number_of), using(crate::proofs::Counting::at_most))]
-fn count_funcs(imports: &[FileImport]) -> usize
-    ensures value { result ≡ number_of is_func imports.now }
+fn count_of(kind: Kind, imports: &[FileImport]) -> usize
+    ensures value { result ≡ number_of (is_of kind) imports.now }
     ensures below { result ≤ length imports.now }
 {
-    imports.iter().filter(|i| is_func(i.ty)).count()
-}
-
-#[tactic(auto, unfolding(crate::specs::Parts::number_of), using(crate::proofs::Counting::at_most))]
-fn count_tables(imports: &[FileImport]) -> usize
-    ensures value { result ≡ number_of is_table imports.now }
-    ensures below { result ≤ length imports.now }
-{
-    imports.iter().filter(|i| is_table(i.ty)).count()
-}
-
-#[tactic(auto, unfolding(crate::specs::Parts::number_of), using(crate::proofs::Counting::at_most))]
-fn count_memories(imports: &[FileImport]) -> usize
-    ensures value { result ≡ number_of is_memory imports.now }
-    ensures below { result ≤ length imports.now }
-{
-    imports.iter().filter(|i| is_memory(i.ty)).count()
-}
-
-#[tactic(auto, unfolding(crate::specs::Parts::number_of), using(crate::proofs::Counting::at_most))]
-fn count_globals(imports: &[FileImport]) -> usize
-    ensures value { result ≡ number_of is_global imports.now }
-    ensures below { result ≤ length imports.now }
-{
-    imports.iter().filter(|i| is_global(i.ty)).count()
-}
-
-#[tactic(auto, unfolding(crate::specs::Parts::number_of), using(crate::proofs::Counting::at_most))]
-fn count_tags(imports: &[FileImport]) -> usize
-    ensures value { result ≡ number_of is_tag imports.now }
-    ensures below { result ≤ length imports.now }
-{
-    imports.iter().filter(|i| is_tag(i.ty)).count()
+    imports.iter().filter(|i| is_of(kind, i.ty)).count()
 }
 
 /// Counts the imports of each kind.
@@ -91,10 +54,10 @@ pub(crate) fn count_imports(imports: &[FileImport]) -> Imported
     ensures below { AreAtMost (length imports.now) result }
 {
     Imported {
-        funcs: count_funcs(imports),
-        tables: count_tables(imports),
-        memories: count_memories(imports),
-        globals: count_globals(imports),
-        tags: count_tags(imports),
+        funcs: count_of(Kind::Func, imports),
+        tables: count_of(Kind::Table, imports),
+        memories: count_of(Kind::Memory, imports),
+        globals: count_of(Kind::Global, imports),
+        tags: count_of(Kind::Tag, imports),
     }
 }

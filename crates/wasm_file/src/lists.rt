@@ -7,6 +7,7 @@ ghost use Rattle.wasm_bytes.specs.Reading.{allowed, entries, for_each};
 ghost use Rattle.wasm_bytes.specs.Items.{listed};
 ghost use Rattle.wasm_bytes.specs.Numbers.{number32};
 ghost use Rattle.wasm_file.specs.Entries.{memory_type, tag_type};
+ghost use Rattle.wasm_file.specs.Grammar.{is_complete};
 ghost use Rattle.wasm_file.specs.Parts.{most, no_parts, AreFew, AreCounted, counts_of, params_of, is_plain, imported_func_types, func_types};
 ghost use Rattle.wasm_file.specs.Sections.{custom_section, type_section, import_section, function_section, table_section, memory_section, tag_section, global_section, export_section, type_at, start_section, elem_section, data_count_section, function_body, code_section, is_told, data_section, content};
 
@@ -21,7 +22,7 @@ use wasm_bytes::{Counts, Entry, ReadFault, Reader, read_entries, read_list};
 use wasm_ops::{Body, FuncId, FuncType, Limits, TypeId, read_code_entry};
 
 /// The lists of the sections so far, and how many items of each kind are imported.
-#[derive(Debug, Drop)]
+#[derive(Drop)]
 pub(crate) struct Lists {
     imported: Imported,
     parts: Parts,
@@ -76,8 +77,16 @@ impl Lists {
         ensures same { result ≡ self }
         ensures few { AreFew result }
     {
-        let Lists { parts, .. } = self;
-        parts
+        self.parts
+    }
+
+    /// Whether each function has a body, and there are as many segments as are told.
+    pub(crate) fn is_complete(&self) -> bool
+        ensures { result ≡ is_complete self.now }
+    {
+        let parts = &self.parts;
+        parts.functions.len() == parts.bodies.len()
+            && is_told(parts.data_count, parts.segments.len())
     }
 
     /// The number of segments that is told, 0 where none is.
@@ -346,7 +355,7 @@ fn read_body_count(reader: &mut Reader<'_>, wanted: usize) -> Result<u32, ReadFa
 }
 
 /// Whether a number is the one that is told, where one is.
-pub(crate) fn is_told(told: Option<u32>, count: usize) -> bool
+fn is_told(told: Option<u32>, count: usize) -> bool
     ensures { result ≡ is_told told count }
 {
     match told {

@@ -1,13 +1,13 @@
 //! Reading the sections of a file, one after another (WebAssembly core specification, 5.5.2 and 5.5.16).
 
-ghost use Rattle.std.specs.Prelude.{◌≡◌, length, IfOk};
-ghost use Rattle.wasm_bytes.specs.Gives.{Decodes};
-ghost use Rattle.wasm_file.specs.Grammar.{at_start, rank_of, may_come, is_complete, parts_of};
+ghost use Rattle.std.specs.Prelude.{◌≡◌, length, IfOk, OnOk};
+ghost use Rattle.wasm_bytes.specs.Gives.{Decodes, GivesState};
+ghost use Rattle.wasm_file.specs.Grammar.{at_start, rank_of, may_come, is_complete, whole, parts_of};
 ghost use Rattle.wasm_file.specs.Parts.{AreFew};
 
 use crate::entries::Parts;
 use crate::frames::read_preamble;
-use crate::lists::{Lists, is_told};
+use crate::lists::Lists;
 use std::alloc::Global;
 use std::marker::Model;
 use wasm_bytes::{ReadFault, Reader, Step, read_steps};
@@ -35,7 +35,7 @@ fn rank(id: u8) -> u8
 }
 
 /// The lists so far, and the place of the last section in the order of sections.
-#[derive(Debug, Drop)]
+#[derive(Drop)]
 struct Progress {
     rank: u8,
     lists: Lists,
@@ -64,6 +64,40 @@ impl Progress {
     {
         id == 0 || self.rank < rank(id)
     }
+
+    /// The lists themselves.
+    fn into_parts(self) -> Parts
+        ensures same { result ≡ self.parts }
+        ensures few { AreFew result }
+    {
+        self.lists.into_parts()
+    }
+
+    /// Whether the lists may be those of a whole file.
+    fn is_complete(&self) -> bool
+        ensures { result ≡ is_complete self.now.parts }
+    {
+        self.lists.is_complete()
+    }
+
+    /// A whole file, from its first byte on.
+    #[tactic(auto, unfolding(crate::specs::Grammar::whole, crate::specs::Grammar::all_sections))]
+    fn read_whole(&mut self, reader: &mut Reader<'_>, alloc: Global) -> Result<(), ReadFault>
+        requires { self.old ≡ at_start }
+        ensures read { GivesState result self.new.parts reader.new (whole reader.old) }
+        ensures paired { OnOk result (length self.new.parts.functions ≡ length self.new.parts.bodies) }
+    {
+        read_preamble(reader)?;
+        read_steps(self, reader, alloc)?;
+        reader.finish()?;
+        if self.is_complete() {
+            Ok(())
+        } else {
+            Err(ReadFault::Parse {
+                place: reader.end(),
+            })
+        }
+    }
 }
 
 impl Step for Progress {
@@ -91,31 +125,14 @@ impl Step for Progress {
     }
 }
 
-/// Whether each function has a body, and there are as many segments as are told.
-fn is_complete(parts: &Parts) -> bool
-    ensures { result ≡ is_complete parts.now }
-{
-    parts.functions.len() == parts.bodies.len() && is_told(parts.data_count, parts.segments.len())
-}
-
 /// The lists of a file (WebAssembly core specification, 5.5), with the place of the first fault.
-#[tactic(auto, unfolding(crate::specs::Grammar::parts_of, crate::specs::Grammar::whole, crate::specs::Grammar::all_sections))]
+#[tactic(auto, unfolding(crate::specs::Grammar::parts_of))]
 pub fn read_parts(alloc: Global, bytes: &[u8]) -> Result<Parts, ReadFault>
     ensures read { Decodes result (parts_of bytes.now) }
     ensures few { IfOk result AreFew }
     ensures paired { IfOk result (λ p. length p.functions ≡ length p.bodies) }
 {
-    let mut reader = Reader::new(bytes);
-    read_preamble(&mut reader)?;
     let mut progress = Progress::new(alloc);
-    read_steps(&mut progress, &mut reader, alloc)?;
-    reader.finish()?;
-    let Progress { lists, .. } = progress;
-    let parts = lists.into_parts();
-    if !is_complete(&parts) {
-        return Err(ReadFault::Parse {
-            place: reader.end(),
-        });
-    }
-    Ok(parts)
+    let read = progress.read_whole(&mut Reader::new(bytes), alloc);
+    read.and(Ok(progress.into_parts()))
 }

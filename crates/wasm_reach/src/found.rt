@@ -12,7 +12,7 @@ use std::alloc::{AllocError, Global};
 use std::marker::Model;
 
 /// The things found so far, each once, in the order in which they were found.
-#[derive(Debug, Drop)]
+#[derive(Drop)]
 pub(crate) struct Found {
     marks: Marks,
     list: Vec<Thing>,

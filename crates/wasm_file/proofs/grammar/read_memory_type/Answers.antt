@@ -1,0 +1,8 @@
+use Rattle.std.proofs.Common.{arith}
+use Rattle.std.proofs.lemmas.Grind.{common_steps}
+use Rattle.wasm_file.specs.Entries.{memory_type}
+use Rattle.wasm_file.proofs.grammar.read_memory_type.Goals as goal
+
+pub returns : goal.returns
+unfolding memory_type
+returns c = grind (arith, common_steps)
