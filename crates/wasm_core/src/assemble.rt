@@ -1,23 +1,22 @@
-//! A module of a file's lists.
+//! The entries of a module, made of those of a file.
 
 ghost use Rattle.std.specs.Prelude.{◌≡◌, [], ◌++◌, ◌+◌, ◌<◌, ◌≤◌, ◌^◌, length, map, fold, Some, IfOk, OnOk};
 ghost use Rattle.std.specs.List.{filter};
-ghost use Rattle.wasm_file.specs.Parts.{AreFew};
-ghost use Rattle.wasm_core.specs.Parsing.{assembled, imports_behind, places_of, kind_at, brought, imported_func, imported_table, imported_memory, imported_global, imported_tag, own_funcs, table_of, memory_of, global_of, tag_of, joined, all_funcs, names_in, merged, all_names, with_names, name_given, producers_in, all_producers, is_kept, after};
+ghost use Rattle.wasm_core.specs.Edits.{func_named};
+ghost use Rattle.wasm_core.specs.Parsing.{imports_behind, places_of, kind_at, brought, imported_func, imported_table, imported_memory, imported_global, imported_tag, own_funcs, table_of, memory_of, global_of, tag_of, joined, all_funcs, names_in, merged, all_names, with_name, with_names, name_given, producers_in, all_producers, is_kept, after};
 
-use crate::module::Module;
 use crate::numbering::take_next;
-use crate::types::{Func, GlobalVar, Import, ImportKind, Memory, ParseConfig, Table, Tag};
+use crate::types::{Func, GlobalVar, Import, ImportKind, Memory, Table, Tag};
 use std::alloc::{AllocError, Global};
 use values::{Seq, Text};
 use wasm_file::{
-    Custom, FileGlobal, FileImport, ImportType, Names, Parts, ProducerField, TableType, read_names,
+    Custom, FileGlobal, FileImport, ImportType, Names, ProducerField, TableType, read_names,
     read_producers,
 };
 use wasm_ops::{Body, FuncId, GlobalId, ImportId, Limits, MemoryId, TableId, TagId, TypeId};
 
 /// The next places of items, by their kinds.
-#[derive(Clone, Copy, Debug)]
+#[derive(Clone, Copy)]
 struct Places {
     funcs: u32,
     tables: u32,
@@ -47,7 +46,10 @@ impl Places {
 
 /// Imports, each of the next item of its kind.
 #[tactic(auto, unfolding(crate::specs::Parsing::imports_behind))]
-fn place_imports(alloc: Global, imports: Seq<FileImport>) -> Result<Vec<Option<Import>>, AllocError>
+pub(crate) fn place_imports(
+    alloc: Global,
+    imports: Seq<FileImport>,
+) -> Result<Vec<Option<Import>>, AllocError>
     ensures { IfOk result (λ v. v.items ≡ imports_behind [] imports) }
 {
     let mut places = Places {
@@ -70,7 +72,7 @@ fn place_imports(alloc: Global, imports: Seq<FileImport>) -> Result<Vec<Option<I
 }
 
 /// What an import can bring in.
-trait Imported: Sized + Drop {
+pub(crate) trait Imported: Sized + Drop {
     ghost use Rattle.std.specs.Prelude.{Option, ◌≡◌};
     ghost use Rattle.wasm_ops.specs.declared.ids.ImportId.{ImportId};
     ghost use Rattle.wasm_file.specs.declared.entries.ImportType.{ImportType};
@@ -175,7 +177,7 @@ fn import_all<T: Imported>(
 }
 
 /// What a file has of an entry that isn't imported.
-trait Own: Drop {
+pub(crate) trait Own: Drop {
     ghost use Rattle.std.specs.Prelude.{◌≡◌};
 
     /// What a module has of it.
@@ -245,7 +247,7 @@ impl Own for TypeId {
 }
 
 /// All entries of a kind: the imported ones, and then the others.
-fn with_own<T: Own>(
+pub(crate) fn with_own<T: Own>(
     alloc: Global,
     imports: &[FileImport],
     own: Seq<T>,
@@ -284,7 +286,7 @@ fn join_bodies(
 }
 
 /// Entries, each at its place.
-fn place_all<T: Drop>(alloc: Global, items: Seq<T>) -> Result<Vec<Option<T>>, AllocError>
+pub(crate) fn place_all<T: Drop>(alloc: Global, items: Seq<T>) -> Result<Vec<Option<T>>, AllocError>
     ensures { IfOk result (λ v. v.items ≡ map Some items) }
 {
     let mut placed = Vec::new(alloc);
@@ -318,7 +320,7 @@ fn merge(names: &mut Names, more: Names) -> Result<(), AllocError>
 
 /// The names that all name sections give.
 #[tactic(auto, unfolding(crate::specs::Parsing::all_names))]
-fn all_names(alloc: Global, customs: &[Custom], funcs: u32) -> Result<Names, AllocError>
+pub(crate) fn all_names(alloc: Global, customs: &[Custom], funcs: u32) -> Result<Names, AllocError>
     ensures { IfOk result (λ names. names ≡ all_names funcs customs.now) }
 {
     let mut names = Names {
@@ -333,20 +335,28 @@ fn all_names(alloc: Global, customs: &[Custom], funcs: u32) -> Result<Names, All
     Ok(names)
 }
 
+/// Gives a function a name, where there is one.
+pub(crate) fn name_func(entry: &mut Option<Func>, name: Text)
+    ensures entry { entry.new ≡ with_name (Some name) entry.old }
+    ensures place { entry.new ≡ func_named name (Some entry.old) }
+{
+    if let Some(func) = entry {
+        func.name = Some(name);
+    }
+}
+
 /// Gives the function at a place a name, where there is one.
 fn give_name(funcs: &mut Vec<Option<Func>>, func: FuncId, name: Text)
     ensures { funcs.new.items ≡ name_given funcs.old.items (func, name) }
 {
     let place = func.0 as usize;
     if place < funcs.len() {
-        if let Some(func) = &mut funcs[place] {
-            func.name = Some(name);
-        }
+        name_func(&mut funcs[place], name);
     }
 }
 
 /// Gives functions their names. Of several the last one counts.
-fn give_names(funcs: &mut Vec<Option<Func>>, names: Seq<(FuncId, Text)>)
+pub(crate) fn give_names(funcs: &mut Vec<Option<Func>>, names: Seq<(FuncId, Text)>)
     ensures { funcs.new.items ≡ with_names names funcs.old.items }
 {
     for (func, name) in names.into_vec() {
@@ -367,7 +377,10 @@ fn producers_in(alloc: Global, custom: &Custom) -> Result<Option<Seq<ProducerFie
 
 /// The fields of all producers sections.
 #[tactic(auto, unfolding(crate::specs::Parsing::all_producers))]
-fn all_producers(alloc: Global, customs: &[Custom]) -> Result<Seq<ProducerField>, AllocError>
+pub(crate) fn all_producers(
+    alloc: Global,
+    customs: &[Custom],
+) -> Result<Seq<ProducerField>, AllocError>
     ensures { IfOk result (λ fields. fields ≡ all_producers customs.now) }
 {
     let mut fields = Seq::new(alloc);
@@ -390,14 +403,14 @@ fn is_kept(custom: &Custom, keep_debug: bool) -> bool
 }
 
 /// Drops the custom sections that don't stay.
-fn drop_read(customs: &mut Vec<Custom>, keep_debug: bool)
+pub(crate) fn drop_read(customs: &mut Vec<Custom>, keep_debug: bool)
     ensures { customs.new.items ≡ filter (is_kept keep_debug) customs.old.items }
 {
     customs.retain(|custom| is_kept(custom, keep_debug));
 }
 
 /// All functions, without names.
-fn all_funcs(
+pub(crate) fn all_funcs(
     alloc: Global,
     imports: &[FileImport],
     types: &[TypeId],
@@ -411,63 +424,4 @@ fn all_funcs(
     let mut funcs = import_all(alloc, imports)?;
     join_bodies(&mut funcs, types, bodies)?;
     Ok(funcs)
-}
-
-impl Module {
-    /// The module of a file's lists.
-    #[tactic(auto, unfolding(crate::specs::Parsing::assembled))]
-    pub(crate) fn assemble(
-        alloc: Global,
-        parts: Parts,
-        config: ParseConfig,
-    ) -> Result<Module, AllocError>
-        requires few { AreFew parts }
-        requires paired { length parts.functions ≡ length parts.bodies }
-        ensures { IfOk result (λ m. m ≡ assembled config parts) }
-    {
-        let Parts {
-            types,
-            imports,
-            functions,
-            tables,
-            memories,
-            tags,
-            globals,
-            exports,
-            start,
-            elems,
-            data_count: _,
-            bodies,
-            segments,
-            customs,
-        } = parts;
-        let list = imports.as_slice();
-        let mut funcs = all_funcs(alloc, list, functions.as_slice(), bodies)?;
-        let mut customs = customs.into_vec();
-        let names = all_names(alloc, &customs, funcs.len() as u32)?;
-        let producers = all_producers(alloc, &customs)?;
-        let Names {
-            module: name,
-            funcs: names,
-        } = names;
-        give_names(&mut funcs, names);
-        drop_read(&mut customs, config.keep_debug);
-        Ok(Module {
-            types: place_all(alloc, types)?,
-            funcs,
-            tables: with_own(alloc, list, tables)?,
-            memories: with_own(alloc, list, memories)?,
-            globals: with_own(alloc, list, globals)?,
-            tags: with_own(alloc, list, tags)?,
-            exports: place_all(alloc, exports)?,
-            elems: place_all(alloc, elems)?,
-            segments: place_all(alloc, segments)?,
-            imports: place_imports(alloc, imports)?,
-            customs,
-            start,
-            name,
-            producers: producers.into_vec(),
-            config,
-        })
-    }
 }

@@ -76,11 +76,7 @@ pub(crate) fn declarers(alloc: Global, from: &Module) -> Result<Vec<Option<Thing
 fn no_declarers(alloc: Global, count: usize) -> Result<Vec<Option<Thing>>, AllocError>
     ensures { IfOk result (λ v. v.items ≡ replicate count None) }
 {
-    let mut declarers = Vec::new(alloc);
-    for _ in 0..count {
-        declarers.push(None)?;
-    }
-    Ok(declarers)
+    Ok(vec![in alloc; None; count]?)
 }
 
 /// Notes which of the entries is the first to declare each function that has no declarer yet.

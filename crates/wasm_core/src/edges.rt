@@ -70,7 +70,7 @@ impl<'a> Edges<'a> {
         requires { table < length self.now.tables }
         ensures { OnOk result (out.new.items ≡ out.old.items ++ table_segments self.now table) }
     {
-        push_elems(out, row_at(&self.table_segments, table))
+        push_segments::<Elem>(out, row_at(&self.table_segments, table))
     }
 
     /// Appends the active segments of a memory that has a place.
@@ -82,7 +82,7 @@ impl<'a> Edges<'a> {
         requires { memory < length self.now.memories }
         ensures { OnOk result (out.new.items ≡ out.old.items ++ memory_segments self.now memory) }
     {
-        push_segments(out, row_at(&self.memory_segments, memory))
+        push_segments::<Segment>(out, row_at(&self.memory_segments, memory))
     }
 
     /// Appends what declares a function, where it has to be declared.
@@ -199,22 +199,40 @@ fn is_entry<T>(entries: &[Option<T>], place: u32) -> bool
     entry_at(entries, place).is_some()
 }
 
-/// Appends element segments.
-fn push_elems(out: &mut Vec<Thing>, places: &[u32]) -> Result<(), AllocError>
-    ensures { OnOk result (out.new.items ≡ out.old.items ++ map things.Elem places.now) }
-{
-    for place in places {
-        push_thing(out, Thing::Elem(*place))?;
-    }
-    Ok(())
+/// A kind of segment.
+trait SegmentKind {
+    ghost use Rattle.std.specs.Prelude.{◌≡◌, ℕ};
+    ghost use Rattle.wasm_reach.specs.declared.things.Thing.{Thing};
+
+    /// The segment at a place.
+    ghost thing: { ℕ → Thing };
+
+    fn thing(place: u32) -> Thing
+        ensures { result ≡ thing place };
 }
 
-/// Appends data segments.
-fn push_segments(out: &mut Vec<Thing>, places: &[u32]) -> Result<(), AllocError>
-    ensures { OnOk result (out.new.items ≡ out.old.items ++ map things.Segment places.now) }
+impl SegmentKind for Elem {
+    ghost thing = { things.Elem };
+
+    fn thing(place: u32) -> Thing {
+        Thing::Elem(place)
+    }
+}
+
+impl SegmentKind for Segment {
+    ghost thing = { things.Segment };
+
+    fn thing(place: u32) -> Thing {
+        Thing::Segment(place)
+    }
+}
+
+/// Appends segments of a kind.
+fn push_segments<K: SegmentKind>(out: &mut Vec<Thing>, places: &[u32]) -> Result<(), AllocError>
+    ensures { OnOk result (out.new.items ≡ out.old.items ++ map K.thing places.now) }
 {
     for place in places {
-        push_thing(out, Thing::Segment(*place))?;
+        push_thing(out, K::thing(*place))?;
     }
     Ok(())
 }

@@ -1,13 +1,15 @@
 //! Editing a module.
 
-ghost use Rattle.std.specs.Prelude.{◌≡◌, not, length, IfOk, OnOk, OnErr};
+ghost use Rattle.std.specs.Prelude.{◌≡◌, Some, not, length, IfOk, OnOk, OnErr};
 ghost use Rattle.std.specs.List.{list_any, filter, find};
 ghost use Rattle.std.specs.Option.{option_copied};
 ghost use Rattle.wasm_core.specs.Contents.{IsLive};
-ghost use Rattle.wasm_core.specs.Edits.{IsLiveItem, IsImportedTag, is_named, without_custom, with_import, with_export, without_export, with_func_name, without_start, localized, told_feature};
+ghost use Rattle.wasm_core.specs.Edits.{IsLiveItem, IsImportedTag, is_named, without_custom, with_import, own_tag, with_export, without_export, with_func_name, without_start, localized, told_feature};
 
+use crate::assemble::name_func;
+use crate::lookup::has_named;
 use crate::module::Module;
-use crate::types::ImportKind;
+use crate::types::{ImportKind, Tag};
 use std::alloc::{AllocError, Global};
 use values::Text;
 use wasm_file::{Custom, Export, ExportItem, lists_feature};
@@ -75,9 +77,7 @@ impl Module {
         ensures err { OnErr result (self.new ≡ self.old) }
     {
         let name = Text::from_str(alloc, name)?;
-        if let Some(func) = &mut self.funcs[id.0 as usize] {
-            func.name = Some(name);
-        }
+        name_func(&mut self.funcs[id.0 as usize], name);
         Ok(())
     }
 
@@ -99,9 +99,7 @@ impl Module {
         if let Some(import) = &self.imports[id.0 as usize]
             && let ImportKind::Tag(tag) = import.kind
         {
-            if let Some(tag) = &mut self.tags[tag.0 as usize] {
-                tag.import = None;
-            }
+            forget_import(&mut self.tags[tag.0 as usize]);
             self.imports[id.0 as usize] = None;
         }
     }
@@ -133,12 +131,18 @@ impl Module {
         ensures answer { result ≡ list_any (is_named name.now) self.old.customs }
         ensures removed { self.new ≡ without_custom name.now self.old }
     {
-        let stood = self
-            .customs
-            .iter()
-            .any(|custom| custom.name.as_str() == name);
+        let stood = has_named(&self.customs, name);
         drop_named(&mut self.customs, name);
         stood
+    }
+}
+
+/// Makes a tag one of the module's own, where there is one.
+fn forget_import(entry: &mut Option<Tag>)
+    ensures { entry.new ≡ own_tag (Some entry.old) }
+{
+    if let Some(tag) = entry {
+        tag.import = None;
     }
 }
 

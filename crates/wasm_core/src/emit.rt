@@ -58,13 +58,20 @@ impl Module {
             numbers: &numbers,
             alloc,
         };
-        let mut out = Seq::new(alloc);
-        plan.push_parts(&mut out)?;
-        Ok(out)
+        plan.sections()
     }
 }
 
 impl<'a> Plan<'a> {
+    /// The id and the content of each section.
+    fn sections(&self) -> Result<Sections, AllocError>
+        ensures { IfOk result (λ xs. xs ≡ part_sections (filed_by self.now.numbers.now self.now.module.now)) }
+    {
+        let mut out = Seq::new(self.alloc);
+        self.push_parts(&mut out)?;
+        Ok(out)
+    }
+
     /// All sections.
     #[tactic(auto, unfolding(wasm_file::specs::Spelling::part_sections, crate::specs::Emission::filed_by))]
     fn push_parts(&self, out: &mut Sections) -> Result<(), AllocError>

@@ -8,13 +8,16 @@
 
 mod added;
 mod assemble;
+mod both;
 mod collect;
 mod declarers;
 mod edges;
 mod edits;
 mod emit;
 mod faults;
+mod groups;
 mod lists;
+mod lookup;
 mod module;
 mod names;
 mod naming;

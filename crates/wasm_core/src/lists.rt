@@ -2,9 +2,10 @@
 //! entries do, and name others by their numbers.
 
 ghost use Rattle.std.specs.Prelude.{◌≡◌, [], Some};
+ghost use Rattle.std.specs.Option.{option_copied};
 ghost use Rattle.wasm_ops.specs.Spelling.{func_type_bytes, code_bytes};
 ghost use Rattle.wasm_file.specs.Spelling.{import_bytes, type_id_bytes, table_bytes, limits_bytes, tag_bytes, global_bytes, export_bytes, elem_bytes, segment_bytes};
-ghost use Rattle.wasm_core.specs.Emission.{import_asked, file_import, file_type, own_type, own_body, own_table, own_memory, own_tag, own_global, file_export, file_item, file_elem, file_segment};
+ghost use Rattle.wasm_core.specs.Emission.{import_asked, func_asked, table_asked, memory_asked, global_asked, tag_asked, file_import, file_type, own_type, own_body, own_table, own_memory, own_tag, own_global, file_export, file_item, file_elem, file_segment};
 
 use crate::module::Module;
 use crate::segments::{write_elem, write_segment};
@@ -71,6 +72,63 @@ impl FileList for Types {
     }
 }
 
+/// A type by its number.
+fn file_type(numbers: &Numbering, ty: TypeId) -> TypeId
+    ensures { result ≡ file_type numbers.now ty }
+{
+    TypeId(number_at(&numbers.types, ty.0))
+}
+
+/// What an import of a function asks for, none where it isn't there.
+fn func_asked(numbers: &Numbering, entry: Option<&Option<Func>>) -> Option<ImportType>
+    ensures { result ≡ func_asked numbers.now (option_copied entry.entry) }
+{
+    match entry {
+        Some(Some(func)) => Some(ImportType::Func(file_type(numbers, func.ty))),
+        _ => None,
+    }
+}
+
+/// What an import of a table asks for, none where it isn't there.
+fn table_asked(entry: Option<&Option<Table>>) -> Option<ImportType>
+    ensures { result ≡ table_asked (option_copied entry.entry) }
+{
+    match entry {
+        Some(Some(table)) => Some(ImportType::Table(table.elem, table.limits)),
+        _ => None,
+    }
+}
+
+/// What an import of a memory asks for, none where it isn't there.
+fn memory_asked(entry: Option<&Option<Memory>>) -> Option<ImportType>
+    ensures { result ≡ memory_asked (option_copied entry.entry) }
+{
+    match entry {
+        Some(Some(memory)) => Some(ImportType::Memory(memory.limits)),
+        _ => None,
+    }
+}
+
+/// What an import of a global asks for, none where it isn't there.
+fn global_asked(entry: Option<&Option<GlobalVar>>) -> Option<ImportType>
+    ensures { result ≡ global_asked (option_copied entry.entry) }
+{
+    match entry {
+        Some(Some(global)) => Some(ImportType::Global(global.ty, global.mutable)),
+        _ => None,
+    }
+}
+
+/// What an import of a tag asks for, none where it isn't there.
+fn tag_asked(numbers: &Numbering, entry: Option<&Option<Tag>>) -> Option<ImportType>
+    ensures { result ≡ tag_asked numbers.now (option_copied entry.entry) }
+{
+    match entry {
+        Some(Some(tag)) => Some(ImportType::Tag(file_type(numbers, tag.ty))),
+        _ => None,
+    }
+}
+
 /// What an import asks for, none where its item isn't there.
 #[tactic(auto, unfolding(crate::specs::Emission::import_asked))]
 fn import_asked(plan: &Plan<'_>, kind: ImportKind) -> Option<ImportType>
@@ -78,35 +136,11 @@ fn import_asked(plan: &Plan<'_>, kind: ImportKind) -> Option<ImportType>
 {
     let module = plan.module;
     match kind {
-        ImportKind::Func(id) => match module.funcs.get(id.0 as usize) {
-            Some(Some(func)) => Some(ImportType::Func(plan.file_type(func.ty))),
-            _ => None,
-        },
-        ImportKind::Table(id) => match module.tables.get(id.0 as usize) {
-            Some(Some(table)) => Some(ImportType::Table(table.elem, table.limits)),
-            _ => None,
-        },
-        ImportKind::Memory(id) => match module.memories.get(id.0 as usize) {
-            Some(Some(memory)) => Some(ImportType::Memory(memory.limits)),
-            _ => None,
-        },
-        ImportKind::Global(id) => match module.globals.get(id.0 as usize) {
-            Some(Some(global)) => Some(ImportType::Global(global.ty, global.mutable)),
-            _ => None,
-        },
-        ImportKind::Tag(id) => match module.tags.get(id.0 as usize) {
-            Some(Some(tag)) => Some(ImportType::Tag(plan.file_type(tag.ty))),
-            _ => None,
-        },
-    }
-}
-
-impl<'a> Plan<'a> {
-    /// A type by its number.
-    fn file_type(&self, ty: TypeId) -> TypeId
-        ensures { result ≡ file_type self.now.numbers.now ty }
-    {
-        TypeId(number_at(&self.numbers.types, ty.0))
+        ImportKind::Func(id) => func_asked(plan.numbers, module.funcs.get(id.0 as usize)),
+        ImportKind::Table(id) => table_asked(module.tables.get(id.0 as usize)),
+        ImportKind::Memory(id) => memory_asked(module.memories.get(id.0 as usize)),
+        ImportKind::Global(id) => global_asked(module.globals.get(id.0 as usize)),
+        ImportKind::Tag(id) => tag_asked(plan.numbers, module.tags.get(id.0 as usize)),
     }
 }
 
@@ -153,7 +187,7 @@ impl FileList for Functions {
         if item.import.is_some() {
             return Ok(false);
         }
-        push_u32(out, plan.file_type(item.ty).0)?;
+        push_u32(out, file_type(plan.numbers, item.ty).0)?;
         Ok(true)
     }
 }
@@ -220,7 +254,7 @@ impl FileList for Tags {
         if item.import.is_some() {
             return Ok(false);
         }
-        write_tag(out, plan.file_type(item.ty))?;
+        write_tag(out, file_type(plan.numbers, item.ty))?;
         Ok(true)
     }
 }

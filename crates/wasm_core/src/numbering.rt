@@ -3,6 +3,7 @@
 ghost use Rattle.std.specs.Prelude.{◌≡◌, ◌+◌, count_by, is_some, IfOk};
 ghost use Rattle.wasm_core.specs.Renumbering.{is_first, is_other, numbers, numbering, never, advanced, next_number};
 
+use crate::both::both;
 use crate::module::Module;
 use crate::types::{Func, GlobalVar, Memory, Table, Tag};
 use std::alloc::{AllocError, Global};
@@ -95,7 +96,7 @@ pub(crate) fn take_next(next: &mut u32) -> Result<u32, AllocError>
 }
 
 /// The next numbers of imported entries and of the others.
-#[derive(Clone, Copy, Debug)]
+#[derive(Clone, Copy)]
 struct Next {
     imported: u32,
     own: u32,
@@ -130,10 +131,14 @@ fn is_first<T: Numbered>(entry: &Option<T>) -> bool
 }
 
 /// The number of imported entries.
-fn count_imported<T: Numbered>(entries: &[Option<T>]) -> usize
-    ensures { result ≡ count_by (is_first T.test) entries.now }
+fn count_imported<T: Numbered>(entries: &[Option<T>]) -> Result<u32, AllocError>
+    ensures { IfOk result (λ n. n ≡ count_by (is_first T.test) entries.now) }
 {
-    entries.iter().filter(|entry| is_first(*entry)).count()
+    let count = entries.iter().filter(|entry| is_first(*entry)).count();
+    if count > u32::MAX as usize {
+        return Err(AllocError);
+    }
+    Ok(count as u32)
 }
 
 /// The number of each place of a list. More than 4,294,967,295 entries can't be numbered: then it is `AllocError`.
@@ -143,7 +148,7 @@ fn numbers<T: Numbered>(alloc: Global, entries: &[Option<T>]) -> Result<Seq<u32>
 {
     let mut next = Next {
         imported: 0,
-        own: u32::try_from(count_imported(entries)).map_err(|_| AllocError)?,
+        own: count_imported(entries)?,
     };
     let mut numbers = Seq::new(alloc);
     for entry in entries {
@@ -158,15 +163,23 @@ impl Module {
     pub(crate) fn numbering(&self, alloc: Global) -> Result<Numbering, AllocError>
         ensures { IfOk result (λ n. n ≡ numbering self.now) }
     {
+        let ((types, funcs), (tables, memories)) = both(
+            both(numbers(alloc, &self.types), numbers(alloc, &self.funcs)),
+            both(numbers(alloc, &self.tables), numbers(alloc, &self.memories)),
+        )?;
+        let ((globals, tags), (elems, segments)) = both(
+            both(numbers(alloc, &self.globals), numbers(alloc, &self.tags)),
+            both(numbers(alloc, &self.elems), numbers(alloc, &self.segments)),
+        )?;
         Ok(Numbering {
-            types: numbers(alloc, &self.types)?,
-            funcs: numbers(alloc, &self.funcs)?,
-            tables: numbers(alloc, &self.tables)?,
-            memories: numbers(alloc, &self.memories)?,
-            globals: numbers(alloc, &self.globals)?,
-            tags: numbers(alloc, &self.tags)?,
-            elems: numbers(alloc, &self.elems)?,
-            segments: numbers(alloc, &self.segments)?,
+            types,
+            funcs,
+            tables,
+            memories,
+            globals,
+            tags,
+            elems,
+            segments,
         })
     }
 }

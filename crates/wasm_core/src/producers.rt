@@ -1,10 +1,10 @@
 //! The producers section: which tools made a module (WebAssembly tool conventions, producers section).
 
 ghost use Rattle.std.specs.Prelude.{◌≡◌, map, IfOk, OnOk, OnErr};
-ghost use Rattle.std.specs.List.{list_any};
-ghost use Rattle.wasm_file.specs.Customs.{is_same_text};
 ghost use Rattle.wasm_core.specs.Edits.{updated, updated_field, new_field, with_version, with_field, with_processed_by};
 
+use crate::both::both;
+use crate::lookup::has_named;
 use crate::module::Module;
 use std::alloc::{AllocError, Global};
 use values::{Duplicate, Seq, Text};
@@ -32,10 +32,8 @@ impl Module {
 fn new_value(alloc: Global, name: &str, version: &str) -> Result<ProducerValue, AllocError>
     ensures { IfOk result (λ v. v ≡ record { name = name.now; version = version.now }) }
 {
-    Ok(ProducerValue {
-        name: Text::from_str(alloc, name)?,
-        version: Text::from_str(alloc, version)?,
-    })
+    let (name, version) = both(Text::from_str(alloc, name), Text::from_str(alloc, version))?;
+    Ok(ProducerValue { name, version })
 }
 
 /// A copy, which has the version where it has the name.
@@ -71,18 +69,6 @@ fn update_values(
     Ok(copies)
 }
 
-/// Whether an entry has this name.
-fn has_value(values: &[ProducerValue], name: &str) -> bool
-    ensures { result ≡ list_any (λ v. is_same_text v.name name.now) values.now }
-{
-    for value in values {
-        if value.name.as_str() == name {
-            return true;
-        }
-    }
-    false
-}
-
 /// Copies, of which one of the name has the version; without one it is added last.
 #[tactic(auto, unfolding(crate::specs::Edits::with_version))]
 fn set_version(
@@ -94,7 +80,7 @@ fn set_version(
     ensures { IfOk result (λ xs. xs ≡ with_version name.now version.now values.now) }
 {
     let mut copies = update_values(alloc, values, name, version)?;
-    if !has_value(values, name) {
+    if !has_named(values, name) {
         copies.push(new_value(alloc, name, version)?)?;
     }
     Ok(copies)
@@ -149,18 +135,6 @@ fn update_fields(
     Ok(copies)
 }
 
-/// Whether the field is there.
-fn has_field(fields: &[ProducerField], wanted: &str) -> bool
-    ensures { result ≡ list_any (λ f. is_same_text f.name wanted.now) fields.now }
-{
-    for field in fields {
-        if field.name.as_str() == wanted {
-            return true;
-        }
-    }
-    false
-}
-
 /// The field with this entry alone.
 fn new_field(
     alloc: Global,
@@ -190,7 +164,7 @@ fn set_field(
     ensures { IfOk result (λ v. v.items ≡ with_field field.now name.now version.now fields.now) }
 {
     let mut copies = update_fields(alloc, fields, field, name, version)?;
-    if !has_field(fields, field) {
+    if !has_named(fields, field) {
         copies.push(new_field(alloc, field, name, version)?)?;
     }
     Ok(copies)

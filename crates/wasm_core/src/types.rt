@@ -46,7 +46,7 @@ pub struct Tag {
 }
 
 /// What an import brings in.
-#[derive(Clone, Copy, Debug, PartialEq, Eq, PartialOrd, Ord, Hash)]
+#[derive(Clone, Copy, Debug)]
 pub enum ImportKind {
     Func(FuncId),
     Table(TableId),
@@ -64,7 +64,7 @@ pub struct Import {
 }
 
 /// How a module is read and written.
-#[derive(Clone, Copy, Debug, PartialEq, Eq)]
+#[derive(Clone, Copy, Debug)]
 pub struct ParseConfig {
     /// Keeps the custom sections `.debug_*`.
     pub keep_debug: bool,

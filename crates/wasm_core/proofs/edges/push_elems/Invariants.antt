@@ -1,6 +1,0 @@
-use Rattle.std.proofs.Common.{◌≡◌, ◌++◌, take, map}
-use Rattle.wasm_reach.specs.declared.things.Thing.TheVariants as things
-use Rattle.wasm_core.proofs.edges.push_elems.Given as goal
-
-abbrev pub invariant-loop-place : goal.invariant-loop-place
-invariant-loop-place l = l.out.items ≡ l.fn.out.items ++ map things.Elem (take l.place-index l.places)
