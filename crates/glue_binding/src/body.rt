@@ -1,6 +1,6 @@
 //! The body of a function, step by step.
 ghost use Rattle.std.specs.Prelude.{◌≡◌, ◌++◌, ◌∷◌, [], IfOk, OnOk, List, ℕ, reverse};
-ghost use Rattle.glue_heap.specs.Plainly.{plain_stmt, plain_stmts, lines_of};
+ghost use Rattle.glue_heap.specs.Plainly.{plain_exprs, plain_stmt, plain_stmts, lines_of};
 ghost use Rattle.glue_heap.specs.Term as t;
 ghost use Rattle.glue_binding.specs.Body.{IsAfter, plain_lines, row_of};
 ghost use Rattle.glue_binding.specs.Spelling as s;
@@ -15,7 +15,7 @@ use std::alloc::{AllocError, Global};
 use values::{Duplicate, Seq, Text};
 
 /// A body while it is spelled.
-#[derive(Debug, Drop)]
+#[derive(Drop)]
 pub struct Body {
     /// The operands, the newest one last.
     stack: Seq<Text>,
@@ -113,6 +113,24 @@ impl Body {
         Ok(())
     }
 
+    /// The call of an import with these arguments, its answer bound to a local if there is one.
+    fn embed(
+        &mut self,
+        alloc: Global,
+        adapter: u32,
+        bound: Option<Text>,
+        global: &Text,
+        fields: &[Text],
+        args: Seq<Expr>,
+    ) -> Result<(), AllocError>
+        ensures lines { OnOk result (plain_lines self.new.lines ≡ plain_lines self.old.lines ++ t.Inner adapter (plain_exprs args) bound (s.import_line_words bound global.now fields.now (plain_exprs args)) ∷ []) }
+        ensures stack { self.new.stack ≡ self.old.stack }
+        ensures names { self.new.coming ≡ self.old.coming }
+    {
+        let words = import_line(alloc, &bound, global, fields, args.as_slice())?;
+        self.line(Stmt::Embedded(adapter, args, bound, words))
+    }
+
     /// The row of a call of an import.
     fn call_import(
         &mut self,
@@ -128,14 +146,11 @@ impl Body {
         let names = pop_operands(alloc, &mut self.stack, params)?;
         let args = locals(alloc, names.as_slice())?;
         if has_result {
-            let bound = Some(self.temporary(alloc)?);
-            let words = import_line(alloc, &bound, global, fields, args.as_slice())?;
-            self.line(Stmt::Embedded(adapter, args, bound, words))?;
+            let bound = self.temporary(alloc)?;
+            self.embed(alloc, adapter, Some(bound), global, fields, args)
         } else {
-            let words = import_line(alloc, &None, global, fields, args.as_slice())?;
-            self.line(Stmt::Embedded(adapter, args, None, words))?;
+            self.embed(alloc, adapter, None, global, fields, args)
         }
-        Ok(())
     }
 
     /// The row of a step.
@@ -175,16 +190,18 @@ impl Body {
     fn finish(self) -> Result<Seq<Stmt>, AllocError>
         ensures tree { IfOk result (λ tree. plain_stmts tree ≡ lines_of (plain_lines self.lines ++ s.ending (stack_of self.stack))) }
     {
-        let Body {
-            stack,
-            coming: _,
-            lines,
-        } = self;
-        let mut stack = stack;
-        let mut lines = lines;
-        if let Some(name) = stack.pop() {
-            lines.push(Stmt::Return(Some(Expr::Local(name))))?;
-        }
-        Ok(lines)
+        let Body { stack, lines, .. } = self;
+        with_ending(lines, stack)
     }
+}
+
+/// The lines, with the newest of the operands returned where there is one.
+#[tactic(auto, unfolding(crate::specs::Body::plain_lines, crate::specs::Stack::stack_of))]
+fn with_ending(mut lines: Seq<Stmt>, mut stack: Seq<Text>) -> Result<Seq<Stmt>, AllocError>
+    ensures tree { IfOk result (λ tree. plain_stmts tree ≡ lines_of (plain_lines lines ++ s.ending (stack_of stack))) }
+{
+    if let Some(name) = stack.pop() {
+        lines.push(Stmt::Return(Some(Expr::Local(name))))?;
+    }
+    Ok(lines)
 }

@@ -1,6 +1,9 @@
 //! Expressions and words of calls.
 ghost use Rattle.std.specs.Prelude.{◌≡◌, ◌++◌, ◌∷◌, [], IfOk, OnOk, Some, None};
+ghost use Rattle.glue_heap.specs.declared.tree.Expr.TheVariants as e;
 ghost use Rattle.glue_heap.specs.Plainly.{plain_expr, plain_exprs};
+ghost use Rattle.glue_heap.specs.Spelling.{dot};
+ghost use Rattle.glue_scope.specs.declared.word.Word.TheVariants as w;
 ghost use Rattle.glue_binding.specs.Spelling as s;
 
 use glue_heap::{Expr, push_arguments, push_const};
@@ -12,13 +15,21 @@ const DOT: u8 = 6;
 
 const SEMICOLON: u8 = 8;
 
+/// Appends a local as an expression.
+fn push_local(alloc: Global, name: &Text, exprs: &mut Seq<Expr>) -> Result<(), AllocError>
+    ensures exprs { OnOk result (exprs.new ≡ exprs.old ++ e.Local name.now ∷ []) }
+{
+    exprs.push(Expr::Local(name.copy(alloc)?))?;
+    Ok(())
+}
+
 /// Locals as expressions.
 pub fn locals(alloc: Global, names: &[Text]) -> Result<Seq<Expr>, AllocError>
     ensures exprs { IfOk result (λ exprs. plain_exprs exprs ≡ s.locals names.now) }
 {
     let mut exprs = Seq::new(alloc);
     for name in names {
-        exprs.push(Expr::Local(name.copy(alloc)?))?;
+        push_local(alloc, name, &mut exprs)?;
     }
     Ok(exprs)
 }
@@ -32,6 +43,15 @@ pub fn export_call(alloc: Global, name: &Text, args: &[Text]) -> Result<Expr, Al
     Ok(Expr::Call(f, args))
 }
 
+/// `.field`
+fn push_field(alloc: Global, field: &Text, words: &mut Seq<Word>) -> Result<(), AllocError>
+    ensures words { OnOk result (words.new ≡ words.old ++ dot ∷ w.Prop field.now ∷ []) }
+{
+    words.push(Word::Punct(DOT))?;
+    words.push(Word::Prop(field.copy(alloc)?))?;
+    Ok(())
+}
+
 /// `global.field.field`
 fn push_import(
     alloc: Global,
@@ -43,8 +63,7 @@ fn push_import(
 {
     words.push(Word::Host(global.copy(alloc)?, false))?;
     for field in fields {
-        words.push(Word::Punct(DOT))?;
-        words.push(Word::Prop(field.copy(alloc)?))?;
+        push_field(alloc, field, words)?;
     }
     Ok(())
 }

@@ -1,13 +1,52 @@
 //! A source and a sink over memory, which fail at listed calls.
-ghost use Rattle.std.specs.Prelude.{◌≡◌, ◌≤◌, ◌<◌, ◌↔◌, [], Some, IfOk, OnOk, OnErr, IsErr, Contains, length, take};
+ghost use Rattle.std.specs.Prelude.{◌≡◌, ◌≤◌, ◌<◌, ◌↔◌, [], true, false, Some, IfOk, OnOk, OnErr, IsErr, Contains, length, take};
 ghost use Rattle.std.specs.Io.{ReadsAtMost};
 ghost use Rattle.std.specs.Io.KnownBytes.{ReadConsumes, Appends};
 ghost use Rattle.glue_ends.specs.Causes.{Rose, AppendsPrefix};
+ghost use Rattle.glue_ends.specs.Memory.{next};
 
 use crate::sink::{Sink, WriteFault};
 use crate::source::{ReadFailed, Source};
 use std::alloc::Global;
 use std::marker::Model;
+
+// The calls of an end: the numbers of those that fail, and how many there were and failed so far.
+#[derive(Drop)]
+struct Calls {
+    fails: Vec<u64>,
+    made: u64,
+    faults: u64,
+}
+
+impl Calls {
+    // None was made yet.
+    fn new(fails: Vec<u64>) -> Calls
+        ensures { result ≡ record { fails = fails; made = 0; faults = 0 } }
+    {
+        Calls {
+            fails,
+            made: 0,
+            faults: 0,
+        }
+    }
+
+    // Counts a call. The answer is whether it fails.
+    fn next_fails(&mut self) -> bool
+        ensures made { self.new.made ≡ next self.old.made }
+        ensures listed { result ≡ true ↔ Contains self.old.fails.items self.new.made }
+        ensures same { self.new.fails ≡ self.old.fails }
+        ensures rose { result ≡ true → Rose self.old.faults self.new.faults }
+        ensures kept { result ≡ false → self.new.faults ≡ self.old.faults }
+        ensures later { self.old.faults ≤ self.new.faults }
+    {
+        self.made = self.made.saturating_add(1);
+        let fails = self.fails.contains(&self.made);
+        if fails {
+            self.faults = self.faults.saturating_add(1);
+        }
+        fails
+    }
+}
 
 /// Gives the bytes of a list, at most `piece` of them a call.
 #[derive(Drop)]
@@ -15,9 +54,7 @@ pub struct MemSource {
     bytes: Vec<u8>,
     place: usize,
     piece: usize,
-    fails: Vec<u64>,
-    calls: u64,
-    faults: u64,
+    calls: Calls,
 }
 
 impl Model for MemSource {
@@ -26,7 +63,7 @@ impl Model for MemSource {
 
     ghost Value = { SourceState };
 
-    ghost view = { λ s. record { left = drop s.place s.bytes.items; piece = s.piece; fails = s.fails.items; calls = s.calls; faults = s.faults } };
+    ghost view = { λ s. record { left = drop s.place s.bytes.items; piece = s.piece; fails = s.calls.fails.items; calls = s.calls.made; faults = s.calls.faults } };
 
     ghost invariant = { λ s. (s.place ≤ length s.bytes.items) × (1 ≤ s.piece) };
 }
@@ -41,9 +78,7 @@ impl MemSource {
             bytes,
             place: 0,
             piece,
-            fails,
-            calls: 0,
-            faults: 0,
+            calls: Calls::new(fails),
         }
     }
 }
@@ -63,8 +98,6 @@ fn give(rest: &[u8], piece: usize, buf: &mut [u8]) -> usize
 }
 
 impl Source for MemSource {
-    ghost use Rattle.glue_ends.specs.Memory.{next};
-
     ghost left = { λ s. Some s.left };
 
     ghost faults = { λ s. s.faults };
@@ -83,9 +116,7 @@ impl Source for MemSource {
         ensures piece { IfOk result (λ n. n ≤ self.old.piece) }
         ensures same { self.new.piece ≡ self.old.piece }
     {
-        self.calls = self.calls.saturating_add(1);
-        if self.fails.contains(&self.calls) {
-            self.faults = self.faults.saturating_add(1);
+        if self.calls.next_fails() {
             return Err(ReadFailed);
         }
         let (_, rest) = self.bytes.split_at(self.place);
@@ -99,9 +130,7 @@ impl Source for MemSource {
 #[derive(Drop)]
 pub struct MemSink {
     bytes: Vec<u8>,
-    fails: Vec<u64>,
-    calls: u64,
-    faults: u64,
+    calls: Calls,
 }
 
 impl Model for MemSink {
@@ -109,7 +138,7 @@ impl Model for MemSink {
 
     ghost Value = { SinkState };
 
-    ghost view = { λ s. record { taken = s.bytes.items; fails = s.fails.items; calls = s.calls; faults = s.faults } };
+    ghost view = { λ s. record { taken = s.bytes.items; fails = s.calls.fails.items; calls = s.calls.made; faults = s.calls.faults } };
 }
 
 impl MemSink {
@@ -119,9 +148,7 @@ impl MemSink {
     {
         MemSink {
             bytes: Vec::new(alloc),
-            fails,
-            calls: 0,
-            faults: 0,
+            calls: Calls::new(fails),
         }
     }
 
@@ -134,8 +161,6 @@ impl MemSink {
 }
 
 impl Sink for MemSink {
-    ghost use Rattle.glue_ends.specs.Memory.{next};
-
     ghost taken = { λ s. Some s.taken };
 
     ghost faults = { λ s. s.faults };
@@ -152,9 +177,7 @@ impl Sink for MemSink {
         ensures fails { self.new.fails ≡ self.old.fails }
         ensures listed { result ≡ Err WriteFault.Failed ↔ Contains self.old.fails self.new.calls }
     {
-        self.calls = self.calls.saturating_add(1);
-        if self.fails.contains(&self.calls) {
-            self.faults = self.faults.saturating_add(1);
+        if self.calls.next_fails() {
             return Err(WriteFault::Failed);
         }
         self.bytes.extend_from_slice(bytes)?;

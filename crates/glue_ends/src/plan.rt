@@ -3,7 +3,7 @@
 use values::{Seq, Text};
 
 /// A file to be written.
-#[derive(Debug, PartialEq, Eq, Drop)]
+#[derive(Debug, Drop)]
 pub struct PlannedFile {
     /// Where it goes, with `/` between the folders.
     pub path: Text,

@@ -119,24 +119,33 @@ fn push_params(alloc: Global, params: &[Text], words: &mut Seq<Word>) -> Result<
     Ok(())
 }
 
+/// A local.
+fn push_local(alloc: Global, name: &Text, words: &mut Seq<Word>) -> Result<(), AllocError>
+    ensures words { OnOk result (words.new ≡ words.old ++ w.Local name.now ∷ []) }
+{
+    words.push(Word::Local(name.copy(alloc)?))?;
+    Ok(())
+}
+
+/// `wasm.name`
+fn push_export(alloc: Global, name: &Text, words: &mut Seq<Word>) -> Result<(), AllocError>
+    ensures words { OnOk result (words.new ≡ words.old ++ w.Refer (codes "wasm") false ∷ w.Wasm name.now ∷ []) }
+{
+    words.push(Word::Refer(Text::from_str(alloc, "wasm")?, false))?;
+    words.push(Word::Wasm(name.copy(alloc)?))?;
+    Ok(())
+}
+
 #[cycle(exprs)]
 fn push_expr(alloc: Global, expr: &Expr, words: &mut Seq<Word>) -> Result<(), AllocError>
     ensures words { OnOk result (words.new ≡ words.old ++ s.term_words (plain_expr expr.now)) }
 {
     match expr {
-        Expr::Local(name) => {
-            words.push(Word::Local(name.copy(alloc)?))?;
-            Ok(())
-        }
-        Expr::Wasm(name) => {
-            words.push(Word::Refer(Text::from_str(alloc, "wasm")?, false))?;
-            words.push(Word::Wasm(name.copy(alloc)?))?;
-            Ok(())
-        }
+        Expr::Local(name) => push_local(alloc, name, words),
+        Expr::Wasm(name) => push_export(alloc, name, words),
         Expr::Call(f, arguments) => {
             push_expr(alloc, f.get(), words)?;
-            push_arguments(alloc, arguments.as_slice(), words)?;
-            Ok(())
+            push_arguments(alloc, arguments.as_slice(), words)
         }
     }
 }

@@ -133,7 +133,6 @@ fn has_host_reexport(name: &str, omitted: bool, reexports: &[(Text, JsImport, bo
 }
 
 // Whether an import or a re-export brings this name of the outside.
-#[tactic(auto, using(crate::proofs::Sets::described_any))]
 fn is_described_host(name: &str, omitted: bool, aux: &WasmBindgenAux) -> bool
     ensures { result ≡ list_any (λ d. is_one_of (described_hosts omitted d) name.now) (described_names aux.now) }
 {
@@ -186,7 +185,6 @@ fn is_target_host(name: &str, target: &Target) -> bool
 }
 
 /// Whether the name is one of the outside: of each target, of this target, or of the description.
-#[tactic(auto, using(crate::proofs::Sets::hosts_any))]
 pub fn is_host_name(name: &str, settings: &Settings, aux: &WasmBindgenAux) -> bool
     ensures { result ≡ is_one_of (host_names settings.now aux.now) name.now }
 {
@@ -260,15 +258,12 @@ pub fn live_count<T>(entries: &[Option<T>]) -> u64
 {
     let mut count = 0;
     for entry in entries {
-        if entry.is_some() {
-            count += 1;
-        }
+        count += u64::from(entry.is_some());
     }
     count
 }
 
 // Whether the name is `import` with a number up to this one after it.
-#[tactic(auto, using(crate::proofs::Sets::import_step))]
 fn is_import_name(name: &str, last: u64) -> bool
     ensures { result ≡ is_one_of (import_names last) name.now }
 {
@@ -297,7 +292,6 @@ fn is_global(name: &str, target: &Target) -> bool
 }
 
 // Whether helpers may bind the name.
-#[tactic(auto, using(crate::proofs::Sets::helpers_any))]
 fn is_helper_name(name: &str, module: &Module) -> bool
     ensures { result ≡ is_one_of (helper_names «module».now) name.now }
 {
@@ -307,7 +301,6 @@ fn is_helper_name(name: &str, module: &Module) -> bool
 }
 
 /// Whether helpers or the texts of a target may bind the name.
-#[tactic(auto, using(crate::proofs::Sets::fixed_any))]
 pub fn is_fixed_name(name: &str, settings: &Settings, module: &Module) -> bool
     ensures { result ≡ is_one_of (fixed_names settings.now «module».now) name.now }
 {

@@ -3,7 +3,7 @@ use std::alloc::{AllocError, Global};
 use values::{Duplicate, Text};
 
 /// What the files are made for.
-#[derive(Debug, PartialEq, Eq, Drop)]
+#[derive(Debug, Drop)]
 pub enum Target {
     /// A bundler. `browser_only` changes no text.
     Bundler { browser_only: bool },
@@ -20,7 +20,7 @@ pub enum Target {
 }
 
 /// When strings are encoded by `TextEncoder.encodeInto`.
-#[derive(Clone, Copy, Debug, PartialEq, Eq)]
+#[derive(Clone, Copy, Debug)]
 pub enum EncodeInto {
     /// Where it is there at run time.
     Test,
@@ -29,7 +29,7 @@ pub enum EncodeInto {
 }
 
 /// The settings of a call.
-#[derive(Debug, PartialEq, Eq, Drop)]
+#[derive(Debug, Drop)]
 pub struct Settings {
     /// What the names of the files begin with.
     pub stem: Text,

@@ -1,0 +1,5 @@
+use Rattle.std.proofs.Common.{arith}
+use Rattle.glue_heap.proofs.spelling.words_of.Goals as goal
+
+pub returns : goal.returns
+returns c = grind arith
