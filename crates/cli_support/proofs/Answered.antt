@@ -40,10 +40,10 @@ made_of s l o plain h same g text is =
       published = k.published;
     }
 
-pub assembled : (s : Settings) (l : Lowered) (o : Made) (items : List Item) (js : List ℕ) (m : Contents) → IsPlain s → is_built s l ≡ true → IsGlue s l items → js ≡ printed items → m ≡ rewritten s l
-    → o ≡ record { settings = s; items = items; js = js; «module» = m } → IsMadeOf s l o
-assembled s l o items js m plain h g text is same =
-    subst (IsMadeOf s l) (sym same) (made_of s l (record { settings = s; items = items; js = js; «module» = m }) plain h refl g text is)
+pub composed : {E : Type 0} (s : Settings) (l : Lowered) (r : Result Made E) (items : List Item) (m : Contents) → IsPlain s → is_built s l ≡ true → IsGlue s l items → m ≡ rewritten s l
+    → IfOk r (λ o. o.settings ≡ s) → IfOk r (λ o. o.items ≡ items) → IfOk r (λ o. o.js ≡ printed items) → IfOk r (λ o. o.«module» ≡ m) → IfOk r (λ o. IsMadeOf s l o)
+composed s l (Ok o) items m plain h g is a b c d = made_of s l o plain h a (subst (IsGlue s l) (sym b) g) (c ∙ ap printed (sym b)) (d ∙ is)
+composed s l (Err e) items m plain h g is a b c d = tt
 
 -- the module that is written, from what moves the imports that adapters implement
 pub rewritten_of : {E : Type 0} (s : Settings) (l : Lowered) (stem : List ℕ) (pairs : List (ImportId × ℕ)) (r : Result Contents E) → stem ≡ s.stem → pairs ≡ l.wit.implements → IsPlain s → is_built s l ≡ true

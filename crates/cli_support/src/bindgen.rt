@@ -223,12 +223,42 @@ fn rewrite(alloc: Global, settings: &Settings, lowered: Lowered) -> Result<Modul
     requires built { is_built_form settings.now lowered ≡ true }
     ensures rewritten { IfOk result (λ m. m ≡ rewritten settings.now lowered) }
 {
-    move_imports(
+    let Lowered {
+        module,
+        wit,
+        aux,
+        is_read: _,
+    } = lowered;
+    drop(aux);
+    let moved = move_imports(
         alloc,
-        lowered.module,
+        module,
         settings.stem.as_str(),
-        lowered.wit.implements.as_slice(),
-    )
+        wit.implements.as_slice(),
+    );
+    drop(wit);
+    moved
+}
+
+// Makes an output of items and the module that goes with them.
+fn compose(
+    alloc: Global,
+    settings: Settings,
+    items: Seq<Item>,
+    module: Module,
+) -> Result<Output, AllocError>
+    ensures settings { IfOk result (λ o. o.settings ≡ settings) }
+    ensures items { IfOk result (λ o. o.items ≡ items) }
+    ensures printed { IfOk result (λ o. o.js ≡ printed items) }
+    ensures same_module { IfOk result (λ o. o.«module» ≡ «module») }
+{
+    match print(alloc, items.as_slice()) {
+        Ok(js) => Ok(Output::new(settings, items, Text::new(js), module)),
+        Err(error) => {
+            drop(module);
+            Err(error)
+        }
+    }
 }
 
 // Makes an output of items and a description.
@@ -243,9 +273,8 @@ fn assemble(
     requires drawn { IsGlue settings lowered items }
     ensures made { IfOk result (λ o. IsMadeOf settings lowered o) }
 {
-    let js = Text::new(print(alloc, items.as_slice())?);
     let module = rewrite(alloc, &settings, lowered)?;
-    Ok(Output::new(settings, items, js, module))
+    compose(alloc, settings, items, module)
 }
 
 // The items of a description, where it is built.
@@ -267,16 +296,28 @@ fn draw(alloc: Global, settings: &Settings, lowered: &Lowered) -> Result<Seq<Ite
     }
 }
 
-// Makes an output of a description, where it is built.
+// Makes an output of a description and the items that were drawn of it, or answers why none were.
 #[tactic(auto, using(crate::proofs::Answered::made_answer))]
-fn make(alloc: Global, settings: Settings, lowered: Lowered) -> Result<Output, Fault>
+fn finish(
+    alloc: Global,
+    settings: Settings,
+    lowered: Lowered,
+    drawn: Result<Seq<Item>, Fault>,
+) -> Result<Output, Fault>
     requires plain { IsPlain settings }
+    requires built { IfOk drawn (λ items. is_built_form settings lowered ≡ true) }
+    requires drawn { IfOk drawn (λ items. IsGlue settings lowered items) }
+    requires cause { IfErr drawn (λ f. IsFaultOf f (after_reading settings lowered)) }
+    requires later { drawn ≢ Err Fault.Lower }
     ensures made { IfOk result (λ o. Answers settings (Ok o) (Some (after_reading settings lowered))) }
     ensures cause { IfErr result (λ f. Answers settings (Err f) (Some (after_reading settings lowered))) }
     ensures later { result ≢ Err Fault.Lower }
 {
-    match draw(alloc, &settings, &lowered) {
-        Err(fault) => Err(fault),
+    match drawn {
+        Err(fault) => {
+            drop(lowered);
+            Err(fault)
+        }
         Ok(items) => match assemble(alloc, settings, lowered, items) {
             Err(_) => Err(Fault::OutOfMemory),
             Ok(output) => Ok(output),
@@ -284,15 +325,24 @@ fn make(alloc: Global, settings: Settings, lowered: Lowered) -> Result<Output, F
     }
 }
 
-// The description, with nothing left of its module but what can be reached.
-#[tactic(auto, using(crate::proofs::Rooted::live_roots))]
-fn collect(alloc: Global, lowered: Lowered) -> Result<Lowered, AllocError>
-    ensures collected { IfOk result (λ l. l ≡ collected_description lowered) }
+// Makes an output of a description, where it is built.
+fn make(alloc: Global, settings: Settings, lowered: Lowered) -> Result<Output, Fault>
+    requires plain { IsPlain settings }
+    ensures made { IfOk result (λ o. Answers settings (Ok o) (Some (after_reading settings lowered))) }
+    ensures cause { IfErr result (λ f. Answers settings (Err f) (Some (after_reading settings lowered))) }
+    ensures later { result ≢ Err Fault.Lower }
 {
-    let kept = roots(alloc, &lowered)?;
-    let mut lowered = lowered;
-    lowered.module.collect(alloc, kept.as_slice())?;
-    Ok(lowered)
+    let drawn = draw(alloc, &settings, &lowered);
+    finish(alloc, settings, lowered, drawn)
+}
+
+// Leaves nothing of a description's module but what can be reached.
+#[tactic(auto, using(crate::proofs::Rooted::live_roots))]
+fn collect(alloc: Global, lowered: &mut Lowered) -> Result<(), AllocError>
+    ensures collected { OnOk result (lowered.new ≡ collected_description lowered.old) }
+{
+    let kept = roots(alloc, lowered)?;
+    lowered.module.collect(alloc, kept.as_slice())
 }
 
 // Makes an output of a description, where it is built once its module is collected.
@@ -303,9 +353,13 @@ fn collect_and_make(alloc: Global, settings: Settings, lowered: Lowered) -> Resu
     ensures cause { IfErr result (λ f. Answers settings (Err f) (Some (after_reading settings (collected_description lowered)))) }
     ensures later { result ≢ Err Fault.Lower }
 {
-    match collect(alloc, lowered) {
-        Err(_) => Err(Fault::OutOfMemory),
-        Ok(collected) => make(alloc, settings, collected),
+    let mut lowered = lowered;
+    match collect(alloc, &mut lowered) {
+        Err(_) => {
+            drop(lowered);
+            Err(Fault::OutOfMemory)
+        }
+        Ok(()) => make(alloc, settings, lowered),
     }
 }
 

@@ -1,5 +1,5 @@
 //! The items of the glue file: what the description declares, the frame with the definitions of imports, and loading.
-ghost use Rattle.std.specs.Prelude.{◌≡◌, ◌++◌, ◌∷◌, [], ◌+◌, length, codes, IfOk, Some, None, string_bytes};
+ghost use Rattle.std.specs.Prelude.{◌≡◌, ◌++◌, ◌∷◌, [], ◌+◌, length, codes, IfOk, OnOk, Some, None, string_bytes};
 ghost use Rattle.std.specs.Fmt.{decimal};
 ghost use Rattle.glue_items.specs.Items.{declare_item as the_declare_item, define_item as the_define_item, default_names as the_default_names, wanted_names as the_wanted_names, argument_count as the_argument_count, DrawsFunction, DrawsDeclare, DrawsDefine, DrawsDeclares, DrawsDefines, Draws, all_items};
 
@@ -13,11 +13,26 @@ use std::alloc::{AllocError, Global};
 use values::{Duplicate, Seq, Text};
 use wasm_core::{Import, ImportId};
 
-// A gap of one space, or of a line feed.
-fn gap(alloc: Global, text: &str) -> Result<Word, AllocError>
-    ensures gap { IfOk result (λ word. word ≡ Word.Gap text.now) }
+// Adds a gap of one space, or of a line feed.
+fn push_gap(alloc: Global, words: &mut Seq<Word>, text: &str) -> Result<(), AllocError>
+    ensures added { OnOk result (words.new ≡ words.old ++ Word.Gap text.now ∷ []) }
 {
-    Ok(Word::Gap(Text::from_str(alloc, text)?))
+    words.push(Word::Gap(Text::from_str(alloc, text)?))
+}
+
+// Adds the keyword at a place of the table, and a space.
+fn push_keyword(alloc: Global, words: &mut Seq<Word>, place: u8) -> Result<(), AllocError>
+    ensures added { OnOk result (words.new ≡ words.old ++ Word.Key place ∷ Word.Gap (codes " ") ∷ []) }
+{
+    words.push(Word::Key(place))?;
+    push_gap(alloc, words, " ")
+}
+
+// The words of a function, without the rest of it.
+fn words_of(function: JsFunction) -> Seq<Word>
+    ensures words { result ≡ function.words }
+{
+    function.words
 }
 
 // The words of an exported function's declaration before its parameters.
@@ -25,10 +40,8 @@ fn declare_start(alloc: Global, name: &Text) -> Result<Seq<Word>, AllocError>
     ensures words { IfOk result (λ words. words ≡ Word.Key 12 ∷ Word.Gap (codes " ") ∷ Word.Key 18 ∷ Word.Gap (codes " ") ∷ Word.Bind name.now ∷ []) }
 {
     let mut words = Seq::new(alloc);
-    words.push(Word::Key(12))?;
-    words.push(gap(alloc, " ")?)?;
-    words.push(Word::Key(18))?;
-    words.push(gap(alloc, " ")?)?;
+    push_keyword(alloc, &mut words, 12)?;
+    push_keyword(alloc, &mut words, 18)?;
     words.push(Word::Bind(name.copy(alloc)?))?;
     Ok(words)
 }
@@ -44,7 +57,7 @@ fn declare_function(
 {
     let mut words = declare_start(alloc, name)?;
     words.append(function)?;
-    words.push(gap(alloc, "\n")?)?;
+    push_gap(alloc, &mut words, "\n")?;
     Ok(Item {
         role: Role::Declare(Thing::Adapter(adapter.0)),
         words,
@@ -58,7 +71,7 @@ fn define_start(alloc: Global, name: &Text) -> Result<Seq<Word>, AllocError>
     let mut words = Seq::new(alloc);
     words.push(Word::Outer(name.copy(alloc)?))?;
     words.push(Word::Punct(9))?;
-    words.push(gap(alloc, " ")?)?;
+    push_gap(alloc, &mut words, " ")?;
     words.push(Word::Key(18))?;
     Ok(words)
 }
@@ -75,7 +88,7 @@ fn define_function(
     let mut words = define_start(alloc, name)?;
     words.append(function)?;
     words.push(Word::Punct(7))?;
-    words.push(gap(alloc, "\n")?)?;
+    push_gap(alloc, &mut words, "\n")?;
     Ok(Item {
         role: Role::Define(place.0),
         words,
@@ -144,7 +157,7 @@ fn declare_export<N: Names>(
     match adapter_function::<N>(alloc, lowered, export.adapter, &export.args)? {
         None => Ok(None),
         Some(function) => {
-            let item = declare_function(alloc, export.adapter, &export.name, function.words)?;
+            let item = declare_function(alloc, export.adapter, &export.name, words_of(function))?;
             Ok(Some(item))
         }
     }
@@ -164,7 +177,7 @@ fn define_import<N: Names>(
             match adapter_function::<N>(alloc, lowered, pair.1, &none)? {
                 None => Ok(None),
                 Some(function) => {
-                    let item = define_function(alloc, pair.0, &import.name, function.words)?;
+                    let item = define_function(alloc, pair.0, &import.name, words_of(function))?;
                     Ok(Some(item))
                 }
             }

@@ -11,7 +11,7 @@ mod run;
 #[cfg(test)]
 mod tests;
 
-use crate::run::run;
+use crate::run::{Ran, run};
 use cli_support::{ReadEnd, WriteEnd};
 use std::io;
 use std::process::ExitCode;
@@ -21,6 +21,7 @@ fn main(rt: HostRuntime) -> io::Result<ExitCode> {
     let words: Vec<String> = std::env::args(&rt)?.skip(1).collect(alloc)?;
     let mut source = ReadEnd::new(rt.reader());
     let mut sink = WriteEnd::new(io::writer(&rt));
-    let ran = run(alloc, words.as_slice(), &mut source, &mut sink);
-    Ok(ExitCode::from(ran.status))
+    let Ran { status, output } = run(alloc, words.as_slice(), &mut source, &mut sink);
+    drop(output);
+    Ok(ExitCode::from(status))
 }

@@ -1,9 +1,7 @@
-use Rattle.std.proofs.Common.{◌∙◌, ap}
-use Rattle.glue_scope.specs.Words.{printed}
-use Rattle.cli_support.proofs.Answered.{assembled}
+use Rattle.cli_support.proofs.Answered.{composed}
 use Rattle.cli_support.proofs.bindgen.assemble.Goals as goal
 
 pub returns : goal.returns
 returns c = record {
-  made = assembled c.args.settings c.args.lowered c.new.result c.args.items c.new-js.result c.in_ok-module.module c.requires.plain c.requires.built c.requires.drawn (c.new-js.ensures ∙ c.in_ok-print.ensures.text ∙ ap printed c.as_slice.ensures) c.in_ok-module.ensures.rewritten c.new.ensures.made;
+  made = composed c.args.settings c.args.lowered c.compose.result c.args.items c.in_ok-module.module c.requires.plain c.requires.built c.requires.drawn c.in_ok-module.ensures.rewritten c.compose.ensures.settings c.compose.ensures.items c.compose.ensures.printed c.compose.ensures.same_module;
 }
