@@ -1,16 +1,9 @@
+use crate::compare::assert_told;
+use crate::inputs::{printed, texts};
 use glue_binding::{Step, bind};
-use glue_scope::{IdentScope, Item, Role, Word, print};
+use glue_scope::IdentScope;
 use std::alloc::{AllocError, Global};
-use std::test::Fail;
-use values::{Seq, Text};
-
-fn texts(alloc: Global, names: &[&str]) -> Result<Seq<Text>, AllocError> {
-    let mut seq = Seq::new(alloc);
-    for name in names {
-        seq.push(Text::from_str(alloc, name)?)?;
-    }
-    Ok(seq)
-}
+use values::Text;
 
 /// Appends a step that passes on what is there, behind each of so many parameters.
 fn push_parameters(steps: &mut Vec<Step>, count: u32) -> Result<(), AllocError> {
@@ -37,15 +30,6 @@ fn passing(
     Ok(steps)
 }
 
-fn printed(alloc: Global, words: Seq<Word>) -> Result<String, AllocError> {
-    let mut items = Vec::new(alloc);
-    items.push(Item {
-        role: Role::Body,
-        words,
-    })?;
-    print(alloc, &items)
-}
-
 /// The function of these steps, whose parameters want these names.
 fn bound(alloc: Global, steps: &[Step], wanted: &[&str]) -> Result<String, AllocError> {
     let wanted = texts(alloc, wanted)?;
@@ -66,69 +50,82 @@ fn export_bound(
         params,
         has_result,
     };
-    bound(alloc, &passing(alloc, params, call, has_result)?, wanted)
+    let steps = passing(alloc, params, call, has_result)?;
+    bound(alloc, &steps, wanted)
 }
 
 #[test]
-fn exports(rt: HostRuntime) -> Result<(), Fail> {
-    let alloc = rt.alloc();
-    assert_eq!(rt;
-        export_bound(alloc, "add", &["a", "b"], 2, true)?.as_str(),
-        "(a, b) {\nconst ret = wasm.add(a, b);\nreturn ret;\n}"
-    );
-    assert_eq!(rt;
-        export_bound(alloc, "tick", &[], 0, false)?.as_str(),
-        "() {\nwasm.tick();\n}"
-    );
-    assert_eq!(rt;
-        export_bound(alloc, "f", &["ret", "ret", "wasm", "class"], 4, true)?.as_str(),
-        "(ret, ret2, wasm2, _class) {\nconst ret3 = wasm.f(ret, ret2, wasm2, _class);\nreturn ret3;\n}"
-    );
-    Ok(())
+fn exports(rt: HostRuntime) -> Result<(), AllocError> {
+    let add = export_bound(rt.alloc(), "add", &["a", "b"], 2, true);
+    assert_told(
+        &rt,
+        add,
+        "(a, b) {\nconst ret = wasm.add(a, b);\nreturn ret;\n}",
+    )?;
+    let tick = export_bound(rt.alloc(), "tick", &[], 0, false);
+    assert_told(&rt, tick, "() {\nwasm.tick();\n}")?;
+    let f = export_bound(rt.alloc(), "f", &["ret", "ret", "wasm", "class"], 4, true);
+    assert_told(
+        &rt,
+        f,
+        "(ret, ret2, wasm2, _class) {\nconst ret3 = wasm.f(ret, ret2, wasm2, _class);\nreturn ret3;\n}",
+    )
 }
 
-/// A call of what a name and these fields lead to.
-fn import_call(
-    alloc: Global,
+/// A call of what a name and these fields lead to, with as many arguments as there are wanted names.
+struct Import {
     adapter: u32,
-    global: &str,
-    fields: &[&str],
+    global: &'static str,
+    fields: &'static [&'static str],
+    wanted: &'static [&'static str],
     params: u32,
     has_result: bool,
-) -> Result<Step, AllocError> {
-    let fields = texts(alloc, fields)?;
+}
+
+const LOG: Import = Import {
+    adapter: 2,
+    global: "console",
+    fields: &["log"],
+    wanted: &["arg0"],
+    params: 1,
+    has_result: false,
+};
+
+const MAX: Import = Import {
+    adapter: 3,
+    global: "globalThis",
+    fields: &["Math", "max"],
+    wanted: &["globalThis", "y"],
+    params: 2,
+    has_result: true,
+};
+
+fn import_call(alloc: Global, import: &Import) -> Result<Step, AllocError> {
+    let fields = texts(alloc, import.fields)?;
     Ok(Step::CallImport {
-        adapter,
-        params,
-        has_result,
-        global: Text::from_str(alloc, global)?,
+        adapter: import.adapter,
+        params: import.params,
+        has_result: import.has_result,
+        global: Text::from_str(alloc, import.global)?,
         fields,
     })
 }
 
-/// The function that passes so many parameters on to it.
-fn import_bound(
-    alloc: Global,
-    call: Step,
-    wanted: &[&str],
-    params: u32,
-    has_result: bool,
-) -> Result<String, AllocError> {
-    bound(alloc, &passing(alloc, params, call, has_result)?, wanted)
+/// The function that passes its parameters on to it.
+fn import_bound(alloc: Global, import: &Import) -> Result<String, AllocError> {
+    let call = import_call(alloc, import)?;
+    let steps = passing(alloc, import.params, call, import.has_result)?;
+    bound(alloc, &steps, import.wanted)
 }
 
 #[test]
-fn imports(rt: HostRuntime) -> Result<(), Fail> {
-    let alloc = rt.alloc();
-    let log = import_call(alloc, 2, "console", &["log"], 1, false)?;
-    assert_eq!(rt;
-        import_bound(alloc, log, &["arg0"], 1, false)?.as_str(),
-        "(arg0) {\nconsole.log(arg0);\n}"
-    );
-    let max = import_call(alloc, 3, "globalThis", &["Math", "max"], 2, true)?;
-    assert_eq!(rt;
-        import_bound(alloc, max, &["globalThis", "y"], 2, true)?.as_str(),
-        "(globalThis2, y) {\nconst ret = globalThis.Math.max(globalThis2, y);\nreturn ret;\n}"
-    );
-    Ok(())
+fn imports(rt: HostRuntime) -> Result<(), AllocError> {
+    let log = import_bound(rt.alloc(), &LOG);
+    assert_told(&rt, log, "(arg0) {\nconsole.log(arg0);\n}")?;
+    let max = import_bound(rt.alloc(), &MAX);
+    assert_told(
+        &rt,
+        max,
+        "(globalThis2, y) {\nconst ret = globalThis.Math.max(globalThis2, y);\nreturn ret;\n}",
+    )
 }

@@ -1,29 +1,29 @@
+use crate::compare::assert_told;
+use crate::inputs::{printed, texts};
 use glue_heap::{Expr, Stmt, function_words_of, words_of};
-use glue_scope::{Item, Role, Word, print};
+use glue_scope::Word;
 use std::alloc::{AllocError, Global};
-use std::test::Fail;
 use values::{Boxed, Seq, Text};
-
-fn printed(alloc: Global, words: Seq<Word>) -> Result<String, AllocError> {
-    let mut items = Vec::new(alloc);
-    items.push(Item {
-        role: Role::Body,
-        words,
-    })?;
-    print(alloc, &items)
-}
 
 fn local(alloc: Global, name: &str) -> Result<Expr, AllocError> {
     Ok(Expr::Local(Text::from_str(alloc, name)?))
 }
 
-fn call_wasm(alloc: Global, name: &str, args: &[&str]) -> Result<Expr, AllocError> {
+fn locals(alloc: Global, names: &[&str]) -> Result<Seq<Expr>, AllocError> {
     let mut exprs = Seq::new(alloc);
-    for arg in args {
-        exprs.push(local(alloc, arg)?)?;
+    for name in names {
+        exprs.push(local(alloc, name)?)?;
     }
-    let f = Expr::Wasm(Text::from_str(alloc, name)?);
-    Ok(Expr::Call(Boxed::new(alloc, f)?, exprs))
+    Ok(exprs)
+}
+
+fn wasm(alloc: Global, name: &str) -> Result<Boxed<Expr>, AllocError> {
+    Boxed::new(alloc, Expr::Wasm(Text::from_str(alloc, name)?))
+}
+
+fn call_wasm(alloc: Global, name: &str, args: &[&str]) -> Result<Expr, AllocError> {
+    let exprs = locals(alloc, args)?;
+    Ok(Expr::Call(wasm(alloc, name)?, exprs))
 }
 
 fn return_of(alloc: Global, name: &str) -> Result<Stmt, AllocError> {
@@ -43,51 +43,60 @@ fn done(alloc: Global) -> Result<Stmt, AllocError> {
     Ok(Stmt::Embedded(7, Seq::new(alloc), None, own))
 }
 
-/// A statement of each kind.
-fn every_statement(alloc: Global) -> Result<Vec<Stmt>, AllocError> {
-    let mut body = Vec::new(alloc);
+fn push_calls(alloc: Global, body: &mut Vec<Stmt>) -> Result<(), AllocError> {
     body.push(let_call(alloc, "ret", "add", &["a", "b"])?)?;
     body.push(Stmt::Do(call_wasm(alloc, "tick tock", &[])?))?;
-    body.push(done(alloc)?)?;
-    body.push(return_of(alloc, "ret")?)?;
-    body.push(Stmt::Return(None))?;
-    Ok(body)
-}
-
-#[test]
-fn statements(rt: HostRuntime) -> Result<(), Fail> {
-    let body = every_statement(rt.alloc())?;
-    assert_eq!(rt;
-        printed(rt.alloc(), words_of(rt.alloc(), &body)?)?.as_str(),
-        "const ret = wasm.add(a, b);\nwasm[\"tick tock\"]();\ndone\nreturn ret;\nreturn;"
-    );
     Ok(())
 }
 
-/// A function that gives one of its parameters back, or nothing where there are none.
-fn giving(alloc: Global, params: &[&str], given: Option<&str>) -> Result<String, AllocError> {
-    let params = texts(alloc, params)?;
+fn push_ends(alloc: Global, body: &mut Vec<Stmt>) -> Result<(), AllocError> {
+    body.push(done(alloc)?)?;
+    body.push(return_of(alloc, "ret")?)?;
+    body.push(Stmt::Return(None))?;
+    Ok(())
+}
+
+/// A statement of each kind.
+fn every_statement(alloc: Global) -> Result<Vec<Stmt>, AllocError> {
+    let mut body = Vec::new(alloc);
+    push_calls(alloc, &mut body)?;
+    push_ends(alloc, &mut body)?;
+    Ok(body)
+}
+
+fn statements_printed(alloc: Global) -> Result<String, AllocError> {
+    let body = every_statement(alloc)?;
+    printed(alloc, words_of(alloc, &body)?)
+}
+
+#[test]
+fn statements(rt: HostRuntime) -> Result<(), AllocError> {
+    assert_told(
+        &rt,
+        statements_printed(rt.alloc()),
+        "const ret = wasm.add(a, b);\nwasm[\"tick tock\"]();\ndone\nreturn ret;\nreturn;",
+    )
+}
+
+/// A body that gives a local back, or nothing where none is named.
+fn body_giving(alloc: Global, given: Option<&str>) -> Result<Vec<Stmt>, AllocError> {
     let mut body = Vec::new(alloc);
     if let Some(name) = given {
         body.push(return_of(alloc, name)?)?;
     }
-    printed(alloc, function_words_of(alloc, &params, &body)?)
+    Ok(body)
 }
 
-fn texts(alloc: Global, names: &[&str]) -> Result<Vec<Text>, AllocError> {
-    let mut texts = Vec::new(alloc);
-    for name in names {
-        texts.push(Text::from_str(alloc, name)?)?;
-    }
-    Ok(texts)
+/// A function that gives one of its parameters back, or nothing.
+fn giving(alloc: Global, params: &[&str], given: Option<&str>) -> Result<String, AllocError> {
+    let params = texts(alloc, params)?;
+    let body = body_giving(alloc, given)?;
+    printed(alloc, function_words_of(alloc, params.as_slice(), &body)?)
 }
 
 #[test]
-fn functions(rt: HostRuntime) -> Result<(), Fail> {
-    assert_eq!(rt; giving(rt.alloc(), &[], None)?.as_str(), "() {\n}");
-    assert_eq!(rt;
-        giving(rt.alloc(), &["x", "y"], Some("y"))?.as_str(),
-        "(x, y) {\nreturn y;\n}"
-    );
-    Ok(())
+fn functions(rt: HostRuntime) -> Result<(), AllocError> {
+    assert_told(&rt, giving(rt.alloc(), &[], None), "() {\n}")?;
+    let second = giving(rt.alloc(), &["x", "y"], Some("y"));
+    assert_told(&rt, second, "(x, y) {\nreturn y;\n}")
 }

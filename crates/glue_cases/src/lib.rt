@@ -4,9 +4,13 @@
 #[cfg(test)]
 mod binding;
 #[cfg(test)]
+mod compare;
+#[cfg(test)]
 mod ends;
 #[cfg(test)]
 mod heap;
+#[cfg(test)]
+mod inputs;
 #[cfg(test)]
 mod layout;
 #[cfg(test)]

@@ -1,98 +1,133 @@
+use crate::compare::{assert_case, assert_told, copied, with_copy};
+use crate::inputs::printed;
 use glue_scope::{
     IdentScope, Item, Names, NoteKind, Role, Thing, Word, is_computed_key, is_valid_ident,
     js_string_literal, key_text, print, property_words, punct_text, regex_text, to_valid_ident,
 };
 use std::alloc::{AllocError, Global};
 use std::process::Abort;
-use std::test::Fail;
-use values::{Duplicate, Seq, Text};
+use values::{Seq, Text};
 
-#[test]
-fn draws_each_name_once(rt: HostRuntime) -> Result<(), Fail> {
-    let mut scope = IdentScope::new(rt.alloc());
-    for (name, free) in [
-        ("wasm", true),
-        ("wasm", false),
-        ("ptr2", true),
-        ("x", true),
-        ("x", false),
-    ] {
-        assert!(rt; scope.reserve(name)? == free, "at {name}");
+/// A name, and whether it was free.
+const RESERVED: &[(&str, bool)] = &[
+    ("wasm", true),
+    ("wasm", false),
+    ("ptr2", true),
+    ("x", true),
+    ("x", false),
+];
+
+fn assert_reserved<H: Abort>(rt: &H, scope: &mut IdentScope) -> Result<(), AllocError> {
+    for (name, free) in RESERVED {
+        assert_case(rt, scope.reserve(name)? == *free, name);
     }
-    for (name, want) in [
-        ("ret", "ret"),
-        ("ret", "ret2"),
-        ("ret", "ret3"),
-        ("ptr", "ptr"),
-        ("ptr", "ptr3"),
-        ("class", "_class"),
-        ("x", "x2"),
-    ] {
-        assert_eq!(rt; scope.generate(name)?.as_str(), want);
+    Ok(())
+}
+
+/// A name, and the one that is drawn for it.
+const GENERATED: &[(&str, &str)] = &[
+    ("ret", "ret"),
+    ("ret", "ret2"),
+    ("ret", "ret3"),
+    ("ptr", "ptr"),
+    ("ptr", "ptr3"),
+    ("class", "_class"),
+    ("x", "x2"),
+];
+
+fn assert_generated<H: Abort>(rt: &H, scope: &mut IdentScope) -> Result<(), AllocError> {
+    for (name, want) in GENERATED {
+        assert_told(rt, scope.generate(name), want)?;
     }
+    Ok(())
+}
+
+fn assert_drawn<H: Abort>(rt: &H, scope: &mut IdentScope) -> Result<(), AllocError> {
+    assert_reserved(rt, scope)?;
+    assert_generated(rt, scope)?;
     assert!(rt; scope.is_bound("ptr3"));
     Ok(())
 }
 
 #[test]
-fn escapes_string_literals(rt: HostRuntime) -> Result<(), Fail> {
-    for (text, literal) in [
-        ("a\"\n\u{7f}", "\"a\\\"\\n\\x7f\""),
-        ("", "\"\""),
-        ("\u{2028}é", "\"\\u2028é\""),
-    ] {
-        assert_eq!(rt; js_string_literal(rt.alloc(), text)?.as_str(), literal);
-    }
-    Ok(())
+fn draws_each_name_once(rt: HostRuntime) -> Result<(), AllocError> {
+    let mut scope = IdentScope::new(rt.alloc());
+    let done = assert_drawn(&rt, &mut scope);
+    drop(scope);
+    done
 }
+
+const LITERALS: &[(&str, &str)] = &[
+    ("a\"\n\u{7f}", "\"a\\\"\\n\\x7f\""),
+    ("", "\"\""),
+    ("\u{2028}é", "\"\\u2028é\""),
+];
 
 #[test]
-fn makes_identifiers(rt: HostRuntime) -> Result<(), Fail> {
-    for (name, made) in [
-        ("a-b", "a_b"),
-        ("1x", "_1x"),
-        ("", "_"),
-        ("new", "_new"),
-        ("été", "été"),
-        ("$", "$"),
-    ] {
-        assert_eq!(rt; to_valid_ident(rt.alloc(), name)?.as_str(), made);
-        assert!(rt; is_valid_ident(name) == (name == made), "at {name}");
+fn escapes_string_literals(rt: HostRuntime) -> Result<(), AllocError> {
+    for (text, literal) in LITERALS {
+        assert_told(&rt, js_string_literal(rt.alloc(), text), literal)?;
     }
     Ok(())
 }
 
-/// Checks the text of a word, and that its copy is equal.
-fn shows(rt: &impl Abort, alloc: Global, word: Word, text: &str) -> Result<(), Fail> {
-    let again = word.copy(alloc)?;
-    assert!(rt; again == word);
+/// A name, and the identifier that is made of it.
+const IDENTIFIERS: &[(&str, &str)] = &[
+    ("a-b", "a_b"),
+    ("1x", "_1x"),
+    ("", "_"),
+    ("new", "_new"),
+    ("été", "été"),
+    ("$", "$"),
+];
+
+#[test]
+fn makes_identifiers(rt: HostRuntime) -> Result<(), AllocError> {
+    for (name, made) in IDENTIFIERS {
+        assert_told(&rt, to_valid_ident(rt.alloc(), name), made)?;
+        assert_case(&rt, is_valid_ident(name) == (*name == *made), name);
+    }
+    Ok(())
+}
+
+fn word_printed(alloc: Global, word: Word) -> Result<String, AllocError> {
     let mut words = Seq::new(alloc);
-    words.push(again)?;
-    let item = Item {
-        role: Role::Body,
-        words,
-    };
-    assert_eq!(rt; print(alloc, &[item])?.as_str(), text);
-    Ok(())
+    words.push(word)?;
+    printed(alloc, words)
+}
+
+/// A copy of a word is equal, and this is its text.
+fn assert_word<H: Abort>(rt: &H, alloc: Global, word: Word, text: &str) -> Result<(), AllocError> {
+    let again = copied(rt, alloc, &word);
+    drop(word);
+    assert_told(rt, word_printed(alloc, again?), text)
+}
+
+/// A place, and the sign and the keyword that stand there.
+const FIXED: &[(u8, &str, &str)] = &[
+    (0, "{", "arguments"),
+    (12, "...", "export"),
+    (25, "*", "n"),
+    (42, "??", "while"),
+];
+
+#[test]
+fn finds_fixed_words(rt: HostRuntime) {
+    for (place, punct, key) in FIXED {
+        assert_case(&rt, punct_text(*place) == *punct, punct);
+        assert_case(&rt, key_text(*place) == *key, key);
+    }
+    assert!(rt; regex_text(0) == "/\\.js$/");
 }
 
 #[test]
-fn prints_fixed_words(rt: HostRuntime) -> Result<(), Fail> {
-    let alloc = rt.alloc();
-    for (place, punct, key) in [
-        (0u8, "{", "arguments"),
-        (12, "...", "export"),
-        (25, "*", "n"),
-        (42, "??", "while"),
-    ] {
-        assert_eq!(rt; punct_text(place), punct);
-        assert_eq!(rt; key_text(place), key);
-        shows(&rt, alloc, Word::Punct(place), punct)?;
-        shows(&rt, alloc, Word::Key(place), key)?;
+fn prints_fixed_words(rt: HostRuntime) -> Result<(), AllocError> {
+    for (place, punct, key) in FIXED {
+        assert_word(&rt, rt.alloc(), Word::Punct(*place), punct)?;
+        assert_word(&rt, rt.alloc(), Word::Key(*place), key)?;
     }
-    assert_eq!(rt; regex_text(0), "/\\.js$/");
-    shows(&rt, alloc, Word::Regex(1), "/\\[object ([^\\]]+)\\]/")?;
-    shows(&rt, alloc, Word::Num(-12), "-12")
+    assert_word(&rt, rt.alloc(), Word::Regex(1), "/\\[object ([^\\]]+)\\]/")?;
+    assert_word(&rt, rt.alloc(), Word::Num(-12), "-12")
 }
 
 /// A word of each kind that holds a text.
@@ -113,96 +148,93 @@ fn word_of(kind: u8, text: Text) -> Word {
     }
 }
 
+/// The kind of a word, its text, and how it is printed.
+const WORDS: &[(u8, &str, &str)] = &[
+    (0, " \n", " \n"),
+    (1, "a\"", "\"a\\\"\""),
+    (2, "`a${", "`a${"),
+    (3, "a", "a"),
+    (4, "a", "a"),
+    (5, "URL", "URL"),
+    (6, "a", "a"),
+    (7, "a", "a"),
+    (8, "new", "new"),
+    (9, "add", ".add"),
+    (9, "a-b", "[\"a-b\"]"),
+    (10, "log", "log"),
+    (10, "default", "\"default\""),
+    (11, "[Symbol.iterator]", "[Symbol.iterator]"),
+];
+
 #[test]
-fn prints_words_with_texts(rt: HostRuntime) -> Result<(), Fail> {
-    let alloc = rt.alloc();
-    for (kind, text, want) in [
-        (0u8, " \n", " \n"),
-        (1, "a\"", "\"a\\\"\""),
-        (2, "`a${", "`a${"),
-        (3, "a", "a"),
-        (4, "a", "a"),
-        (5, "URL", "URL"),
-        (6, "a", "a"),
-        (7, "a", "a"),
-        (8, "new", "new"),
-        (9, "add", ".add"),
-        (9, "a-b", "[\"a-b\"]"),
-        (10, "log", "log"),
-        (10, "default", "\"default\""),
-        (11, "[Symbol.iterator]", "[Symbol.iterator]"),
-    ] {
-        shows(
-            &rt,
-            alloc,
-            word_of(kind, Text::from_str(alloc, text)?),
-            want,
-        )?;
+fn prints_words_with_texts(rt: HostRuntime) -> Result<(), AllocError> {
+    for (kind, text, want) in WORDS {
+        let word = word_of(*kind, Text::from_str(rt.alloc(), text)?);
+        assert_word(&rt, rt.alloc(), word, want)?;
     }
     Ok(())
 }
 
+const NOTES: &[(NoteKind, &str)] = &[
+    (NoteKind::Open, "/**"),
+    (NoteKind::Line, " * a* / b"),
+    (NoteKind::Close, " */"),
+    (NoteKind::Slash, "// a* / b"),
+    (NoteKind::Block, "/* a* / b */"),
+];
+
 #[test]
-fn prints_notes(rt: HostRuntime) -> Result<(), Fail> {
-    let alloc = rt.alloc();
-    for (kind, text) in [
-        (NoteKind::Open, "/**"),
-        (NoteKind::Line, " * a* / b"),
-        (NoteKind::Close, " */"),
-        (NoteKind::Slash, "// a* / b"),
-        (NoteKind::Block, "/* a* / b */"),
-    ] {
-        shows(
-            &rt,
-            alloc,
-            Word::Note(kind, Text::from_str(alloc, "a*/\u{2028}b")?),
-            text,
-        )?;
+fn prints_notes(rt: HostRuntime) -> Result<(), AllocError> {
+    for (kind, want) in NOTES {
+        let text = Text::from_str(rt.alloc(), "a*/\u{2028}b")?;
+        assert_word(&rt, rt.alloc(), Word::Note(*kind, text), want)?;
     }
     Ok(())
 }
 
-/// An assignment in a namespace, with words.
-fn assignment(alloc: Global) -> Result<Item, AllocError> {
+/// An assignment in a namespace.
+fn assigning(alloc: Global) -> Result<Role, AllocError> {
     let mut path = Seq::new(alloc);
     path.push(Text::from_str(alloc, "geo")?)?;
+    let name = Text::from_str(alloc, "f")?;
+    Ok(Role::Assign(path, Thing::Adapter(3), name))
+}
+
+fn property(alloc: Global, name: &str) -> Result<Seq<Word>, AllocError> {
+    Ok(Seq::from_vec(property_words(alloc, name)?))
+}
+
+fn assignment(alloc: Global) -> Result<Item, AllocError> {
+    let words = property(alloc, "a.new")?;
     Ok(Item {
-        role: Role::Assign(path, Thing::Adapter(3), Text::from_str(alloc, "f")?),
-        words: Seq::from_vec(property_words(alloc, "a.new")?),
+        role: assigning(alloc)?,
+        words,
     })
 }
 
 #[test]
-fn copies_items(rt: HostRuntime) -> Result<(), Fail> {
-    let alloc = rt.alloc();
-    let item = assignment(alloc)?;
-    let again = item.copy(alloc)?;
-    assert!(rt; again == item);
-    assert_eq!(rt;
-        print(alloc, &[item, again])?.as_str(),
-        ".a[\"new\"].a[\"new\"]"
-    );
-    Ok(())
+fn copies_items(rt: HostRuntime) -> Result<(), AllocError> {
+    let both = with_copy(&rt, rt.alloc(), assignment(rt.alloc())?)?;
+    assert_told(&rt, print(rt.alloc(), &both), ".a[\"new\"].a[\"new\"]")
+}
+
+/// A name, how it is reached, and whether it is a computed key.
+const PROPERTIES: &[(&str, &str, bool)] = &[
+    ("kebab-case", "[\"kebab-case\"]", false),
+    ("prototype.set.call", ".prototype.set.call", false),
+    ("[Symbol.iterator]", "[Symbol.iterator]", true),
+    ("[", "[\"[\"]", false),
+];
+
+fn property_printed(alloc: Global, name: &str) -> Result<String, AllocError> {
+    printed(alloc, property(alloc, name)?)
 }
 
 #[test]
-fn accesses_properties(rt: HostRuntime) -> Result<(), Fail> {
-    let alloc = rt.alloc();
-    for (name, text) in [
-        ("kebab-case", "[\"kebab-case\"]"),
-        ("prototype.set.call", ".prototype.set.call"),
-        ("[Symbol.iterator]", "[Symbol.iterator]"),
-        ("[", "[\"[\"]"),
-    ] {
-        let item = Item {
-            role: Role::Body,
-            words: Seq::from_vec(property_words(alloc, name)?),
-        };
-        assert_eq!(rt; print(alloc, &[item])?.as_str(), text);
-        assert!(rt;
-            is_computed_key(name) == (name == "[Symbol.iterator]"),
-            "at {name}"
-        );
+fn accesses_properties(rt: HostRuntime) -> Result<(), AllocError> {
+    for (name, text, is_computed) in PROPERTIES {
+        assert_told(&rt, property_printed(rt.alloc(), name), text)?;
+        assert_case(&rt, is_computed_key(name) == *is_computed, name);
     }
     Ok(())
 }

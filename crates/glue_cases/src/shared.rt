@@ -1,51 +1,13 @@
+use crate::compare::{assert_case, assert_told, shown};
+use crate::inputs::{CONFIG, settings};
 use glue_shared::{
     Adapter, AdapterId, AdapterKind, EncodeInto, Instruction, Lowered, NonstandardWitSection,
     Settings, Target, WasmBindgenAux, is_fixed_name, is_host_name, live_count, roots,
 };
 use std::alloc::{AllocError, Global};
-use std::test::Fail;
-use values::{Seq, Text};
-use wasm_core::{FuncId, ImportId, MemoryId, Module, ParseConfig, ParseFault};
-
-fn settings(alloc: Global, target: Target) -> Result<Settings, AllocError> {
-    Ok(Settings {
-        stem: Text::from_str(alloc, "out")?,
-        target,
-        debug: false,
-        typescript: false,
-        omit_imports: false,
-        export_wasm: false,
-        externref: false,
-        multi_value: false,
-        encode_into: EncodeInto::Test,
-        omit_default_module_path: true,
-        ts_typed_array_buffers: false,
-        split_linked_modules: false,
-        js_string_builtins: false,
-        reset_state: false,
-        force_abort: false,
-    })
-}
-
-const CONFIG: ParseConfig = ParseConfig {
-    keep_debug: false,
-    names: true,
-    producers: true,
-};
-
-/// Whether a target has this name.
-fn is_host(alloc: Global, target: Target, name: &str) -> Result<bool, AllocError> {
-    let settings = settings(alloc, target)?;
-    let aux = WasmBindgenAux::empty(alloc);
-    Ok(is_host_name(name, &settings, &aux))
-}
-
-/// Whether helpers or texts may bind this name in a module without imports.
-fn is_fixed(alloc: Global, name: &str) -> Result<bool, ParseFault> {
-    let settings = settings(alloc, Target::Deno)?;
-    let module = Module::parse(alloc, b"\0asm\x01\0\0\0", &CONFIG)?;
-    Ok(is_fixed_name(name, &settings, &module))
-}
+use std::process::Abort;
+use values::{Map, Seq};
+use wasm_core::{FuncId, ImportId, MemoryId, Module, ParseFault};
 
 /// The name; whether Deno, whether Emscripten has it; whether it is fixed.
 const NAMES: &[(&str, bool, bool, bool)] = &[
@@ -62,26 +24,47 @@ const NAMES: &[(&str, bool, bool, bool)] = &[
     ("", false, false, false),
 ];
 
-#[test]
-fn names_are_told_from_hosts_and_fixed_ones(rt: HostRuntime) -> Result<(), Fail> {
-    for (name, on_deno, on_emscripten, fixed) in NAMES {
+/// Which of the names a target has.
+fn assert_hosts<H: Abort>(rt: &H, deno: &Settings, emscripten: &Settings, aux: &WasmBindgenAux) {
+    for (name, on_deno, on_emscripten, _) in NAMES {
+        assert_case(rt, is_host_name(name, deno, aux) == *on_deno, name);
         assert!(rt;
-            is_host(rt.alloc(), Target::Deno, name)? == *on_deno,
+            is_host_name(name, emscripten, aux) == *on_emscripten,
             "{name}"
         );
-        assert!(rt;
-            is_host(rt.alloc(), Target::Emscripten, name)? == *on_emscripten,
-            "{name}"
-        );
-        assert!(rt; is_fixed(rt.alloc(), name)? == *fixed, "{name}");
     }
+}
+
+#[test]
+fn names_are_told_from_hosts(rt: HostRuntime) -> Result<(), AllocError> {
+    let deno = settings(rt.alloc(), Target::Deno, EncodeInto::Test)?;
+    let emscripten = settings(rt.alloc(), Target::Emscripten, EncodeInto::Test)?;
+    let aux = WasmBindgenAux::empty(rt.alloc());
+    assert_hosts(&rt, &deno, &emscripten, &aux);
+    drop(aux);
+    Ok(())
+}
+
+/// Which of the names helpers or texts may bind in the module.
+fn assert_fixed<H: Abort>(rt: &H, settings: &Settings, module: &Module) {
+    for (name, _, _, fixed) in NAMES {
+        assert_case(rt, is_fixed_name(name, settings, module) == *fixed, name);
+    }
+}
+
+#[test]
+fn names_are_told_from_fixed_ones(rt: HostRuntime) -> Result<(), ParseFault> {
+    let settings = settings(rt.alloc(), Target::Deno, EncodeInto::Test)?;
+    let module = Module::parse(rt.alloc(), b"\0asm\x01\0\0\0", &CONFIG)?;
+    assert_fixed(&rt, &settings, &module);
+    drop(module);
     Ok(())
 }
 
 #[test]
 fn entries_that_stand_are_counted(rt: HostRuntime) {
-    assert_eq!(rt; live_count(&[Some(1u8), None, Some(2)]), 2);
-    assert_eq!(rt; live_count::<u8>(&[]), 0);
+    assert!(rt; live_count(&[Some(1u8), None, Some(2)]) == 2);
+    assert!(rt; live_count::<u8>(&[]) == 0);
 }
 
 /// An adapter that names function 1 and a memory that isn't there.
@@ -96,43 +79,64 @@ fn adapter(alloc: Global) -> Result<Adapter, AllocError> {
     })
 }
 
+fn adapters(alloc: Global) -> Result<Map<AdapterId, Adapter>, AllocError> {
+    let adapter = adapter(alloc)?;
+    let mut adapters = Map::new(alloc);
+    drop(adapters.insert(AdapterId(0), adapter)?);
+    Ok(adapters)
+}
+
+fn implements(alloc: Global) -> Result<Seq<(ImportId, AdapterId)>, AllocError> {
+    let mut implements = Seq::new(alloc);
+    implements.push((ImportId(0), AdapterId(0)))?;
+    Ok(implements)
+}
+
 /// It stands for import 0.
 fn section(alloc: Global) -> Result<NonstandardWitSection, AllocError> {
-    let mut wit = NonstandardWitSection::empty(alloc);
-    drop(wit.adapters.insert(AdapterId(0), adapter(alloc)?)?);
-    wit.implements.push((ImportId(0), AdapterId(0)))?;
-    Ok(wit)
+    let adapters = adapters(alloc)?;
+    Ok(NonstandardWitSection {
+        adapters,
+        implements: implements(alloc)?,
+        exports: Seq::new(alloc),
+    })
 }
 
 /// An imported function, one of the module's own, and a memory.
 const ONE_IMPORT: &[u8] =
     b"\0asm\x01\0\0\0\x01\x04\x01\x60\0\0\x02\x09\x01\x03env\x01f\0\0\x03\x02\x01\0\x05\x03\x01\0\x01\x0a\x04\x01\x02\0\x0b";
 
-/// That module with the adapter, and an exception store that isn't there.
+/// An exception store that isn't there.
+fn with_store(alloc: Global) -> WasmBindgenAux {
+    let mut aux = WasmBindgenAux::empty(alloc);
+    aux.exn_store = Some(FuncId(5));
+    aux
+}
+
+/// That module with the adapter and the store.
 fn lowered(alloc: Global) -> Result<Lowered, ParseFault> {
     let wit = section(alloc)?;
     let module = Module::parse(alloc, ONE_IMPORT, &CONFIG)?;
-    let mut aux = WasmBindgenAux::empty(alloc);
-    aux.exn_store = Some(FuncId(5));
     Ok(Lowered {
         module,
         wit,
-        aux,
+        aux: with_store(alloc),
         is_read: true,
     })
 }
 
-fn roots_told(alloc: Global, lowered: &Lowered) -> Result<String, AllocError> {
-    let found = roots(alloc, lowered)?;
-    format!(in alloc; "{:?}", found.as_slice())
+fn roots_told(alloc: Global) -> Result<String, ParseFault> {
+    let lowered = lowered(alloc)?;
+    let found = roots(alloc, &lowered);
+    drop(lowered);
+    Ok(shown(alloc, found?)?)
 }
 
 #[test]
-fn roots_are_what_is_named_and_there(rt: HostRuntime) -> Result<(), Fail> {
-    let lowered = lowered(rt.alloc())?;
-    assert_eq!(rt;
-        roots_told(rt.alloc(), &lowered)?.as_str(),
-        "[Func(FuncId(1)), Func(FuncId(0)), Memory(MemoryId(0))]"
-    );
-    Ok(())
+fn roots_are_what_is_named_and_there(rt: HostRuntime) -> Result<(), ParseFault> {
+    assert_told(
+        &rt,
+        roots_told(rt.alloc()),
+        "[Func(FuncId(1)), Func(FuncId(0)), Memory(MemoryId(0))]",
+    )
 }

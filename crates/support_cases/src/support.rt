@@ -1,3 +1,4 @@
+use crate::compare::{assert_told, debugged};
 use cli_support::{Bindgen, Fault, JsonLowering, Output, SetFault};
 use glue_ends::PlannedFile;
 use std::alloc::{AllocError, Global};
@@ -7,43 +8,53 @@ use wasm_core::EmitFault;
 const EMPTY: &[u8] = b"\0asm\x01\0\0\0";
 
 #[test]
-fn a_target_is_chosen_once(rt: HostRuntime) -> Result<(), Fail> {
+fn a_target_is_chosen_once(rt: HostRuntime) {
     let mut generator = Bindgen::new(false, false);
     assert!(rt; generator.deno(false).is_ok());
     assert!(rt; generator.deno(true).is_ok());
-    let twice = match generator.deno(true) {
-        Err(SetFault::ModeTwice) => true,
-        _ => false,
-    };
-    assert!(rt; twice);
-    Ok(())
+    assert!(rt; generator.deno(true).err() == Some(SetFault::ModeTwice));
 }
 
 #[test]
-fn the_input_gives_the_stem(rt: HostRuntime) -> Result<(), Fail> {
-    let alloc = rt.alloc();
-    let mut generator = Bindgen::new(false, false);
+fn a_stem_needs_an_input(rt: HostRuntime) {
+    let generator = Bindgen::new(false, false);
     assert!(rt; generator.stem().is_err());
-    generator.input_bytes(alloc, "out", EMPTY.to_vec(alloc)?)?;
+}
+
+#[test]
+fn the_input_gives_the_stem(rt: HostRuntime) -> Result<(), AllocError> {
+    let bytes = Vec::from_slice(rt.alloc(), EMPTY)?;
+    let mut generator = Bindgen::new(false, false);
+    generator.input_bytes(rt.alloc(), "out", bytes)?;
     assert!(rt; generator.stem() == Ok("out"));
     Ok(())
 }
 
-/// What is made for Deno or for no target, with this name and these bytes.
-fn made(alloc: Global, deno: bool, name: &str, bytes: &[u8]) -> Result<Output, Fault> {
-    let mut generator = Bindgen::new(false, false);
+fn make(
+    alloc: Global,
+    generator: &mut Bindgen,
+    deno: bool,
+    name: &str,
+    bytes: Vec<u8>,
+) -> Result<Output, Fault> {
     if generator.deno(deno).is_err() {
         return Err(Fault::OutOfMemory);
     }
-    generator.input_bytes(alloc, name, bytes.to_vec(alloc)?)?;
+    generator.input_bytes(alloc, name, bytes)?;
     generator.generate_output(alloc, &mut JsonLowering::new())
+}
+
+/// What is made for Deno or for no target, with this name and these bytes.
+fn made(alloc: Global, deno: bool, name: &str, bytes: &[u8]) -> Result<Output, Fault> {
+    let bytes = Vec::from_slice(alloc, bytes)?;
+    make(alloc, &mut Bindgen::new(false, false), deno, name, bytes)
 }
 
 /// The fault of that, nothing without one.
 fn fault_told(alloc: Global, deno: bool, name: &str, bytes: &[u8]) -> Result<String, AllocError> {
-    match made(alloc, deno, name, bytes) {
-        Ok(_) => Ok(String::new(alloc)),
-        Err(fault) => format!(in alloc; "{fault:?}"),
+    match made(alloc, deno, name, bytes).err() {
+        Some(fault) => debugged(alloc, fault),
+        None => Ok(String::new(alloc)),
     }
 }
 
@@ -69,9 +80,9 @@ const FAULTS: &[(bool, &str, &[u8], &str)] = &[
 ];
 
 #[test]
-fn faults_come_in_their_order(rt: HostRuntime) -> Result<(), Fail> {
+fn faults_come_in_their_order(rt: HostRuntime) -> Result<(), AllocError> {
     for (deno, name, bytes, want) in FAULTS {
-        assert_eq!(rt; fault_told(rt.alloc(), *deno, name, bytes)?.as_str(), *want);
+        assert_told(&rt, fault_told(rt.alloc(), *deno, name, bytes), want)?;
     }
     Ok(())
 }
@@ -79,8 +90,10 @@ fn faults_come_in_their_order(rt: HostRuntime) -> Result<(), Fail> {
 #[test]
 fn an_input_is_wanted(rt: HostRuntime) {
     let mut generator = Bindgen::new(false, false);
-    let given = generator.generate_output(rt.alloc(), &mut JsonLowering::new());
-    assert!(rt; matches!(given, Err(Fault::NoInput)));
+    let fault = generator
+        .generate_output(rt.alloc(), &mut JsonLowering::new())
+        .err();
+    assert!(rt; fault == Some(Fault::NoInput));
 }
 
 /// How many items there are, whether the module's start function is run by them, whether there is a text, how many
@@ -95,11 +108,14 @@ fn output_told(alloc: Global, output: &Output) -> Result<String, EmitFault> {
     Ok(format!(in alloc; "{items} {has_start} {has_text} {imports}{lengths}")?)
 }
 
+fn length_told(alloc: Global, file: &PlannedFile) -> Result<String, AllocError> {
+    format!(in alloc; " {}", file.bytes.len())
+}
+
 fn lengths_told(alloc: Global, files: &[PlannedFile]) -> Result<String, AllocError> {
     let mut out = String::new(alloc);
     for file in files {
-        let length = file.bytes.len();
-        out.push_str(format!(in alloc; " {length}")?.as_str())?;
+        out.push_str(&length_told(alloc, file)?)?;
     }
     Ok(out)
 }
@@ -107,9 +123,8 @@ fn lengths_told(alloc: Global, files: &[PlannedFile]) -> Result<String, AllocErr
 #[test]
 fn the_empty_module_has_a_frame_and_loading(rt: HostRuntime) -> Result<(), Fail> {
     let output = made(rt.alloc(), true, "out", EMPTY)?;
-    assert_eq!(rt;
-        output_told(rt.alloc(), &output)?.as_str(),
-        "3 false true 0 56 406"
-    );
+    let told = output_told(rt.alloc(), &output);
+    drop(output);
+    assert_told(&rt, told, "3 false true 0 56 406")?;
     Ok(())
 }

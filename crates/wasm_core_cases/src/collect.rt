@@ -1,17 +1,10 @@
 //! What is kept of modules, shown as a row of their lists: `x` for an entry, `.` for a place that is empty.
 
+use crate::compare::assert_told;
+use crate::inputs::{CONFIG, joined, read};
 use std::alloc::{AllocError, Global};
 use std::process::Abort;
-use std::test::Fail;
-use wasm_core::{ExportItem, FuncId, Module, ParseConfig, ParseFault};
-
-const CONFIG: ParseConfig = ParseConfig {
-    keep_debug: false,
-    names: true,
-    producers: true,
-};
-
-const HEAD: &[u8] = b"\0asm\x01\0\0\0";
+use wasm_core::{ExportItem, FuncId, Module, ParseFault};
 
 /// Types () -> () and (i32) -> ().
 const TYPES: &[u8] = b"\x01\x08\x02\x60\x00\x00\x60\x01\x7f\x00";
@@ -29,18 +22,6 @@ const THREE: &[u8] = b"\x03\x04\x03\x00\x00\x00";
 /// Function 0 is exported.
 const EXPORTED: &[u8] = b"\x07\x05\x01\x01a\x00\x00";
 
-fn joined(alloc: Global, parts: &[&[u8]]) -> Result<Vec<u8>, AllocError> {
-    let mut bytes = Vec::from_slice(alloc, HEAD)?;
-    for part in parts {
-        bytes.extend_from_slice(part)?;
-    }
-    Ok(bytes)
-}
-
-fn read(alloc: Global, parts: &[&[u8]]) -> Result<Module, ParseFault> {
-    Module::parse(alloc, &joined(alloc, parts)?, &CONFIG)
-}
-
 fn show<T>(out: &mut String, entries: &[Option<T>]) -> Result<(), AllocError> {
     for entry in entries {
         out.push(if entry.is_some() { 'x' } else { '.' })?;
@@ -48,12 +29,15 @@ fn show<T>(out: &mut String, entries: &[Option<T>]) -> Result<(), AllocError> {
     out.push(' ')
 }
 
-fn show_all(out: &mut String, module: &Module) -> Result<(), AllocError> {
+fn show_first(out: &mut String, module: &Module) -> Result<(), AllocError> {
     show(out, module.types())?;
     show(out, module.funcs())?;
     show(out, module.tables())?;
     show(out, module.memories())?;
-    show(out, module.globals())?;
+    show(out, module.globals())
+}
+
+fn show_others(out: &mut String, module: &Module) -> Result<(), AllocError> {
     show(out, module.tags())?;
     show(out, module.elems())?;
     show(out, module.segments())?;
@@ -63,19 +47,26 @@ fn show_all(out: &mut String, module: &Module) -> Result<(), AllocError> {
 /// Types, functions, tables, memories, globals, tags, element and data segments, and imports.
 pub fn shown(alloc: Global, module: &Module) -> Result<String, AllocError> {
     let mut out = String::new(alloc);
-    show_all(&mut out, module)?;
+    show_first(&mut out, module)?;
+    show_others(&mut out, module)?;
     Ok(out)
 }
 
 /// What is left without roots.
-fn left(alloc: Global, parts: &[&[u8]]) -> Result<String, ParseFault> {
-    left_of(alloc, &joined(alloc, parts)?)
+fn collected(alloc: Global, module: &mut Module) -> Result<String, AllocError> {
+    module.collect(alloc, &[])?;
+    shown(alloc, module)
 }
 
 fn left_of(alloc: Global, bytes: &[u8]) -> Result<String, ParseFault> {
     let mut module = Module::parse(alloc, bytes, &CONFIG)?;
-    module.collect(alloc, &[])?;
-    Ok(shown(alloc, &module)?)
+    let told = collected(alloc, &mut module);
+    drop(module);
+    Ok(told?)
+}
+
+fn left(alloc: Global, parts: &[&[u8]]) -> Result<String, ParseFault> {
+    left_of(alloc, &joined(alloc, parts)?)
 }
 
 /// This is left of each file.
@@ -85,7 +76,7 @@ fn assert_left<H: Abort>(
     cases: &[(&[&[u8]], &str)],
 ) -> Result<(), ParseFault> {
     for (parts, want) in cases {
-        assert_eq!(rt; left(alloc, parts)?.as_str(), *want);
+        assert_told(rt, left(alloc, parts), want)?;
     }
     Ok(())
 }
@@ -97,7 +88,7 @@ const IMPORTED_TABLE: &[u8] = b"\x02\x09\x01\x01m\x01t\x01\x70\x00\x01";
 const OWN_TABLE: &[u8] = b"\x04\x04\x01\x70\x00\x01";
 
 #[test]
-fn a_segment_of_an_imported_table_is_kept(rt: HostRuntime) -> Result<(), Fail> {
+fn a_segment_of_an_imported_table_is_kept(rt: HostRuntime) -> Result<(), ParseFault> {
     assert_left(
         &rt,
         rt.alloc(),
@@ -111,8 +102,7 @@ fn a_segment_of_an_imported_table_is_kept(rt: HostRuntime) -> Result<(), Fail> {
                 ".. .. .    .   ",
             ),
         ],
-    )?;
-    Ok(())
+    )
 }
 
 const IMPORTED_MEMORY: &[u8] = b"\x02\x08\x01\x01m\x01t\x02\x00\x01";
@@ -125,7 +115,7 @@ const GLOBALS: &[u8] = b"\x06\x0b\x02\x7f\x00\x41\x00\x0b\x7f\x00\x41\x00\x0b";
 const SEGMENTS: &[u8] = b"\x0b\x08\x02\x01\x00\x00\x23\x01\x0b\x00";
 
 #[test]
-fn a_segment_of_an_imported_memory_is_kept(rt: HostRuntime) -> Result<(), Fail> {
+fn a_segment_of_an_imported_memory_is_kept(rt: HostRuntime) -> Result<(), ParseFault> {
     assert_left(
         &rt,
         rt.alloc(),
@@ -146,8 +136,7 @@ fn a_segment_of_an_imported_memory_is_kept(rt: HostRuntime) -> Result<(), Fail> 
                 "x. x  x .x   .x  ",
             ),
         ],
-    )?;
-    Ok(())
+    )
 }
 
 /// The code section of so many functions: one with these operators, and behind them the end of its body and the others.
@@ -185,13 +174,13 @@ fn kept_by(alloc: Global, ops: &[u8]) -> Result<String, ParseFault> {
 /// A function with these operators keeps this.
 fn assert_kept<H: Abort>(rt: &H, alloc: Global, cases: &[(&[u8], &str)]) -> Result<(), ParseFault> {
     for (ops, want) in cases {
-        assert_eq!(rt; kept_by(alloc, ops)?.as_str(), *want);
+        assert_told(rt, kept_by(alloc, ops), want)?;
     }
     Ok(())
 }
 
 #[test]
-fn an_operator_keeps_what_it_names(rt: HostRuntime) -> Result<(), Fail> {
+fn an_operator_keeps_what_it_names(rt: HostRuntime) -> Result<(), ParseFault> {
     assert_kept(
         &rt,
         rt.alloc(),
@@ -224,8 +213,7 @@ fn an_operator_keeps_what_it_names(rt: HostRuntime) -> Result<(), Fail> {
             (b"\xfd\x54\x42\x01\x00\x00", "x. x. .. .x .. .. .. ..  "),
             (b"\x10\x00", "x. x. .. .. .. .. .. ..  "),
         ],
-    )?;
-    Ok(())
+    )
 }
 
 /// What is left of these sections where function 0 has these operators; 1 and 2 are empty.
@@ -243,7 +231,7 @@ fn assert_declared<H: Abort>(
     cases: &[(&[&[u8]], &[u8], &str)],
 ) -> Result<(), ParseFault> {
     for (parts, ops, want) in cases {
-        assert_eq!(rt; declared(alloc, parts, ops)?.as_str(), *want);
+        assert_told(rt, declared(alloc, parts, ops), want)?;
     }
     Ok(())
 }
@@ -267,7 +255,7 @@ const EXPRESSION: &[u8] = b"\x09\x07\x01\x05\x70\x01\xd2\x01\x0b";
 const OTHER: &[u8] = b"\x09\x05\x01\x01\x00\x01\x02";
 
 #[test]
-fn a_function_that_is_taken_stays_declared(rt: HostRuntime) -> Result<(), Fail> {
+fn a_function_that_is_taken_stays_declared(rt: HostRuntime) -> Result<(), ParseFault> {
     assert_declared(
         &rt,
         rt.alloc(),
@@ -299,8 +287,7 @@ fn a_function_that_is_taken_stays_declared(rt: HostRuntime) -> Result<(), Fail> 
             ),
             (&[TYPES, THREE, TAKEN, EXPORTED], TAKE, "x. xx.   .x.     "),
         ],
-    )?;
-    Ok(())
+    )
 }
 
 /// The lists and the start function.
@@ -310,27 +297,34 @@ fn shown_with_start(alloc: Global, module: &Module) -> Result<String, AllocError
 }
 
 /// What is left without roots, and the start function.
-fn left_with_start(alloc: Global, parts: &[&[u8]]) -> Result<String, ParseFault> {
-    let mut module = read(alloc, parts)?;
+fn collected_with_start(alloc: Global, module: &mut Module) -> Result<String, AllocError> {
     module.collect(alloc, &[])?;
-    Ok(shown_with_start(alloc, &module)?)
+    shown_with_start(alloc, module)
 }
 
+fn left_with_start(alloc: Global, parts: &[&[u8]]) -> Result<String, ParseFault> {
+    let mut module = read(alloc, parts)?;
+    let told = collected_with_start(alloc, &mut module);
+    drop(module);
+    Ok(told?)
+}
+
+/// Two imported functions, and the start function, which calls the second.
+const CALLING: &[&[u8]] = &[
+    TYPES,
+    b"\x02\x0d\x02\x01m\x01a\x00\x00\x01m\x01b\x00\x00",
+    b"\x03\x02\x01\x00",
+    b"\x08\x01\x02",
+    b"\x0a\x06\x01\x04\x00\x10\x01\x0b",
+];
+
 #[test]
-fn an_import_is_kept_with_its_function(rt: HostRuntime) -> Result<(), Fail> {
-    // Two imported functions, and the start function, which calls the second.
-    let parts: &[&[u8]] = &[
-        TYPES,
-        b"\x02\x0d\x02\x01m\x01a\x00\x00\x01m\x01b\x00\x00",
-        b"\x03\x02\x01\x00",
-        b"\x08\x01\x02",
-        b"\x0a\x06\x01\x04\x00\x10\x01\x0b",
-    ];
-    assert_eq!(rt;
-        left_with_start(rt.alloc(), parts)?.as_str(),
-        "x. .xx       .x Some(FuncId(2))"
-    );
-    Ok(())
+fn an_import_is_kept_with_its_function(rt: HostRuntime) -> Result<(), ParseFault> {
+    assert_told(
+        &rt,
+        left_with_start(rt.alloc(), CALLING),
+        "x. .xx       .x Some(FuncId(2))",
+    )
 }
 
 /// Collects with one function as the root, if it is live.
@@ -342,20 +336,25 @@ pub fn collect_from(module: &mut Module, alloc: Global, id: FuncId) -> Result<()
 }
 
 /// What is left with one function as the root, and of that without roots.
+fn collected_twice(alloc: Global, module: &mut Module, id: FuncId) -> Result<String, AllocError> {
+    collect_from(module, alloc, id)?;
+    let first = shown(alloc, module)?;
+    let second = collected(alloc, module)?;
+    format!(in alloc; "{first}, {second}")
+}
+
 fn left_from(alloc: Global, parts: &[&[u8]], id: FuncId) -> Result<String, ParseFault> {
     let mut module = read(alloc, parts)?;
-    collect_from(&mut module, alloc, id)?;
-    let first = shown(alloc, &module)?;
-    module.collect(alloc, &[])?;
-    let second = shown(alloc, &module)?;
-    Ok(format!(in alloc; "{first}, {second}")?)
+    let told = collected_twice(alloc, &mut module, id);
+    drop(module);
+    Ok(told?)
 }
 
 #[test]
-fn a_root_is_kept(rt: HostRuntime) -> Result<(), Fail> {
-    assert_eq!(rt;
-        left_from(rt.alloc(), &[TYPES, BOTH, EMPTY], FuncId(1))?.as_str(),
-        ".x .x        , .. ..        "
-    );
-    Ok(())
+fn a_root_is_kept(rt: HostRuntime) -> Result<(), ParseFault> {
+    assert_told(
+        &rt,
+        left_from(rt.alloc(), &[TYPES, BOTH, EMPTY], FuncId(1)),
+        ".x .x        , .. ..        ",
+    )
 }

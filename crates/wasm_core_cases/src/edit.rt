@@ -1,20 +1,12 @@
 //! The editing calls, on modules of few entries.
 
+use crate::compare::{assert_told, debugged};
+use crate::inputs::{CONFIG, HEAD};
 use std::alloc::{AllocError, Global};
-use std::test::Fail;
 use values::Seq;
 use wasm_core::{
-    Body, ExportId, ExportItem, FuncId, FuncType, ImportId, ImportKind, Module, ParseConfig,
-    ParseFault, ValType,
+    Body, ExportId, ExportItem, FuncId, FuncType, ImportId, ImportKind, Module, ParseFault, ValType,
 };
-
-const CONFIG: ParseConfig = ParseConfig {
-    keep_debug: false,
-    names: true,
-    producers: true,
-};
-
-const HEAD: &[u8] = b"\0asm\x01\0\0\0";
 
 /// Type () -> () and an imported tag of it, which is exported.
 const TAG: &[u8] =
@@ -32,13 +24,19 @@ fn read(alloc: Global, bytes: &[u8]) -> Result<Module, ParseFault> {
     Module::parse(alloc, bytes, &CONFIG)
 }
 
+fn int(alloc: Global) -> Result<Seq<ValType>, AllocError> {
+    let mut types = Seq::new(alloc);
+    types.push(ValType::I32)?;
+    Ok(types)
+}
+
 /// Type (i32) -> i32.
 fn int_to_int(alloc: Global) -> Result<FuncType, AllocError> {
-    let mut params = Seq::new(alloc);
-    params.push(ValType::I32)?;
-    let mut results = Seq::new(alloc);
-    results.push(ValType::I32)?;
-    Ok(FuncType { params, results })
+    let params = int(alloc)?;
+    Ok(FuncType {
+        params,
+        results: int(alloc)?,
+    })
 }
 
 /// Type () -> ().
@@ -88,21 +86,41 @@ pub fn localize(module: &mut Module, id: ImportId) {
     }
 }
 
-/// Functions `f` and `g` of type (i32) -> i32 and `h` of type () -> (), in an empty module: their ids, the types and
-/// the functions.
+fn add_of_int(alloc: Global, module: &mut Module, name: &str) -> Result<FuncId, AllocError> {
+    module.add_func(alloc, int_to_int(alloc)?, name, no_body(alloc))
+}
+
+fn add_of_nothing(alloc: Global, module: &mut Module, name: &str) -> Result<FuncId, AllocError> {
+    module.add_func(alloc, nothing_to_nothing(alloc), name, no_body(alloc))
+}
+
+/// Functions `f` and `g` of type (i32) -> i32 and `h` of type () -> (): their ids.
+fn add_alike(alloc: Global, module: &mut Module) -> Result<String, AllocError> {
+    let first = add_of_int(alloc, module, "f")?;
+    let second = add_of_int(alloc, module, "g")?;
+    let third = add_of_nothing(alloc, module, "h")?;
+    format!(in alloc; "{first:?} {second:?} {third:?}")
+}
+
+/// Their ids, the types and the functions.
+fn with_alike(alloc: Global, module: &mut Module) -> Result<String, AllocError> {
+    let ids = add_alike(alloc, module)?;
+    format!(in alloc; "{ids} {:?} {:?}", module.types(), module.funcs())
+}
+
+/// The same in an empty module.
 fn alike_told(alloc: Global) -> Result<String, ParseFault> {
     let mut module = read(alloc, HEAD)?;
-    let first = module.add_func(alloc, int_to_int(alloc)?, "f", no_body(alloc))?;
-    let second = module.add_func(alloc, int_to_int(alloc)?, "g", no_body(alloc))?;
-    let third = module.add_func(alloc, nothing_to_nothing(alloc), "h", no_body(alloc))?;
-    let ids = format!(in alloc; "{first:?} {second:?} {third:?}")?;
-    Ok(format!(in alloc; "{ids} {:?} {:?}", module.types(), module.funcs())?)
+    let told = with_alike(alloc, &mut module);
+    drop(module);
+    Ok(told?)
 }
 
 #[test]
-fn a_type_that_is_alike_is_shared(rt: HostRuntime) -> Result<(), Fail> {
-    assert_eq!(rt;
-        alike_told(rt.alloc())?.as_str(),
+fn a_type_that_is_alike_is_shared(rt: HostRuntime) -> Result<(), ParseFault> {
+    assert_told(
+        &rt,
+        alike_told(rt.alloc()),
         "FuncId(0) FuncId(1) FuncId(2) \
         [Some(FuncType { params: Seq { items: [I32] }, results: Seq { items: [I32] } }), \
         Some(FuncType { params: Seq { items: [] }, results: Seq { items: [] } })] \
@@ -111,28 +129,39 @@ fn a_type_that_is_alike_is_shared(rt: HostRuntime) -> Result<(), Fail> {
         Some(Func { ty: TypeId(0), name: Some(Text { string: \"g\" }), import: None, \
         body: Some(Body { locals: Seq { items: [] }, ops: Seq { items: [] } }) }), \
         Some(Func { ty: TypeId(1), name: Some(Text { string: \"h\" }), import: None, \
-        body: Some(Body { locals: Seq { items: [] }, ops: Seq { items: [] } }) })]"
-    );
-    Ok(())
+        body: Some(Body { locals: Seq { items: [] }, ops: Seq { items: [] } }) })]",
+    )
 }
 
-/// Two exports of function 0 as `a`, of which the first is deleted: their ids, and what is left.
+/// Two exports of function 0 as `a`: their ids.
+fn export_twice(alloc: Global, module: &mut Module) -> Result<String, AllocError> {
+    let first = export_func(module, alloc, "a", FuncId(0))?;
+    let second = export_func(module, alloc, "a", FuncId(0))?;
+    format!(in alloc; "{first:?} {second:?}")
+}
+
+/// Their ids, and what is left where the first is deleted.
+fn with_one_deleted(alloc: Global, module: &mut Module) -> Result<String, AllocError> {
+    let ids = export_twice(alloc, module)?;
+    delete_export(module, ExportId(0));
+    format!(in alloc; "{ids} {:?}", module.exports())
+}
+
 fn exports_told(alloc: Global) -> Result<String, ParseFault> {
     let mut module = read(alloc, START)?;
-    let first = export_func(&mut module, alloc, "a", FuncId(0))?;
-    let second = export_func(&mut module, alloc, "a", FuncId(0))?;
-    delete_export(&mut module, ExportId(0));
-    Ok(format!(in alloc; "{first:?} {second:?} {:?}", module.exports())?)
+    let told = with_one_deleted(alloc, &mut module);
+    drop(module);
+    Ok(told?)
 }
 
 #[test]
-fn an_export_stands_twice_until_one_is_deleted(rt: HostRuntime) -> Result<(), Fail> {
-    assert_eq!(rt;
-        exports_told(rt.alloc())?.as_str(),
+fn an_export_stands_twice_until_one_is_deleted(rt: HostRuntime) -> Result<(), ParseFault> {
+    assert_told(
+        &rt,
+        exports_told(rt.alloc()),
         "Some(ExportId(0)) Some(ExportId(1)) \
-        [None, Some(Export { name: Text { string: \"a\" }, item: Func(FuncId(0)) })]"
-    );
-    Ok(())
+        [None, Some(Export { name: Text { string: \"a\" }, item: Func(FuncId(0)) })]",
+    )
 }
 
 fn name_first(module: &mut Module, alloc: Global, name: &str) -> Result<(), AllocError> {
@@ -142,67 +171,85 @@ fn name_first(module: &mut Module, alloc: Global, name: &str) -> Result<(), Allo
     Ok(())
 }
 
-/// The module's name, its start function, taken twice, and the functions, of which the first is named `begin`.
-fn start_told(alloc: Global) -> Result<String, ParseFault> {
-    let mut module = read(alloc, START)?;
-    name_first(&mut module, alloc, "begin")?;
+/// The module's name, and its start function, taken twice.
+fn take_twice(alloc: Global, module: &mut Module) -> Result<String, AllocError> {
     let first = module.take_start();
     let second = module.take_start();
-    Ok(format!(in alloc;
-        "{:?} {first:?} {second:?} {:?}",
-        module.name(),
-        module.funcs()
-    )?)
+    format!(in alloc; "{:?} {first:?} {second:?}", module.name())
+}
+
+/// The same and the functions, of which the first is named `begin`.
+fn with_begin(alloc: Global, module: &mut Module) -> Result<String, AllocError> {
+    name_first(module, alloc, "begin")?;
+    let starts = take_twice(alloc, module)?;
+    format!(in alloc; "{starts} {:?}", module.funcs())
+}
+
+fn start_told(alloc: Global) -> Result<String, ParseFault> {
+    let mut module = read(alloc, START)?;
+    let told = with_begin(alloc, &mut module);
+    drop(module);
+    Ok(told?)
 }
 
 #[test]
-fn a_start_function_is_taken_once_and_named(rt: HostRuntime) -> Result<(), Fail> {
-    assert_eq!(rt;
-        start_told(rt.alloc())?.as_str(),
+fn a_start_function_is_taken_once_and_named(rt: HostRuntime) -> Result<(), ParseFault> {
+    assert_told(
+        &rt,
+        start_told(rt.alloc()),
         "None Some(FuncId(0)) None [Some(Func { ty: TypeId(0), name: Some(Text { string: \"begin\" }), import: None, \
-        body: Some(Body { locals: Seq { items: [] }, ops: Seq { items: [] } }) })]"
-    );
-    Ok(())
+        body: Some(Body { locals: Seq { items: [] }, ops: Seq { items: [] } }) })]",
+    )
 }
 
-/// The imports, the tags and the exports where the imported tag became the module's own.
-fn tag_told(alloc: Global) -> Result<String, ParseFault> {
-    let mut module = read(alloc, TAG)?;
-    localize(&mut module, ImportId(0));
-    Ok(format!(in alloc;
+/// The imports, the tags and the exports.
+fn tags_told(alloc: Global, module: &Module) -> Result<String, AllocError> {
+    format!(in alloc;
         "{:?} {:?} {:?}",
         module.imports(),
         module.tags(),
         module.exports()
-    )?)
+    )
+}
+
+/// The same where the imported tag became the module's own.
+fn tag_told(alloc: Global) -> Result<String, ParseFault> {
+    let mut module = read(alloc, TAG)?;
+    localize(&mut module, ImportId(0));
+    let told = tags_told(alloc, &module);
+    drop(module);
+    Ok(told?)
 }
 
 #[test]
-fn a_tag_becomes_the_modules_own(rt: HostRuntime) -> Result<(), Fail> {
-    assert_eq!(rt;
-        tag_told(rt.alloc())?.as_str(),
+fn a_tag_becomes_the_modules_own(rt: HostRuntime) -> Result<(), ParseFault> {
+    assert_told(
+        &rt,
+        tag_told(rt.alloc()),
         "[None] [Some(Tag { ty: TypeId(0), import: None })] \
-        [Some(Export { name: Text { string: \"t\" }, item: Tag(TagId(0)) })]"
-    );
-    Ok(())
+        [Some(Export { name: Text { string: \"t\" }, item: Tag(TagId(0)) })]",
+    )
 }
 
 /// Whether features are listed with a plus, none without a list.
 fn feature_told(alloc: Global, bytes: &[u8], name: &str) -> Result<String, ParseFault> {
     let module = read(alloc, bytes)?;
-    Ok(format!(in alloc; "{:?}", module.target_feature(name))?)
+    let found = module.target_feature(name);
+    drop(module);
+    Ok(debugged(alloc, found)?)
 }
 
+const LISTED: &[(&[u8], &str, &str)] = &[
+    (HEAD, "simd128", "None"),
+    (FEATURES, "simd128", "Some(true)"),
+    (FEATURES, "atomics", "Some(false)"),
+    (FEATURES, "simd", "Some(false)"),
+];
+
 #[test]
-fn the_first_section_tells_the_features(rt: HostRuntime) -> Result<(), Fail> {
-    let cases: [(&[u8], &str, &str); 4] = [
-        (HEAD, "simd128", "None"),
-        (FEATURES, "simd128", "Some(true)"),
-        (FEATURES, "atomics", "Some(false)"),
-        (FEATURES, "simd", "Some(false)"),
-    ];
-    for (bytes, name, want) in cases {
-        assert_eq!(rt; feature_told(rt.alloc(), bytes, name)?.as_str(), want);
+fn the_first_section_tells_the_features(rt: HostRuntime) -> Result<(), ParseFault> {
+    for (bytes, name, want) in LISTED {
+        assert_told(&rt, feature_told(rt.alloc(), bytes, name), want)?;
     }
     Ok(())
 }

@@ -4,6 +4,10 @@
 #[cfg(test)]
 mod collect;
 #[cfg(test)]
+mod compare;
+#[cfg(test)]
 mod edit;
+#[cfg(test)]
+mod inputs;
 #[cfg(test)]
 mod module;

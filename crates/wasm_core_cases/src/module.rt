@@ -1,21 +1,13 @@
 use crate::collect::{collect_from, shown};
+use crate::compare::{assert_case, assert_told, debugged};
 use crate::edit::{delete_export, localize};
+use crate::inputs::{CONFIG, extend, joined, read};
 use std::alloc::{AllocError, Global};
 use std::process::Abort;
-use std::test::Fail;
 use values::Seq;
 use wasm_core::{
-    EmitFault, ExportId, FuncId, ImportId, Module, ParseConfig, ParseFault, emit_sections,
-    push_u32, sections,
+    EmitFault, ExportId, FuncId, ImportId, Module, ParseConfig, ParseFault, emit_sections, sections,
 };
-
-const CONFIG: ParseConfig = ParseConfig {
-    keep_debug: false,
-    names: true,
-    producers: true,
-};
-
-const HEAD: &[u8] = b"\0asm\x01\0\0\0";
 
 /// Types (i32, i32) -> i32 and (i32).
 const TYPES: &[u8] = b"\x01\x0b\x02\x60\x02\x7f\x7f\x01\x7f\x60\x01\x7f\x00";
@@ -33,42 +25,53 @@ const GLUE: &[u8] = b"\x00\x0d\x0a__wbg_glue{}";
 const PRODUCERS: &[u8] =
     b"\x00\x2e\x09producers\x01\x0cprocessed-by\x01\x0cwasm-bindgen\x070.2.130";
 
-/// Appends each part.
-fn extend(bytes: &mut Vec<u8>, parts: &[&[u8]]) -> Result<(), AllocError> {
-    for part in parts {
-        bytes.extend_from_slice(part)?;
+/// Whether it is written as these bytes.
+fn is_emitted(alloc: Global, module: &Module, want: &[u8]) -> bool {
+    match module.emit(alloc) {
+        Ok(got) => got.as_slice() == want,
+        Err(_) => false,
     }
-    Ok(())
-}
-
-fn joined(alloc: Global, parts: &[&[u8]]) -> Result<Vec<u8>, AllocError> {
-    let mut bytes = Vec::from_slice(alloc, HEAD)?;
-    extend(&mut bytes, parts)?;
-    Ok(bytes)
-}
-
-fn read(alloc: Global, parts: &[&[u8]]) -> Result<Module, ParseFault> {
-    Module::parse(alloc, &joined(alloc, parts)?, &CONFIG)
 }
 
 /// Whether it is written as these parts.
 fn is_written_as(alloc: Global, module: &Module, want: &[&[u8]]) -> Result<bool, AllocError> {
     let want = joined(alloc, want)?;
-    match module.emit(alloc) {
-        Ok(got) => Ok(got.as_slice() == want.as_slice()),
-        Err(_) => Ok(false),
-    }
+    Ok(is_emitted(alloc, module, &want))
+}
+
+/// It is written as these parts.
+fn assert_written<H: Abort>(
+    rt: &H,
+    alloc: Global,
+    module: &Module,
+    want: &[&[u8]],
+) -> Result<(), AllocError> {
+    assert_case(rt, is_written_as(alloc, module, want)?, &want);
+    Ok(())
+}
+
+/// The second call replaces the version of the first.
+fn process_twice(alloc: Global, module: &mut Module) -> Result<(), AllocError> {
+    module.add_processed_by(alloc, "wasm-bindgen", "0.2.129")?;
+    module.add_processed_by(alloc, "wasm-bindgen", "0.2.130")
+}
+
+fn assert_processed<H: Abort>(
+    rt: &H,
+    alloc: Global,
+    module: &mut Module,
+) -> Result<(), AllocError> {
+    process_twice(alloc, module)?;
+    assert_written(rt, alloc, module, &[PRODUCERS])
 }
 
 #[test]
-fn the_empty_module_gets_its_producers(rt: HostRuntime) -> Result<(), Fail> {
-    let alloc = rt.alloc();
-    let mut module = read(alloc, &[])?;
-    module.add_processed_by(alloc, "wasm-bindgen", "0.2.129")?;
-    module.add_processed_by(alloc, "wasm-bindgen", "0.2.130")?;
-    assert!(rt; is_written_as(alloc, &module, &[PRODUCERS])?);
-    assert_eq!(rt; PRODUCERS.len(), 48);
-    Ok(())
+fn the_empty_module_gets_its_producers(rt: HostRuntime) -> Result<(), ParseFault> {
+    assert!(rt; PRODUCERS.len() == 48);
+    let mut module = read(rt.alloc(), &[])?;
+    let done = assert_processed(&rt, rt.alloc(), &mut module);
+    drop(module);
+    Ok(done?)
 }
 
 /// The first import is of this name from this module.
@@ -84,18 +87,35 @@ fn import_from(
     Ok(())
 }
 
-#[test]
-fn an_exported_and_an_imported_function(rt: HostRuntime) -> Result<(), Fail> {
-    let alloc = rt.alloc();
-    let mut module = read(alloc, &[TYPES, LOG, FUNCTION, ADD, CODE, GLUE])?;
+/// The custom section is there to be removed once.
+fn assert_removed<H: Abort>(rt: &H, module: &mut Module) {
     assert!(rt; module.remove_custom("__wbg_glue"));
     assert!(rt; !module.remove_custom("__wbg_glue"));
-    import_from(&mut module, alloc, "./out_bg.js", "log")?;
+}
+
+const RENAMED: &[u8] = b"\x02\x13\x01\x0b./out_bg.js\x03log\x00\x01";
+
+const WORKED: &[&[u8]] = &[TYPES, RENAMED, FUNCTION, ADD, CODE, PRODUCERS];
+
+fn assert_worked<H: Abort>(rt: &H, alloc: Global, module: &mut Module) -> Result<(), AllocError> {
+    assert_removed(rt, module);
+    import_from(module, alloc, "./out_bg.js", "log")?;
     module.add_processed_by(alloc, "wasm-bindgen", "0.2.130")?;
-    let import: &[u8] = b"\x02\x13\x01\x0b./out_bg.js\x03log\x00\x01";
-    let want = [TYPES, import, FUNCTION, ADD, CODE, PRODUCERS];
-    assert!(rt; is_written_as(alloc, &module, &want)?);
-    assert_eq!(rt; joined(alloc, &want)?.len(), 118);
+    assert_written(rt, alloc, module, WORKED)
+}
+
+#[test]
+fn an_exported_and_an_imported_function(rt: HostRuntime) -> Result<(), ParseFault> {
+    let mut module = read(rt.alloc(), &[TYPES, LOG, FUNCTION, ADD, CODE, GLUE])?;
+    let done = assert_worked(&rt, rt.alloc(), &mut module);
+    drop(module);
+    Ok(done?)
+}
+
+#[test]
+fn the_worked_file_has_118_bytes(rt: HostRuntime) -> Result<(), AllocError> {
+    let bytes = joined(rt.alloc(), WORKED)?;
+    assert!(rt; bytes.len() == 118);
     Ok(())
 }
 
@@ -132,48 +152,62 @@ fn lists_told(alloc: Global, module: &Module) -> Result<String, AllocError> {
     )
 }
 
-#[test]
-fn every_kind_is_written_as_it_was_read(rt: HostRuntime) -> Result<(), Fail> {
-    let alloc = rt.alloc();
-    let module = read(alloc, EVERY_KIND)?;
-    assert_eq!(rt;
-        lists_told(alloc, &module)?.as_str(),
+fn assert_every_kind<H: Abort>(rt: &H, alloc: Global, module: &Module) -> Result<(), AllocError> {
+    assert_told(
+        rt,
+        lists_told(alloc, module),
         "xx xxx xx xxx xxx xx xxxxxxxx xxx xxxxx 5 1 Some(FuncId(1)) \
-        ParseConfig { keep_debug: false, names: true, producers: true }"
-    );
-    assert!(rt; is_written_as(alloc, &module, EVERY_KIND)?);
-    Ok(())
+        ParseConfig { keep_debug: false, names: true, producers: true }",
+    )?;
+    assert_written(rt, alloc, module, EVERY_KIND)
+}
+
+#[test]
+fn every_kind_is_written_as_it_was_read(rt: HostRuntime) -> Result<(), ParseFault> {
+    let module = read(rt.alloc(), EVERY_KIND)?;
+    let done = assert_every_kind(&rt, rt.alloc(), &module);
+    drop(module);
+    Ok(done?)
 }
 
 /// The imports and the functions.
-fn imports_told(alloc: Global, parts: &[&[u8]]) -> Result<String, ParseFault> {
-    let module = read(alloc, parts)?;
-    Ok(format!(in alloc; "{:?} {:?}", module.imports(), module.funcs())?)
+fn functions_told(alloc: Global, module: &Module) -> Result<String, AllocError> {
+    format!(in alloc; "{:?} {:?}", module.imports(), module.funcs())
 }
 
+fn imports_told(alloc: Global, parts: &[&[u8]]) -> Result<String, ParseFault> {
+    let module = read(alloc, parts)?;
+    let told = functions_told(alloc, &module);
+    drop(module);
+    Ok(told?)
+}
+
+/// Functions and globals in turn.
+const IN_TURN: &[u8] =
+    b"\x02\x1b\x04\x01m\x01a\x00\x01\x01m\x01b\x03\x7f\x01\x01m\x01c\x00\x00\x01m\x01d\x03\x7e\x00";
+
 #[test]
-fn imports_bring_in_the_next_items_of_their_kinds(rt: HostRuntime) -> Result<(), Fail> {
-    let imports: &[u8] =
-        b"\x02\x1b\x04\x01m\x01a\x00\x01\x01m\x01b\x03\x7f\x01\x01m\x01c\x00\x00\x01m\x01d\x03\x7e\x00";
-    assert_eq!(rt;
-        imports_told(rt.alloc(), &[TYPES, imports])?.as_str(),
+fn imports_bring_in_the_next_items_of_their_kinds(rt: HostRuntime) -> Result<(), ParseFault> {
+    assert_told(
+        &rt,
+        imports_told(rt.alloc(), &[TYPES, IN_TURN]),
         "[Some(Import { module: Text { string: \"m\" }, name: Text { string: \"a\" }, kind: Func(FuncId(0)) }), \
         Some(Import { module: Text { string: \"m\" }, name: Text { string: \"b\" }, kind: Global(GlobalId(0)) }), \
         Some(Import { module: Text { string: \"m\" }, name: Text { string: \"c\" }, kind: Func(FuncId(1)) }), \
         Some(Import { module: Text { string: \"m\" }, name: Text { string: \"d\" }, kind: Global(GlobalId(1)) })] \
         [Some(Func { ty: TypeId(1), name: None, import: Some(ImportId(0)), body: None }), \
-        Some(Func { ty: TypeId(0), name: None, import: Some(ImportId(2)), body: None })]"
-    );
-    Ok(())
+        Some(Func { ty: TypeId(0), name: None, import: Some(ImportId(2)), body: None })]",
+    )
 }
 
 /// Whether what is read of the first bytes is written as the others.
 fn comes_to(alloc: Global, config: &ParseConfig, given: &[u8], want: &[u8]) -> bool {
     match Module::parse(alloc, given, config) {
-        Ok(module) => match module.emit(alloc) {
-            Ok(got) => got.as_slice() == want,
-            Err(_) => false,
-        },
+        Ok(module) => {
+            let is_emitted = is_emitted(alloc, &module, want);
+            drop(module);
+            is_emitted
+        }
         Err(_) => false,
     }
 }
@@ -184,7 +218,20 @@ fn joined_behind(alloc: Global, ahead: &[&[u8]], parts: &[&[u8]]) -> Result<Vec<
     Ok(bytes)
 }
 
-/// What is read of the first parts is written as the second ones, both behind the same ones.
+/// Whether what is read of the first parts is written as the second ones, both behind the same ones.
+fn parts_come_to(
+    alloc: Global,
+    config: &ParseConfig,
+    ahead: &[&[u8]],
+    given: &[&[u8]],
+    want: &[&[u8]],
+) -> Result<bool, AllocError> {
+    let given = joined_behind(alloc, ahead, given)?;
+    let want = joined_behind(alloc, ahead, want)?;
+    Ok(comes_to(alloc, config, &given, &want))
+}
+
+/// So it is in each case.
 fn assert_comes_to<H: Abort>(
     rt: &H,
     alloc: Global,
@@ -193,9 +240,7 @@ fn assert_comes_to<H: Abort>(
     cases: &[(&[&[u8]], &[&[u8]])],
 ) -> Result<(), AllocError> {
     for (given, want) in cases {
-        let given = joined_behind(alloc, ahead, given)?;
-        let want = joined_behind(alloc, ahead, want)?;
-        assert!(rt; comes_to(alloc, config, &given, &want));
+        assert_case(rt, parts_come_to(alloc, config, ahead, given, want)?, given);
     }
     Ok(())
 }
@@ -207,7 +252,7 @@ const TABLE: &[u8] = b"\x04\x04\x01\x70\x00\x00";
 const MEMORY: &[u8] = b"\x05\x03\x01\x00\x01";
 
 #[test]
-fn the_shortest_forms_are_written(rt: HostRuntime) -> Result<(), Fail> {
+fn the_shortest_forms_are_written(rt: HostRuntime) -> Result<(), AllocError> {
     assert_comes_to(
         &rt,
         rt.alloc(),
@@ -254,50 +299,64 @@ fn the_shortest_forms_are_written(rt: HostRuntime) -> Result<(), Fail> {
                 &[NOTHING, FUNCTION, b"\x0a\x06\x01\x04\x01\x02\x7f\x0b"],
             ),
         ],
-    )?;
-    Ok(())
+    )
+}
+
+/// Three functions of three types, of which two are exported.
+const NUMBERED: &[&[u8]] = &[
+    b"\x01\x0c\x03\x60\x00\x00\x60\x01\x7f\x00\x60\x01\x7e\x00",
+    b"\x03\x04\x03\x00\x01\x02",
+    b"\x07\x09\x02\x01a\x00\x01\x01b\x00\x02",
+    b"\x0a\x0c\x03\x02\x00\x0b\x02\x00\x0b\x04\x00\x10\x02\x0b",
+    b"\x00\x0f\x04name\x01\x08\x02\x01\x01x\x02\x02yy",
+];
+
+/// The same without function 1.
+const NUMBERED_ANEW: &[&[u8]] = &[
+    b"\x01\x08\x02\x60\x00\x00\x60\x01\x7e\x00",
+    b"\x03\x03\x02\x00\x01",
+    b"\x07\x05\x01\x01b\x00\x01",
+    b"\x0a\x09\x02\x02\x00\x0b\x04\x00\x10\x01\x0b",
+    b"\x00\x0c\x04name\x01\x05\x01\x01\x02yy",
+];
+
+/// Export 0 goes, and with it function 1 and type 1, which nothing else keeps.
+fn assert_numbered<H: Abort>(rt: &H, alloc: Global, module: &mut Module) -> Result<(), AllocError> {
+    delete_export(module, ExportId(0));
+    collect_from(module, alloc, FuncId(0))?;
+    assert_written(rt, alloc, module, NUMBERED_ANEW)
 }
 
 #[test]
-fn entries_are_numbered_anew(rt: HostRuntime) -> Result<(), Fail> {
-    let alloc = rt.alloc();
-    let given: &[&[u8]] = &[
-        b"\x01\x0c\x03\x60\x00\x00\x60\x01\x7f\x00\x60\x01\x7e\x00",
-        b"\x03\x04\x03\x00\x01\x02",
-        b"\x07\x09\x02\x01a\x00\x01\x01b\x00\x02",
-        b"\x0a\x0c\x03\x02\x00\x0b\x02\x00\x0b\x04\x00\x10\x02\x0b",
-        b"\x00\x0f\x04name\x01\x08\x02\x01\x01x\x02\x02yy",
-    ];
-    let mut module = read(alloc, given)?;
-    // Export 0 goes, and with it function 1 and type 1, which nothing else keeps.
-    delete_export(&mut module, ExportId(0));
-    collect_from(&mut module, alloc, FuncId(0))?;
-    let want: &[&[u8]] = &[
-        b"\x01\x08\x02\x60\x00\x00\x60\x01\x7e\x00",
-        b"\x03\x03\x02\x00\x01",
-        b"\x07\x05\x01\x01b\x00\x01",
-        b"\x0a\x09\x02\x02\x00\x0b\x04\x00\x10\x01\x0b",
-        b"\x00\x0c\x04name\x01\x05\x01\x01\x02yy",
-    ];
-    assert!(rt; is_written_as(alloc, &module, want)?);
-    Ok(())
+fn entries_are_numbered_anew(rt: HostRuntime) -> Result<(), ParseFault> {
+    let mut module = read(rt.alloc(), NUMBERED)?;
+    let done = assert_numbered(&rt, rt.alloc(), &mut module);
+    drop(module);
+    Ok(done?)
 }
 
+/// Two imported tags, of which the first is exported.
+const TWO_TAGS: &[&[u8]] = &[
+    NOTHING,
+    b"\x02\x0f\x02\x01m\x01a\x04\x00\x00\x01m\x01b\x04\x00\x00",
+    b"\x07\x05\x01\x01x\x04\x00",
+];
+
+/// The first tag is the module's own.
+const OWN_TAG: &[&[u8]] = &[
+    NOTHING,
+    b"\x02\x08\x01\x01m\x01b\x04\x00\x00",
+    b"\x0d\x03\x01\x00\x00",
+    b"\x07\x05\x01\x01x\x04\x01",
+];
+
 #[test]
-fn imported_entries_have_the_first_numbers(rt: HostRuntime) -> Result<(), Fail> {
-    let alloc = rt.alloc();
-    let imports: &[u8] = b"\x02\x0f\x02\x01m\x01a\x04\x00\x00\x01m\x01b\x04\x00\x00";
-    let mut module = read(alloc, &[NOTHING, imports, b"\x07\x05\x01\x01x\x04\x00"])?;
-    // The first tag is the module's own from here on.
+fn imported_entries_have_the_first_numbers(rt: HostRuntime) -> Result<(), ParseFault> {
+    let mut module = read(rt.alloc(), TWO_TAGS)?;
     localize(&mut module, ImportId(0));
-    let want: &[&[u8]] = &[
-        NOTHING,
-        b"\x02\x08\x01\x01m\x01b\x04\x00\x00",
-        b"\x0d\x03\x01\x00\x00",
-        b"\x07\x05\x01\x01x\x04\x01",
-    ];
-    assert!(rt; is_written_as(alloc, &module, want)?);
-    Ok(())
+    let done = assert_written(&rt, rt.alloc(), &module, OWN_TAG);
+    drop(module);
+    Ok(done?)
 }
 
 const BODY: &[u8] = b"\x0a\x04\x01\x02\x00\x0b";
@@ -324,7 +383,7 @@ const SDK_AND_RUST: &[u8] = b"\x00\x21\x09producers\x02\x03sdk\x00\x08language\x
 const BEHIND: &[&[u8]] = &[NOTHING, FUNCTION, BODY];
 
 #[test]
-fn names_and_producers_are_joined(rt: HostRuntime) -> Result<(), Fail> {
+fn names_and_producers_are_joined(rt: HostRuntime) -> Result<(), AllocError> {
     assert_comes_to(
         &rt,
         rt.alloc(),
@@ -338,57 +397,58 @@ fn names_and_producers_are_joined(rt: HostRuntime) -> Result<(), Fail> {
             (&[DEBUG, GLUE], &[GLUE]),
             (&[b"\x00\x0b\x09producers\x02", GLUE], &[GLUE]),
         ],
-    )?;
-    Ok(())
+    )
 }
 
+const WITH_DEBUG: ParseConfig = ParseConfig {
+    keep_debug: true,
+    ..CONFIG
+};
+
+const BARE: ParseConfig = ParseConfig {
+    names: false,
+    producers: false,
+    ..CONFIG
+};
+
 #[test]
-fn custom_sections_are_written_as_wanted(rt: HostRuntime) -> Result<(), Fail> {
-    let debug = ParseConfig {
-        keep_debug: true,
-        ..CONFIG
-    };
+fn custom_sections_are_written_as_wanted(rt: HostRuntime) -> Result<(), AllocError> {
     assert_comes_to(
         &rt,
         rt.alloc(),
-        &debug,
+        &WITH_DEBUG,
         BEHIND,
         &[(&[GLUE, DEBUG], &[GLUE, DEBUG])],
     )?;
-    let bare = ParseConfig {
-        names: false,
-        producers: false,
-        ..CONFIG
-    };
     assert_comes_to(
         &rt,
         rt.alloc(),
-        &bare,
+        &BARE,
         BEHIND,
         &[(&[NAMES, GLUE, RUST], &[GLUE])],
-    )?;
-    Ok(())
+    )
+}
+
+fn place_of(fault: Option<ParseFault>) -> Option<u64> {
+    match fault {
+        Some(ParseFault::Parse { place }) => Some(place),
+        Some(ParseFault::OutOfMemory) | None => None,
+    }
 }
 
 /// The place of the fault of these bytes as a module, and as sections.
 fn module_fault(alloc: Global, bytes: &[u8]) -> Option<u64> {
-    match Module::parse(alloc, bytes, &CONFIG) {
-        Err(ParseFault::Parse { place }) => Some(place),
-        _ => None,
-    }
+    place_of(Module::parse(alloc, bytes, &CONFIG).err())
 }
 
 fn sections_fault(alloc: Global, bytes: &[u8]) -> Option<u64> {
-    match sections(alloc, bytes) {
-        Err(ParseFault::Parse { place }) => Some(place),
-        _ => None,
-    }
+    place_of(sections(alloc, bytes).err())
 }
 
 fn assert_faults<H: Abort>(rt: &H, alloc: Global, cases: &[(&[u8], u64)]) {
     for (bytes, place) in cases {
-        assert!(rt; module_fault(alloc, bytes) == Some(*place), "{bytes:?}");
-        assert!(rt; sections_fault(alloc, bytes) == Some(*place), "{bytes:?}");
+        assert_case(rt, module_fault(alloc, bytes) == Some(*place), bytes);
+        assert_case(rt, sections_fault(alloc, bytes) == Some(*place), bytes);
     }
 }
 
@@ -413,44 +473,33 @@ fn broken_frames_are_refused_at_their_place(rt: HostRuntime) {
 
 /// The sections of a file.
 fn sections_told(alloc: Global, parts: &[&[u8]]) -> Result<String, ParseFault> {
-    let found = sections(alloc, &joined(alloc, parts)?)?;
-    Ok(format!(in alloc; "{found:?}")?)
+    let bytes = joined(alloc, parts)?;
+    Ok(debugged(alloc, sections(alloc, &bytes)?)?)
 }
 
 #[test]
-fn sections_have_names_and_places(rt: HostRuntime) -> Result<(), Fail> {
-    assert_eq!(rt;
-        sections_told(rt.alloc(), &[CODE, b"\x00\x03\x01ab", b"\x0d\x00"])?.as_str(),
+fn sections_have_names_and_places(rt: HostRuntime) -> Result<(), ParseFault> {
+    assert_told(
+        &rt,
+        sections_told(rt.alloc(), &[CODE, b"\x00\x03\x01ab", b"\x0d\x00"]),
         "[Section { id: 10, name: None, begin: 8, end: 23 }, \
         Section { id: 0, name: Some(Text { string: \"a\" }), begin: 23, end: 28 }, \
-        Section { id: 13, name: None, begin: 28, end: 30 }]"
-    );
-    Ok(())
+        Section { id: 13, name: None, begin: 28, end: 30 }]",
+    )
 }
 
-#[test]
-fn numbers_have_their_shortest_form(rt: HostRuntime) -> Result<(), Fail> {
-    let cases: [(u32, &[u8]); 5] = [
-        (0, b"\x00"),
-        (127, b"\x7f"),
-        (128, b"\x80\x01"),
-        (300, b"\xac\x02"),
-        (u32::MAX, b"\xff\xff\xff\xff\x0f"),
-    ];
-    for (value, want) in cases {
-        let mut out = Vec::new(rt.alloc());
-        push_u32(&mut out, value)?;
-        assert!(rt; out.as_slice() == want);
+fn contents_of(alloc: Global, sections: &[(u8, &[u8])]) -> Result<Seq<(u8, Seq<u8>)>, AllocError> {
+    let mut contents = Seq::new(alloc);
+    for (id, content) in sections {
+        let content = Seq::from_vec(Vec::from_slice(alloc, content)?);
+        contents.push((*id, content))?;
     }
-    Ok(())
+    Ok(contents)
 }
 
 /// The bytes of sections whose content may have four bytes.
 fn sections_of_four(alloc: Global, sections: &[(u8, &[u8])]) -> Result<Vec<u8>, EmitFault> {
-    let mut contents = Seq::new(alloc);
-    for (id, content) in sections {
-        contents.push((*id, Seq::from_vec(Vec::from_slice(alloc, content)?)))?;
-    }
+    let contents = contents_of(alloc, sections)?;
     let mut out = Vec::new(alloc);
     emit_sections(&mut out, 4, contents.as_slice())?;
     Ok(out)
@@ -458,19 +507,19 @@ fn sections_of_four(alloc: Global, sections: &[(u8, &[u8])]) -> Result<Vec<u8>, 
 
 /// Those bytes, or why they aren't written.
 fn four_told(alloc: Global, sections: &[(u8, &[u8])]) -> Result<String, AllocError> {
-    let found = sections_of_four(alloc, sections);
-    format!(in alloc; "{found:?}")
+    debugged(alloc, sections_of_four(alloc, sections))
 }
 
 #[test]
-fn the_first_section_that_is_too_long_is_named(rt: HostRuntime) -> Result<(), Fail> {
-    assert_eq!(rt;
-        four_told(rt.alloc(), &[(1, b"abcd"), (0, b"")])?.as_str(),
-        "Ok([1, 4, 97, 98, 99, 100, 0, 0])"
-    );
-    assert_eq!(rt;
-        four_told(rt.alloc(), &[(1, b"abcd"), (3, b"abcde"), (7, b"abcdef")])?.as_str(),
-        "Err(TooLarge { section: 3 })"
-    );
-    Ok(())
+fn the_first_section_that_is_too_long_is_named(rt: HostRuntime) -> Result<(), AllocError> {
+    assert_told(
+        &rt,
+        four_told(rt.alloc(), &[(1, b"abcd"), (0, b"")]),
+        "Ok([1, 4, 97, 98, 99, 100, 0, 0])",
+    )?;
+    assert_told(
+        &rt,
+        four_told(rt.alloc(), &[(1, b"abcd"), (3, b"abcde"), (7, b"abcdef")]),
+        "Err(TooLarge { section: 3 })",
+    )
 }

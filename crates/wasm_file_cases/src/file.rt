@@ -1,6 +1,6 @@
+use crate::compare::{assert_bytes, assert_case, assert_told, debugged};
 use std::alloc::{AllocError, Global};
 use std::process::Abort;
-use std::test::Fail;
 use values::{Seq, Text};
 use wasm_bytes::ReadFault;
 use wasm_file::{
@@ -48,7 +48,7 @@ const PASSIVE: &[u8] = b"\x0b\x03\x01\x01\0";
 const CUSTOM: &[u8] = b"\0\x04\x01cxy";
 
 /// Every section, every kind of import and export, every form of element and data segment.
-const WHOLE: [&[u8]; 15] = [
+const WHOLE: &[&[u8]] = &[
     CUSTOM,
     TYPES,
     IMPORTS,
@@ -84,27 +84,35 @@ fn read(alloc: Global, parts: &[&[u8]]) -> Result<Parts, ReadFault> {
 
 /// The place of the first fault of these bytes, none where they read.
 fn fault_place(alloc: Global, bytes: &[u8]) -> Option<u64> {
-    match read_parts(alloc, bytes) {
-        Err(ReadFault::Parse { place }) => Some(place),
-        _ => None,
+    match read_parts(alloc, bytes).err() {
+        Some(ReadFault::Parse { place }) => Some(place),
+        Some(ReadFault::OutOfMemory) | None => None,
     }
+}
+
+fn reads(alloc: Global, parts: &[&[u8]]) -> bool {
+    read(alloc, parts).err().is_none()
 }
 
 /// Each file reads.
 fn assert_read<H: Abort>(rt: &H, alloc: Global, cases: &[&[&[u8]]]) {
     for parts in cases {
-        assert!(rt; read(alloc, parts).is_ok(), "{parts:?}");
+        assert_case(rt, reads(alloc, parts), parts);
+    }
+}
+
+/// The place of the first fault of these parts.
+fn fault_of(alloc: Global, parts: &[&[u8]]) -> Option<u64> {
+    match joined(alloc, parts) {
+        Ok(bytes) => fault_place(alloc, &bytes),
+        Err(_) => None,
     }
 }
 
 /// Each file has its first fault at the place.
 fn assert_faults<H: Abort>(rt: &H, alloc: Global, cases: &[(&[&[u8]], u64)]) {
     for (parts, place) in cases {
-        let found = match joined(alloc, parts) {
-            Ok(bytes) => fault_place(alloc, &bytes),
-            Err(_) => None,
-        };
-        assert!(rt; found == Some(*place), "{parts:?}");
+        assert_case(rt, fault_of(alloc, parts) == Some(*place), parts);
     }
 }
 
@@ -131,63 +139,63 @@ fn spelled(alloc: Global, lines: &[&str]) -> Result<String, AllocError> {
     Ok(out)
 }
 
+/// The lists of the whole file.
+const LISTS: &[&str] = &[
+    "Parts { types: <FuncType { params: <>, results: <> }, FuncType { params: <I32>, results: <I64> }>, ",
+    "imports: <FileImport { module: `m', name: `f', ty: Func(TypeId(0)) }, ",
+    "FileImport { module: `m', name: `t', ty: Table(FuncRef, Limits { min: 1, max: None, shared: false, wide: false }) }, ",
+    "FileImport { module: `m', name: `m', ty: Memory(Limits { min: 1, max: Some(2), shared: false, wide: false }) }, ",
+    "FileImport { module: `m', name: `g', ty: Global(I32, true) }, ",
+    "FileImport { module: `m', name: `e', ty: Tag(TypeId(0)) }>, ",
+    "functions: <TypeId(1)>, ",
+    "tables: <TableType { elem: ExternRef, limits: Limits { min: 5, max: None, shared: false, wide: true } }>, ",
+    "memories: <Limits { min: 1, max: Some(2), shared: true, wide: false }>, ",
+    "tags: <TypeId(1)>, ",
+    "globals: <FileGlobal { ty: I32, mutable: false, init: <Const32(42)> }, ",
+    "FileGlobal { ty: I32, mutable: true, init: <Global(35, GlobalId(2))> }>, ",
+    "exports: <Export { name: `f', item: Func(FuncId(1)) }, Export { name: `t', item: Table(TableId(1)) }, ",
+    "Export { name: `m', item: Memory(MemoryId(1)) }, Export { name: `g', item: Global(GlobalId(2)) }, ",
+    "Export { name: `e', item: Tag(TagId(1)) }>, ",
+    "start: Some(FuncId(0)), ",
+    "elems: <Elem { place: Active(TableId(0), <Const32(0)>), ty: FuncRef, funcs: <FuncId(0)>, exprs: <> }, ",
+    "Elem { place: Passive, ty: FuncRef, funcs: <FuncId(1)>, exprs: <> }, ",
+    "Elem { place: Active(TableId(1), <Const32(0)>), ty: FuncRef, funcs: <>, exprs: <> }, ",
+    "Elem { place: Declared, ty: FuncRef, funcs: <FuncId(0)>, exprs: <> }, ",
+    "Elem { place: Active(TableId(0), <Const32(0)>), ty: FuncRef, funcs: <>, exprs: <<Func(210, FuncId(0))>> }, ",
+    "Elem { place: Passive, ty: FuncRef, funcs: <>, exprs: <<RefNull(FuncRef)>> }, ",
+    "Elem { place: Active(TableId(1), <Const32(0)>), ty: ExternRef, funcs: <>, exprs: <> }, ",
+    "Elem { place: Declared, ty: FuncRef, funcs: <>, exprs: <> }>, ",
+    "data_count: Some(3), ",
+    "bodies: <Body { locals: <>, ops: <Const64(7)> }>, ",
+    "segments: <Segment { place: Some((MemoryId(0), <Const32(0)>)), bytes: <104, 105> }, ",
+    "Segment { place: None, bytes: <> }, ",
+    "Segment { place: Some((MemoryId(1), <Const32(8)>)), bytes: <33> }>, ",
+    "customs: <Custom { name: `c', bytes: <120, 121> }, Custom { name: `c', bytes: <120, 121> }> }",
+];
+
 /// The lists that are read of these parts.
 fn lists(alloc: Global, parts: &[&[u8]]) -> Result<String, ReadFault> {
-    let parts = read(alloc, parts)?;
-    Ok(format!(in alloc; "{parts:?}")?)
+    Ok(debugged(alloc, read(alloc, parts)?)?)
 }
 
 #[test]
-fn every_list_is_read(rt: HostRuntime) -> Result<(), Fail> {
-    let want = spelled(
-        rt.alloc(),
-        &[
-            "Parts { types: <FuncType { params: <>, results: <> }, FuncType { params: <I32>, results: <I64> }>, ",
-            "imports: <FileImport { module: `m', name: `f', ty: Func(TypeId(0)) }, ",
-            "FileImport { module: `m', name: `t', ty: Table(FuncRef, Limits { min: 1, max: None, shared: false, wide: false }) }, ",
-            "FileImport { module: `m', name: `m', ty: Memory(Limits { min: 1, max: Some(2), shared: false, wide: false }) }, ",
-            "FileImport { module: `m', name: `g', ty: Global(I32, true) }, ",
-            "FileImport { module: `m', name: `e', ty: Tag(TypeId(0)) }>, ",
-            "functions: <TypeId(1)>, ",
-            "tables: <TableType { elem: ExternRef, limits: Limits { min: 5, max: None, shared: false, wide: true } }>, ",
-            "memories: <Limits { min: 1, max: Some(2), shared: true, wide: false }>, ",
-            "tags: <TypeId(1)>, ",
-            "globals: <FileGlobal { ty: I32, mutable: false, init: <Const32(42)> }, ",
-            "FileGlobal { ty: I32, mutable: true, init: <Global(35, GlobalId(2))> }>, ",
-            "exports: <Export { name: `f', item: Func(FuncId(1)) }, Export { name: `t', item: Table(TableId(1)) }, ",
-            "Export { name: `m', item: Memory(MemoryId(1)) }, Export { name: `g', item: Global(GlobalId(2)) }, ",
-            "Export { name: `e', item: Tag(TagId(1)) }>, ",
-            "start: Some(FuncId(0)), ",
-            "elems: <Elem { place: Active(TableId(0), <Const32(0)>), ty: FuncRef, funcs: <FuncId(0)>, exprs: <> }, ",
-            "Elem { place: Passive, ty: FuncRef, funcs: <FuncId(1)>, exprs: <> }, ",
-            "Elem { place: Active(TableId(1), <Const32(0)>), ty: FuncRef, funcs: <>, exprs: <> }, ",
-            "Elem { place: Declared, ty: FuncRef, funcs: <FuncId(0)>, exprs: <> }, ",
-            "Elem { place: Active(TableId(0), <Const32(0)>), ty: FuncRef, funcs: <>, exprs: <<Func(210, FuncId(0))>> }, ",
-            "Elem { place: Passive, ty: FuncRef, funcs: <>, exprs: <<RefNull(FuncRef)>> }, ",
-            "Elem { place: Active(TableId(1), <Const32(0)>), ty: ExternRef, funcs: <>, exprs: <> }, ",
-            "Elem { place: Declared, ty: FuncRef, funcs: <>, exprs: <> }>, ",
-            "data_count: Some(3), ",
-            "bodies: <Body { locals: <>, ops: <Const64(7)> }>, ",
-            "segments: <Segment { place: Some((MemoryId(0), <Const32(0)>)), bytes: <104, 105> }, ",
-            "Segment { place: None, bytes: <> }, ",
-            "Segment { place: Some((MemoryId(1), <Const32(8)>)), bytes: <33> }>, ",
-            "customs: <Custom { name: `c', bytes: <120, 121> }, Custom { name: `c', bytes: <120, 121> }> }",
-        ],
-    )?;
-    assert_eq!(rt; lists(rt.alloc(), &WHOLE)?.as_str(), want.as_str());
-    Ok(())
+fn every_list_is_read(rt: HostRuntime) -> Result<(), ReadFault> {
+    let want = spelled(rt.alloc(), LISTS)?;
+    assert_told(&rt, lists(rt.alloc(), WHOLE), &want)
 }
+
+/// Bytes, and the place of their fault.
+const PREAMBLES: &[(&[u8], u64)] = &[
+    (b"", 0),
+    (b"\0asn\x01\0\0\0", 3),
+    (b"\0asm\x02\0\0\0", 4),
+    (b"\0asm\x01\0\0", 7),
+];
 
 #[test]
 fn the_preamble_is_eight_items(rt: HostRuntime) {
-    let cases: [(&[u8], u64); 4] = [
-        (b"", 0),
-        (b"\0asn\x01\0\0\0", 3),
-        (b"\0asm\x02\0\0\0", 4),
-        (b"\0asm\x01\0\0", 7),
-    ];
-    for (bytes, place) in cases {
-        assert!(rt; fault_place(rt.alloc(), bytes) == Some(place));
+    for (bytes, place) in PREAMBLES {
+        assert_case(&rt, fault_place(rt.alloc(), bytes) == Some(*place), bytes);
     }
 }
 
@@ -430,35 +438,62 @@ fn code_and_data(rt: HostRuntime) {
     );
 }
 
-/// A custom section with this name and these bytes, as it is written.
-fn custom_written(alloc: Global, name: Text, bytes: Seq<u8>) -> Result<Vec<u8>, AllocError> {
-    let custom = Custom { name, bytes };
+fn custom(alloc: Global, name: &str, bytes: &[u8]) -> Result<Custom, AllocError> {
+    let name = Text::from_str(alloc, name)?;
+    Ok(Custom {
+        name,
+        bytes: Seq::from_vec(Vec::from_slice(alloc, bytes)?),
+    })
+}
+
+/// A custom section, as it is written.
+fn custom_written(alloc: Global, custom: Custom) -> Result<Vec<u8>, AllocError> {
     let mut content = Vec::new(alloc);
-    write_custom(&mut content, &custom)?;
+    let done = write_custom(&mut content, &custom);
+    drop(custom);
+    done?;
     Ok(content)
 }
 
 /// The same, behind its id and its length.
-fn section_written(alloc: Global, id: u8, content: &[u8]) -> Result<Vec<u8>, AllocError> {
+fn section_written(alloc: Global, custom: Custom) -> Result<Vec<u8>, AllocError> {
+    let content = custom_written(alloc, custom)?;
     let mut out = Vec::new(alloc);
-    write_section(&mut out, id, content)?;
+    write_section(&mut out, 0, &content)?;
     Ok(out)
 }
 
 #[test]
-fn a_custom_section_is_written(rt: HostRuntime) -> Result<(), Fail> {
-    let alloc = rt.alloc();
-    let bytes = Seq::from_vec(Vec::from_slice(alloc, b"xy")?);
-    let content = custom_written(alloc, Text::from_str(alloc, "c")?, bytes)?;
-    assert!(rt; section_written(alloc, 0, &content)?.as_slice() == CUSTOM);
-    Ok(())
+fn a_custom_section_is_written(rt: HostRuntime) -> Result<(), AllocError> {
+    let custom = custom(rt.alloc(), "c", b"xy")?;
+    assert_bytes(&rt, section_written(rt.alloc(), custom), CUSTOM)
+}
+
+fn frame_count(alloc: Global, parts: &[&[u8]]) -> Result<usize, ReadFault> {
+    let bytes = joined(alloc, parts)?;
+    Ok(read_frames(alloc, &bytes)?.len())
 }
 
 #[test]
-fn frames_are_found(rt: HostRuntime) -> Result<(), Fail> {
-    let alloc = rt.alloc();
-    assert_eq!(rt; read_frames(alloc, &joined(alloc, &WHOLE)?)?.len(), 15);
+fn frames_are_found(rt: HostRuntime) -> Result<(), ReadFault> {
+    let count = frame_count(rt.alloc(), WHOLE)?;
+    assert!(rt; count == 15);
     Ok(())
+}
+
+/// The text is what this one stands for.
+fn assert_spelled<H: Abort>(
+    rt: &H,
+    alloc: Global,
+    told: Result<String, AllocError>,
+    want: &str,
+) -> Result<(), AllocError> {
+    let want = spelled(alloc, &[want])?;
+    assert_told(rt, told, &want)
+}
+
+fn names_told(alloc: Global, bytes: &[u8]) -> Result<String, AllocError> {
+    debugged(alloc, read_names(alloc, bytes, 3)?)
 }
 
 /// A name section of a module with three functions is read as these names, or isn't read.
@@ -468,15 +503,13 @@ fn assert_names<H: Abort>(
     cases: &[(&[u8], &str)],
 ) -> Result<(), AllocError> {
     for (bytes, want) in cases {
-        let names = read_names(alloc, bytes, 3)?;
-        let want = spelled(alloc, &[*want])?;
-        assert_eq!(rt; format!(in alloc; "{names:?}")?.as_str(), want.as_str());
+        assert_spelled(rt, alloc, names_told(alloc, bytes), want)?;
     }
     Ok(())
 }
 
 #[test]
-fn name_sections_are_read(rt: HostRuntime) -> Result<(), Fail> {
+fn name_sections_are_read(rt: HostRuntime) -> Result<(), AllocError> {
     assert_names(
         &rt,
         rt.alloc(),
@@ -499,8 +532,11 @@ fn name_sections_are_read(rt: HostRuntime) -> Result<(), Fail> {
             (b"\0\x05\x01m", "None"),
             (b"\0\x03\x02\xc3\x28", "None"),
         ],
-    )?;
-    Ok(())
+    )
+}
+
+fn producers_told(alloc: Global, bytes: &[u8]) -> Result<String, AllocError> {
+    debugged(alloc, read_producers(alloc, bytes)?)
 }
 
 /// A producers section is read as these fields, or isn't read.
@@ -510,15 +546,13 @@ fn assert_producers<H: Abort>(
     cases: &[(&[u8], &str)],
 ) -> Result<(), AllocError> {
     for (bytes, want) in cases {
-        let fields = read_producers(alloc, bytes)?;
-        let want = spelled(alloc, &[*want])?;
-        assert_eq!(rt; format!(in alloc; "{fields:?}")?.as_str(), want.as_str());
+        assert_spelled(rt, alloc, producers_told(alloc, bytes), want)?;
     }
     Ok(())
 }
 
 #[test]
-fn producers_sections_are_read(rt: HostRuntime) -> Result<(), Fail> {
+fn producers_sections_are_read(rt: HostRuntime) -> Result<(), AllocError> {
     assert_producers(
         &rt,
         rt.alloc(),
@@ -532,25 +566,25 @@ fn producers_sections_are_read(rt: HostRuntime) -> Result<(), Fail> {
             (b"\0\0", "None"),
             (b"\x01\x01f\x01\x01r", "None"),
         ],
-    )?;
-    Ok(())
+    )
 }
+
+/// The content, and whether it lists `simd` with a plus.
+const FEATURES: &[(&[u8], bool)] = &[
+    (b"\x01+\x04simd", true),
+    (b"\x02-\x01a+\x04simd", true),
+    (b"\x02+\x04simd+\x01a", true),
+    (b"\x01-\x04simd", false),
+    (b"\x01+\x05simd1", false),
+    (b"\0", false),
+    // An entry too few, and a byte left over.
+    (b"\x02+\x04simd", false),
+    (b"\x01+\x04simd\0", false),
+];
 
 #[test]
 fn target_features_are_found(rt: HostRuntime) {
-    // The content, and whether it lists `simd` with a plus.
-    let cases: [(&[u8], bool); 8] = [
-        (b"\x01+\x04simd", true),
-        (b"\x02-\x01a+\x04simd", true),
-        (b"\x02+\x04simd+\x01a", true),
-        (b"\x01-\x04simd", false),
-        (b"\x01+\x05simd1", false),
-        (b"\0", false),
-        // An entry too few, and a byte left over.
-        (b"\x02+\x04simd", false),
-        (b"\x01+\x04simd\0", false),
-    ];
-    for (bytes, want) in cases {
-        assert_eq!(rt; lists_feature(bytes, "simd"), want);
+    for (bytes, want) in FEATURES {
+        assert_case(&rt, lists_feature(bytes, "simd") == *want, bytes);
     }
 }

@@ -1,6 +1,6 @@
+use crate::compare::{assert_bytes, assert_case, assert_told, debugged};
 use std::alloc::{AllocError, Global};
 use std::process::Abort;
-use std::test::Fail;
 use values::Seq;
 use wasm_bytes::{Counts, ReadFault, Reader, push_number};
 use wasm_ops::{
@@ -49,21 +49,32 @@ fn no_numbers(alloc: Global) -> Numbering {
     }
 }
 
-fn fill_all(out: &mut Numbering, lists: &[&[u32]]) -> Result<(), AllocError> {
+fn fill_first(out: &mut Numbering, lists: &[&[u32]]) -> Result<(), AllocError> {
     fill(&mut out.types, lists, 0)?;
     fill(&mut out.funcs, lists, 1)?;
     fill(&mut out.tables, lists, 2)?;
-    fill(&mut out.memories, lists, 3)?;
+    fill(&mut out.memories, lists, 3)
+}
+
+fn fill_others(out: &mut Numbering, lists: &[&[u32]]) -> Result<(), AllocError> {
     fill(&mut out.globals, lists, 4)?;
     fill(&mut out.tags, lists, 5)?;
     fill(&mut out.elems, lists, 6)?;
     fill(&mut out.segments, lists, 7)
 }
 
+fn fill_all(out: &mut Numbering, lists: &[&[u32]]) -> Result<(), AllocError> {
+    fill_first(out, lists)?;
+    fill_others(out, lists)
+}
+
 /// The numbers of types, functions, tables, memories, globals, tags, element and data segments.
 fn numbering(alloc: Global, lists: &[&[u32]]) -> Result<Numbering, AllocError> {
     let mut out = no_numbers(alloc);
-    fill_all(&mut out, lists)?;
+    if let Err(fault) = fill_all(&mut out, lists) {
+        drop(out);
+        return Err(fault);
+    }
     Ok(out)
 }
 
@@ -102,29 +113,43 @@ fn ops_told(alloc: Global, body: &Body) -> Result<String, AllocError> {
 fn written(alloc: Global, body: &Body) -> Result<Vec<u8>, AllocError> {
     let numbers = numbering(alloc, SAME)?;
     let mut out = Vec::new(alloc);
-    write_code(&mut out, alloc, &numbers, body)?;
+    let done = write_code(&mut out, alloc, &numbers, body);
+    drop(numbers);
+    done?;
     Ok(out)
 }
 
-/// Whether a body is written as these operators behind their length.
-fn is_written_as(alloc: Global, body: &Body, ops: &[u8]) -> Result<bool, AllocError> {
+/// These operators behind their length are written.
+fn assert_entry<H: Abort>(
+    rt: &H,
+    alloc: Global,
+    written: Result<Vec<u8>, AllocError>,
+    ops: &[u8],
+) -> Result<(), AllocError> {
     let entry = entry_of(alloc, ops)?;
-    let out = written(alloc, body)?;
-    Ok(out.as_slice() == entry.as_slice())
+    assert_bytes(rt, written, &entry)
 }
 
 /// These bytes, which end with 0B, are read as these operators, and written as they were.
+fn assert_read<H: Abort>(rt: &H, alloc: Global, ops: &[u8], want: &str) -> Result<(), ReadFault> {
+    let body = body_of(alloc, ops)?;
+    let told = ops_told(alloc, &body);
+    let written = written(alloc, &body);
+    drop(body);
+    assert_told(rt, told, want)?;
+    Ok(assert_entry(rt, alloc, written, ops)?)
+}
+
+/// So is each.
 fn assert_same<H: Abort>(rt: &H, alloc: Global, cases: &[(&[u8], &str)]) -> Result<(), ReadFault> {
-    for (bytes, want) in cases {
-        let body = body_of(alloc, bytes)?;
-        assert_eq!(rt; ops_told(alloc, &body)?.as_str(), *want);
-        assert!(rt; is_written_as(alloc, &body, bytes)?, "{want}");
+    for (ops, want) in cases {
+        assert_read(rt, alloc, ops, want)?;
     }
     Ok(())
 }
 
 #[test]
-fn operators_are_read_and_written(rt: HostRuntime) -> Result<(), Fail> {
+fn operators_are_read_and_written(rt: HostRuntime) -> Result<(), ReadFault> {
     assert_same(
         &rt,
         rt.alloc(),
@@ -161,12 +186,11 @@ fn operators_are_read_and_written(rt: HostRuntime) -> Result<(), Fail> {
                 "[Select(Seq { items: [I32, F64] })]",
             ),
         ],
-    )?;
-    Ok(())
+    )
 }
 
 #[test]
-fn operators_behind_a_prefix_are_read_and_written(rt: HostRuntime) -> Result<(), Fail> {
+fn operators_behind_a_prefix_are_read_and_written(rt: HostRuntime) -> Result<(), ReadFault> {
     assert_same(
         &rt,
         rt.alloc(),
@@ -201,12 +225,11 @@ fn operators_behind_a_prefix_are_read_and_written(rt: HostRuntime) -> Result<(),
             ),
             (b"\xfd\x22\x0f\x0b", "[SimdLane(34, 15)]"),
         ],
-    )?;
-    Ok(())
+    )
 }
 
 #[test]
-fn blocks_are_closed(rt: HostRuntime) -> Result<(), Fail> {
+fn blocks_are_closed(rt: HostRuntime) -> Result<(), ReadFault> {
     assert_same(
         &rt,
         rt.alloc(),
@@ -225,25 +248,21 @@ fn blocks_are_closed(rt: HostRuntime) -> Result<(), Fail> {
                 "[Block(6, Empty), Label(24, 0), Label(13, 0)]",
             ),
         ],
-    )?;
-    Ok(())
+    )
 }
 
 /// The place of the fault of a body behind its length, of a function with one parameter, none where it reads.
 fn fault_place(alloc: Global, counts: &Counts, entry: &[u8]) -> Option<u64> {
-    match read_code_entry(&mut Reader::new(entry), alloc, counts, 1) {
-        Err(ReadFault::Parse { place }) => Some(place),
-        _ => None,
+    match read_code_entry(&mut Reader::new(entry), alloc, counts, 1).err() {
+        Some(ReadFault::Parse { place }) => Some(place),
+        Some(ReadFault::OutOfMemory) | None => None,
     }
 }
 
 /// These bodies have their first faults at the places.
 fn assert_faults<H: Abort>(rt: &H, alloc: Global, counts: &Counts, cases: &[(&[u8], u64)]) {
     for (bytes, place) in cases {
-        assert!(rt;
-            fault_place(alloc, counts, bytes) == Some(*place),
-            "{bytes:?}"
-        );
+        assert_case(rt, fault_place(alloc, counts, bytes) == Some(*place), bytes);
     }
 }
 
@@ -303,17 +322,18 @@ fn wrong_operators_behind_a_prefix_are_refused(rt: HostRuntime) {
     );
 }
 
+const NO_MEMORY: Counts = Counts {
+    memories: 0,
+    ..COUNTS
+};
+
 #[test]
 fn a_memory_argument_needs_a_memory(rt: HostRuntime) {
-    let counts = Counts {
-        memories: 0,
-        ..COUNTS
-    };
     // Memory 0 at its alignment field, a named memory at its index.
     assert_faults(
         &rt,
         rt.alloc(),
-        &counts,
+        &NO_MEMORY,
         &[(b"\x05\0\x28\0\0\x0b", 3), (b"\x06\0\x28\x40\0\0\x0b", 4)],
     );
 }
@@ -342,30 +362,41 @@ fn wrong_blocks_are_refused_at_their_place(rt: HostRuntime) {
     );
 }
 
+/// Appends these bytes so many times.
+fn repeat(out: &mut Vec<u8>, count: u32, bytes: &[u8]) -> Result<(), AllocError> {
+    for _ in 0..count {
+        out.extend_from_slice(bytes)?;
+    }
+    Ok(())
+}
+
 /// So many blocks in one another, and what ends them and the body.
 fn nested(alloc: Global, depth: u32) -> Result<Vec<u8>, AllocError> {
     let mut ops = Vec::new(alloc);
-    for _ in 0..depth {
-        ops.extend_from_slice(b"\x02\x40")?;
-    }
-    for _ in 0..depth {
-        ops.push(0x0B)?;
-    }
-    ops.push(0x0B)?;
+    repeat(&mut ops, depth, b"\x02\x40")?;
+    repeat(&mut ops, depth, b"\x0b")?;
+    repeat(&mut ops, 1, b"\x0b")?;
     Ok(ops)
 }
 
+fn op_count(alloc: Global, ops: &[u8]) -> Result<usize, ReadFault> {
+    Ok(body_of(alloc, ops)?.ops.len())
+}
+
 #[test]
-fn blocks_may_nest_deeply(rt: HostRuntime) -> Result<(), Fail> {
-    let body = body_of(rt.alloc(), &nested(rt.alloc(), 100_000)?)?;
-    assert_eq!(rt; body.ops.len(), 200_000);
+fn blocks_may_nest_deeply(rt: HostRuntime) -> Result<(), ReadFault> {
+    let ops = nested(rt.alloc(), 100_000)?;
+    let count = op_count(rt.alloc(), &ops)?;
+    assert!(rt; count == 200_000);
     Ok(())
 }
 
 /// How a body behind its length is read, of a function with so many parameters.
 fn body_told(alloc: Global, params: u64, entry: &[u8]) -> Result<String, AllocError> {
-    let found = read_code_entry(&mut Reader::new(entry), alloc, &COUNTS, params);
-    format!(in alloc; "{found:?}")
+    debugged(
+        alloc,
+        read_code_entry(&mut Reader::new(entry), alloc, &COUNTS, params),
+    )
 }
 
 /// An empty body with these runs of locals.
@@ -380,27 +411,30 @@ fn body_with(alloc: Global, runs: &[(u32, ValType)]) -> Result<Body, AllocError>
     Ok(body)
 }
 
+const RUNS: &[(u32, ValType)] = &[
+    (2, ValType::I32),
+    (0, ValType::I64),
+    (3, ValType::I32),
+    (1, ValType::F64),
+];
+
 #[test]
-fn runs_of_locals_are_joined(rt: HostRuntime) -> Result<(), Fail> {
-    assert_eq!(rt;
-        body_told(rt.alloc(), 1, b"\x0a\x04\x02\x7f\0\x7e\x03\x7f\x01\x7c\x0b")?.as_str(),
-        "Ok(Body { locals: Seq { items: [(5, I32), (1, F64)] }, ops: Seq { items: [] } })"
-    );
-    let runs = [
-        (2, ValType::I32),
-        (0, ValType::I64),
-        (3, ValType::I32),
-        (1, ValType::F64),
-    ];
-    let body = body_with(rt.alloc(), &runs)?;
-    assert!(rt;
-        written(rt.alloc(), &body)?.as_slice() == b"\x06\x02\x05\x7f\x01\x7c\x0b".as_slice()
-    );
-    Ok(())
+fn runs_of_locals_are_joined(rt: HostRuntime) -> Result<(), AllocError> {
+    assert_told(
+        &rt,
+        body_told(rt.alloc(), 1, b"\x0a\x04\x02\x7f\0\x7e\x03\x7f\x01\x7c\x0b"),
+        "Ok(Body { locals: Seq { items: [(5, I32), (1, F64)] }, ops: Seq { items: [] } })",
+    )?;
+    let body = body_with(rt.alloc(), RUNS)?;
+    assert_bytes(
+        &rt,
+        written(rt.alloc(), &body),
+        b"\x06\x02\x05\x7f\x01\x7c\x0b",
+    )
 }
 
 #[test]
-fn locals_have_a_limit(rt: HostRuntime) -> Result<(), Fail> {
+fn locals_have_a_limit(rt: HostRuntime) -> Result<(), AllocError> {
     // The run that goes past 4,294,967,295 with one parameter, and a local past those of a body.
     assert_faults(
         &rt,
@@ -412,11 +446,11 @@ fn locals_have_a_limit(rt: HostRuntime) -> Result<(), Fail> {
             (b"\x06\x01\x02\x7f\x20\x03\x0b", 5),
         ],
     );
-    assert_eq!(rt;
-        body_told(rt.alloc(), 0, b"\x08\x01\xff\xff\xff\xff\x0f\x7f\x0b")?.as_str(),
-        "Ok(Body { locals: Seq { items: [(4294967295, I32)] }, ops: Seq { items: [] } })"
-    );
-    Ok(())
+    assert_told(
+        &rt,
+        body_told(rt.alloc(), 0, b"\x08\x01\xff\xff\xff\xff\x0f\x7f\x0b"),
+        "Ok(Body { locals: Seq { items: [(4294967295, I32)] }, ops: Seq { items: [] } })",
+    )
 }
 
 /// The numbers that the places of `SAME` have elsewhere.
@@ -426,25 +460,34 @@ const OTHERS: &[&[u32]] = &[&[64, 7], &[9, 300], &[3], &[1, 0], &[4], &[5], &[6]
 fn renumbered(alloc: Global, body: &Body) -> Result<Vec<u8>, AllocError> {
     let numbers = numbering(alloc, OTHERS)?;
     let mut out = Vec::new(alloc);
-    write_expression(&mut out, &numbers, body.ops.as_slice())?;
+    let done = write_expression(&mut out, &numbers, body.ops.as_slice());
+    drop(numbers);
+    done?;
     Ok(out)
 }
 
-/// The operators of the first bytes are written with other numbers as the second ones.
+/// Operators, written with other numbers.
+fn ops_renumbered(alloc: Global, ops: &[u8]) -> Result<Vec<u8>, ReadFault> {
+    let body = body_of(alloc, ops)?;
+    let written = renumbered(alloc, &body);
+    drop(body);
+    Ok(written?)
+}
+
+/// The first operators are written with other numbers as the second ones.
 fn assert_renumbered<H: Abort>(
     rt: &H,
     alloc: Global,
     cases: &[(&[u8], &[u8])],
 ) -> Result<(), ReadFault> {
-    for (bytes, want) in cases {
-        let body = body_of(alloc, bytes)?;
-        assert!(rt; renumbered(alloc, &body)?.as_slice() == *want, "{bytes:?}");
+    for (ops, want) in cases {
+        assert_bytes(rt, ops_renumbered(alloc, ops), want)?;
     }
     Ok(())
 }
 
 #[test]
-fn places_become_numbers(rt: HostRuntime) -> Result<(), Fail> {
+fn places_become_numbers(rt: HostRuntime) -> Result<(), ReadFault> {
     assert_renumbered(
         &rt,
         rt.alloc(),
@@ -461,16 +504,15 @@ fn places_become_numbers(rt: HostRuntime) -> Result<(), Fail> {
             (b"\xfc\x08\0\0\x0b", b"\xfc\x08\x02\x01\x0b"),
             (b"\xfc\x0c\0\0\x0b", b"\xfc\x0c\x06\x03\x0b"),
         ],
-    )?;
-    Ok(())
+    )
 }
 
 #[test]
-fn a_place_behind_the_last_has_the_number_0(rt: HostRuntime) -> Result<(), Fail> {
+fn a_place_behind_the_last_has_the_number_0(rt: HostRuntime) -> Result<(), AllocError> {
     let mut numbers = Seq::new(rt.alloc());
     fill(&mut numbers, OTHERS, 1)?;
-    assert_eq!(rt; number_at(&numbers, 1), 300);
-    assert_eq!(rt; number_at(&numbers, 2), 0);
+    assert!(rt; number_at(&numbers, 1) == 300);
+    assert!(rt; number_at(&numbers, 2) == 0);
     Ok(())
 }
 
@@ -483,62 +525,73 @@ fn initials_told(alloc: Global, count: u32, bytes: &[u8]) -> Result<String, Allo
 
 /// One expression, or its fault.
 fn initial_told(alloc: Global, bytes: &[u8]) -> Result<String, AllocError> {
-    let found = read_initial(&mut Reader::new(bytes), alloc, &COUNTS);
-    format!(in alloc; "{found:?}")
+    debugged(alloc, read_initial(&mut Reader::new(bytes), alloc, &COUNTS))
 }
 
 #[test]
-fn initial_expressions(rt: HostRuntime) -> Result<(), Fail> {
-    let bytes = b"\x41\x01\x23\0\x6a\x42\x02\x7e\xd2\x02\xd0\x70\x0b\x43\0\0\0\0\x0b";
-    assert_eq!(rt;
-        initials_told(rt.alloc(), 2, bytes)?.as_str(),
-        "Ok(Seq { items: [Seq { items: [Const32(1), Global(35, GlobalId(0)), Plain(106), Const64(2), Plain(126), Func(210, FuncId(2)), RefNull(FuncRef)] }, Seq { items: [Raw4([0, 0, 0, 0])] }] }), 0 left"
-    );
-    let cases: [(&[u8], &str); 7] = [
-        (
-            b"\xfd\x0c\0\x01\x02\x03\x04\x05\x06\x07\x08\x09\x0a\x0b\x0c\x0d\x0e\x0f\x0b",
-            "Ok(Seq { items: [SimdBytes(12, [0, 1, 2, 3, 4, 5, 6, 7, 8, 9, 10, 11, 12, 13, 14, 15])] })",
+fn initial_expressions(rt: HostRuntime) -> Result<(), AllocError> {
+    assert_told(
+        &rt,
+        initials_told(
+            rt.alloc(),
+            2,
+            b"\x41\x01\x23\0\x6a\x42\x02\x7e\xd2\x02\xd0\x70\x0b\x43\0\0\0\0\x0b",
         ),
-        // An operator that can't stand here, another vector, another global, and an end too early.
-        (b"\x10\0\x0b", "Err(Parse { place: 0 })"),
-        (b"\x6d\x0b", "Err(Parse { place: 0 })"),
-        (b"\xfd\x0d\x0b", "Err(Parse { place: 1 })"),
-        (b"\x23\x02\x0b", "Err(Parse { place: 1 })"),
-        (b"\x41\x01", "Err(Parse { place: 2 })"),
-        (b"\x44\0\x0b", "Err(Parse { place: 3 })"),
-    ];
-    for (bytes, want) in cases {
-        assert_eq!(rt; initial_told(rt.alloc(), bytes)?.as_str(), want);
-    }
-    Ok(())
+        "Ok(Seq { items: [Seq { items: [Const32(1), Global(35, GlobalId(0)), Plain(106), Const64(2), Plain(126), Func(210, FuncId(2)), RefNull(FuncRef)] }, Seq { items: [Raw4([0, 0, 0, 0])] }] }), 0 left",
+    )
 }
 
-/// The value type of a code, which has this code and is a reference where the code is below 71.
-fn assert_type<H: Abort>(rt: &H, alloc: Global, code: u8, want: &str) -> Result<(), AllocError> {
-    let found = ValType::from_code(code);
-    assert_eq!(rt; format!(in alloc; "{found:?}")?.as_str(), want);
-    if let Some(ty) = found {
-        assert_eq!(rt; ty.code(), code);
-        assert_eq!(rt; ty.is_reference(), code < 0x71);
-    }
-    Ok(())
-}
+const INITIALS: &[(&[u8], &str)] = &[
+    (
+        b"\xfd\x0c\0\x01\x02\x03\x04\x05\x06\x07\x08\x09\x0a\x0b\x0c\x0d\x0e\x0f\x0b",
+        "Ok(Seq { items: [SimdBytes(12, [0, 1, 2, 3, 4, 5, 6, 7, 8, 9, 10, 11, 12, 13, 14, 15])] })",
+    ),
+    // An operator that can't stand here, another vector, another global, and an end too early.
+    (b"\x10\0\x0b", "Err(Parse { place: 0 })"),
+    (b"\x6d\x0b", "Err(Parse { place: 0 })"),
+    (b"\xfd\x0d\x0b", "Err(Parse { place: 1 })"),
+    (b"\x23\x02\x0b", "Err(Parse { place: 1 })"),
+    (b"\x41\x01", "Err(Parse { place: 2 })"),
+    (b"\x44\0\x0b", "Err(Parse { place: 3 })"),
+];
 
 #[test]
-fn value_types_have_codes(rt: HostRuntime) -> Result<(), Fail> {
-    let cases: [(u8, &str); 9] = [
-        (0x7F, "Some(I32)"),
-        (0x7E, "Some(I64)"),
-        (0x7D, "Some(F32)"),
-        (0x7C, "Some(F64)"),
-        (0x7B, "Some(V128)"),
-        (0x70, "Some(FuncRef)"),
-        (0x6F, "Some(ExternRef)"),
-        (0x69, "Some(ExnRef)"),
-        (0x40, "None"),
-    ];
-    for (code, want) in cases {
-        assert_type(&rt, rt.alloc(), code, want)?;
+fn an_initial_expression(rt: HostRuntime) -> Result<(), AllocError> {
+    for (bytes, want) in INITIALS {
+        assert_told(&rt, initial_told(rt.alloc(), bytes), want)?;
+    }
+    Ok(())
+}
+
+fn type_told(alloc: Global, code: u8) -> Result<String, AllocError> {
+    debugged(alloc, ValType::from_code(code))
+}
+
+/// Whether the value type of a code has this code, and is a reference where the code is below 71.
+fn is_of_code(code: u8) -> bool {
+    match ValType::from_code(code) {
+        Some(ty) => ty.code() == code && ty.is_reference() == (code < 0x71),
+        None => true,
+    }
+}
+
+const TYPES: &[(u8, &str)] = &[
+    (0x7F, "Some(I32)"),
+    (0x7E, "Some(I64)"),
+    (0x7D, "Some(F32)"),
+    (0x7C, "Some(F64)"),
+    (0x7B, "Some(V128)"),
+    (0x70, "Some(FuncRef)"),
+    (0x6F, "Some(ExternRef)"),
+    (0x69, "Some(ExnRef)"),
+    (0x40, "None"),
+];
+
+#[test]
+fn value_types_have_codes(rt: HostRuntime) -> Result<(), AllocError> {
+    for (code, want) in TYPES {
+        assert_told(&rt, type_told(rt.alloc(), *code), want)?;
+        assert_case(&rt, is_of_code(*code), code);
     }
     Ok(())
 }

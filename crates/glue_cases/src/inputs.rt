@@ -1,0 +1,57 @@
+//! Words that are printed, names, and settings.
+use glue_scope::{Item, Role, Word, print};
+use glue_shared::{EncodeInto, Settings, Target};
+use std::alloc::{AllocError, Global};
+use std::slice;
+use values::{Seq, Text};
+use wasm_core::ParseConfig;
+
+pub const CONFIG: ParseConfig = ParseConfig {
+    keep_debug: false,
+    names: true,
+    producers: true,
+};
+
+/// The words, printed.
+pub fn printed(alloc: Global, words: Seq<Word>) -> Result<String, AllocError> {
+    let item = Item {
+        role: Role::Body,
+        words,
+    };
+    let text = print(alloc, slice::from_ref(&item));
+    drop(item);
+    text
+}
+
+pub fn texts(alloc: Global, names: &[&str]) -> Result<Seq<Text>, AllocError> {
+    let mut seq = Seq::new(alloc);
+    for name in names {
+        seq.push(Text::from_str(alloc, name)?)?;
+    }
+    Ok(seq)
+}
+
+/// Settings for a target, with what isn't asked for left out.
+pub fn settings(
+    alloc: Global,
+    target: Target,
+    encode_into: EncodeInto,
+) -> Result<Settings, AllocError> {
+    Ok(Settings {
+        stem: Text::from_str(alloc, "out")?,
+        target,
+        debug: false,
+        typescript: false,
+        omit_imports: false,
+        export_wasm: false,
+        externref: false,
+        multi_value: false,
+        encode_into,
+        omit_default_module_path: true,
+        ts_typed_array_buffers: false,
+        split_linked_modules: false,
+        js_string_builtins: false,
+        reset_state: false,
+        force_abort: false,
+    })
+}
