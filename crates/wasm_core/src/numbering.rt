@@ -131,14 +131,10 @@ fn is_first<T: Numbered>(entry: &Option<T>) -> bool
 }
 
 /// The number of imported entries.
-fn count_imported<T: Numbered>(entries: &[Option<T>]) -> Result<u32, AllocError>
-    ensures { IfOk result (λ n. n ≡ count_by (is_first T.test) entries.now) }
+fn count_imported<T: Numbered>(entries: &[Option<T>]) -> usize
+    ensures { result ≡ count_by (is_first T.test) entries.now }
 {
-    let count = entries.iter().filter(|entry| is_first(*entry)).count();
-    if count > u32::MAX as usize {
-        return Err(AllocError);
-    }
-    Ok(count as u32)
+    entries.iter().filter(|entry| is_first(*entry)).count()
 }
 
 /// The number of each place of a list. More than 4,294,967,295 entries can't be numbered: then it is `AllocError`.
@@ -148,7 +144,7 @@ fn numbers<T: Numbered>(alloc: Global, entries: &[Option<T>]) -> Result<Seq<u32>
 {
     let mut next = Next {
         imported: 0,
-        own: count_imported(entries)?,
+        own: u32::try_from(count_imported(entries)).map_err(|_| AllocError)?,
     };
     let mut numbers = Seq::new(alloc);
     for entry in entries {
