@@ -1,6 +1,6 @@
 //! The frames of a file's sections (WebAssembly core specification, 5.5.2).
 
-ghost use Rattle.wasm_file.specs.Frames.{preamble, frame_name, section_frame, next_frame, frames_of};
+ghost use Rattle.wasm_file.specs.Frames.{preamble_of, preamble, frame_name, section_frame, next_frame, frames_of};
 ghost use Rattle.wasm_bytes.specs.Gives.{Gives, DecodesBy};
 
 use crate::entries::Section;
@@ -9,20 +9,23 @@ use std::marker::Model;
 use values::Text;
 use wasm_bytes::{ReadFault, Reader, Step, read_exactly, read_name, read_steps};
 
+/// These bytes, one after another.
+#[tactic(auto, unfolding(crate::specs::Frames::preamble_of))]
+fn read_each(reader: &mut Reader<'_>, bytes: &[u8]) -> Result<(), ReadFault>
+    ensures { Gives result reader.new (preamble_of bytes.now reader.old) }
+{
+    for byte in bytes {
+        read_exactly(reader, *byte)?;
+    }
+    Ok(())
+}
+
 /// The eight bytes at the head of a file.
-#[tactic(auto, unfolding(crate::specs::Frames::preamble, crate::specs::Frames::preamble_of))]
+#[tactic(auto, unfolding(crate::specs::Frames::preamble))]
 pub(crate) fn read_preamble(reader: &mut Reader<'_>) -> Result<(), ReadFault>
     ensures { Gives result reader.new (preamble reader.old) }
 {
-    read_exactly(reader, 0x00)?;
-    read_exactly(reader, 0x61)?;
-    read_exactly(reader, 0x73)?;
-    read_exactly(reader, 0x6D)?;
-    read_exactly(reader, 0x01)?;
-    read_exactly(reader, 0x00)?;
-    read_exactly(reader, 0x00)?;
-    read_exactly(reader, 0x00)?;
-    Ok(())
+    read_each(reader, b"\0asm\x01\0\0\0")
 }
 
 /// The name of a custom section, none of another.

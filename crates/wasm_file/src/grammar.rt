@@ -202,11 +202,11 @@ fn read_export_of(
     ensures { Gives result reader.new (export_of counts.now place kind reader.old) }
 {
     match kind {
-        0 => Ok(ExportItem::Func(FuncId::read(reader, alloc, counts)?)),
-        1 => Ok(ExportItem::Table(TableId::read(reader, alloc, counts)?)),
-        2 => Ok(ExportItem::Memory(MemoryId::read(reader, alloc, counts)?)),
-        3 => Ok(ExportItem::Global(GlobalId::read(reader, alloc, counts)?)),
-        4 => Ok(ExportItem::Tag(TagId::read(reader, alloc, counts)?)),
+        0 => FuncId::read(reader, alloc, counts).map(ExportItem::Func),
+        1 => TableId::read(reader, alloc, counts).map(ExportItem::Table),
+        2 => MemoryId::read(reader, alloc, counts).map(ExportItem::Memory),
+        3 => GlobalId::read(reader, alloc, counts).map(ExportItem::Global),
+        4 => TagId::read(reader, alloc, counts).map(ExportItem::Tag),
         _ => Err(ReadFault::Parse { place }),
     }
 }

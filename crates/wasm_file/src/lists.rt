@@ -1,6 +1,6 @@
 //! The lists of a file, filled section by section (WebAssembly core specification, 5.5).
 
-ghost use Rattle.std.specs.Prelude.{◌≡◌, ◌-◌, ◌&&◌, ◌==◌, ◌≤◌, length, slice_get, nat_le, IfOk};
+ghost use Rattle.std.specs.Prelude.{◌≡◌, ◌-◌, ◌&&◌, ◌==◌, ◌≤◌, length, slice_get, nat_le, Ok, Err, IfOk, MatchResult};
 ghost use Rattle.std.specs.Option.{option_copied};
 ghost use Rattle.wasm_bytes.specs.Gives.{Gives, GivesState};
 ghost use Rattle.wasm_bytes.specs.Reading.{allowed, entries, for_each};
@@ -133,8 +133,10 @@ impl Lists {
         ensures { GivesState result self.new reader.new (type_section self.old reader.old) }
     {
         let counts = self.counts();
-        self.parts.types = read_list(MOST, reader, alloc, &counts)?;
-        Ok(())
+        store(
+            &mut self.parts.types,
+            read_list(MOST, reader, alloc, &counts),
+        )
     }
 
     #[tactic(auto, unfolding(crate::specs::Sections::import_section))]
@@ -154,8 +156,10 @@ impl Lists {
     {
         let counts = self.counts();
         let room = MOST - self.imported.funcs as u32;
-        self.parts.functions = read_list(room, reader, alloc, &counts)?;
-        Ok(())
+        store(
+            &mut self.parts.functions,
+            read_list(room, reader, alloc, &counts),
+        )
     }
 
     #[tactic(auto, unfolding(crate::specs::Sections::table_section))]
@@ -164,8 +168,10 @@ impl Lists {
     {
         let counts = self.counts();
         let room = MOST - self.imported.tables as u32;
-        self.parts.tables = read_list(room, reader, alloc, &counts)?;
-        Ok(())
+        store(
+            &mut self.parts.tables,
+            read_list(room, reader, alloc, &counts),
+        )
     }
 
     #[tactic(auto, unfolding(crate::specs::Sections::memory_section))]
@@ -173,8 +179,10 @@ impl Lists {
         ensures { GivesState result self.new reader.new (memory_section self.old reader.old) }
     {
         let room = MOST - self.imported.memories as u32;
-        self.parts.memories = read_memory_list(room, reader, alloc)?;
-        Ok(())
+        store(
+            &mut self.parts.memories,
+            read_memory_list(room, reader, alloc),
+        )
     }
 
     #[tactic(auto, unfolding(crate::specs::Sections::tag_section))]
@@ -183,8 +191,10 @@ impl Lists {
     {
         let counts = self.counts();
         let room = MOST - self.imported.tags as u32;
-        self.parts.tags = read_tag_list(room, reader, alloc, &counts)?;
-        Ok(())
+        store(
+            &mut self.parts.tags,
+            read_tag_list(room, reader, alloc, &counts),
+        )
     }
 
     /// An initial expression may name each global of the section.
@@ -198,8 +208,10 @@ impl Lists {
             globals: imported + count,
             ..self.counts()
         };
-        self.parts.globals = read_entries(count, reader, alloc, &counts)?;
-        Ok(())
+        store(
+            &mut self.parts.globals,
+            read_entries(count, reader, alloc, &counts),
+        )
     }
 
     #[tactic(auto, unfolding(crate::specs::Sections::export_section))]
@@ -207,8 +219,10 @@ impl Lists {
         ensures { GivesState result self.new reader.new (export_section self.old reader.old) }
     {
         let counts = self.counts();
-        self.parts.exports = read_list(MOST, reader, alloc, &counts)?;
-        Ok(())
+        store(
+            &mut self.parts.exports,
+            read_list(MOST, reader, alloc, &counts),
+        )
     }
 
     /// The type of a function, counted from the imported ones on.
@@ -253,8 +267,10 @@ impl Lists {
         ensures { GivesState result self.new reader.new (elem_section self.old reader.old) }
     {
         let counts = self.counts();
-        self.parts.elems = read_list(MOST, reader, alloc, &counts)?;
-        Ok(())
+        store(
+            &mut self.parts.elems,
+            read_list(MOST, reader, alloc, &counts),
+        )
     }
 
     #[tactic(auto, unfolding(crate::specs::Sections::data_count_section))]
@@ -273,8 +289,8 @@ impl Lists {
         let counts = self.counts();
         let functions = self.parts.functions.as_slice();
         read_body_count(reader, functions.len())?;
-        self.parts.bodies = read_bodies(functions, &self.parts.types, reader, alloc, &counts)?;
-        Ok(())
+        let bodies = read_bodies(functions, &self.parts.types, reader, alloc, &counts);
+        store(&mut self.parts.bodies, bodies)
     }
 
     /// As many segments as the data count tells, where one stands.
@@ -284,8 +300,10 @@ impl Lists {
     {
         let counts = self.counts();
         let count = read_segment_count(reader, self.parts.data_count)?;
-        self.parts.segments = read_entries(count, reader, alloc, &counts)?;
-        Ok(())
+        store(
+            &mut self.parts.segments,
+            read_entries(count, reader, alloc, &counts),
+        )
     }
 
     /// The content of a section.
@@ -315,6 +333,14 @@ impl Lists {
             _ => self.read_tags(reader, alloc),
         }
     }
+}
+
+/// A list that was read takes the place of another, which stands where there is a fault.
+fn store<T: Drop>(list: &mut Seq<T>, read: Result<Seq<T>, ReadFault>) -> Result<(), ReadFault>
+    ensures { MatchResult read (λ xs. (result ≡ Ok tt) × (list.new ≡ xs)) (λ e. (result ≡ Err e) × (list.new ≡ list.old)) }
+{
+    *list = read?;
+    Ok(())
 }
 
 /// Whether a type takes and gives nothing.
