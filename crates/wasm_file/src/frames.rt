@@ -4,6 +4,7 @@ ghost use Rattle.wasm_file.specs.Frames.{preamble_of, preamble, frame_name, sect
 ghost use Rattle.wasm_bytes.specs.Gives.{Gives, DecodesBy};
 
 use crate::entries::Section;
+use crate::grammar::read_byte_below;
 use std::alloc::Global;
 use std::marker::Model;
 use values::Text;
@@ -50,10 +51,7 @@ fn read_frame(reader: &mut Reader<'_>, alloc: Global) -> Result<Section, ReadFau
     ensures { Gives result reader.new (section_frame reader.old) }
 {
     let begin = reader.place();
-    let id = reader.byte()?;
-    if id > 13 {
-        return Err(ReadFault::Parse { place: begin });
-    }
+    let id = read_byte_below(reader, 14)?;
     let len = reader.number32()?;
     let mut inside = reader.frame(len as usize)?;
     let name = read_frame_name(&mut inside, alloc, id)?;

@@ -29,7 +29,7 @@ fn has_bit(flags: u8, bit: u8) -> bool
 }
 
 /// One byte below a bound.
-fn read_byte_below(reader: &mut Reader<'_>, bound: u8) -> Result<u8, ReadFault>
+pub(crate) fn read_byte_below(reader: &mut Reader<'_>, bound: u8) -> Result<u8, ReadFault>
     ensures { Gives result reader.new (allowed (λ b. nat_lt b bound) byte reader.old) }
 {
     let place = reader.place();

@@ -3,13 +3,13 @@
 ghost use Rattle.std.specs.Prelude.{◌≡◌, ◌-◌, ◌&&◌, ◌==◌, ◌≤◌, length, slice_get, nat_le, Ok, Err, IfOk, MatchResult};
 ghost use Rattle.std.specs.Option.{option_copied};
 ghost use Rattle.wasm_bytes.specs.Gives.{Gives, GivesState};
-ghost use Rattle.wasm_bytes.specs.Reading.{allowed, entries, for_each};
+ghost use Rattle.wasm_bytes.specs.Reading.{allowed, filled, entries, for_each};
 ghost use Rattle.wasm_bytes.specs.Items.{listed};
 ghost use Rattle.wasm_bytes.specs.Numbers.{number32};
 ghost use Rattle.wasm_file.specs.Entries.{memory_type, tag_type};
 ghost use Rattle.wasm_file.specs.Grammar.{is_complete};
 ghost use Rattle.wasm_file.specs.Parts.{most, no_parts, AreFew, AreCounted, counts_of, params_of, is_plain, imported_func_types, func_types};
-ghost use Rattle.wasm_file.specs.Sections.{custom_section, type_section, import_section, function_section, table_section, memory_section, tag_section, global_section, export_section, type_at, start_section, elem_section, data_count_section, function_body, code_section, is_told, data_section, content};
+ghost use Rattle.wasm_file.specs.Sections.{custom_section, type_section, import_section, function_section, table_section, memory_section, tag_section, with_globals, global_section, export_section, type_at, start_section, elem_section, data_count_section, function_body, code_section, is_told, data_section, content};
 
 use crate::MOST;
 use crate::entries::{FileImport, ImportType, Parts};
@@ -118,6 +118,18 @@ impl Lists {
         }
     }
 
+    /// The same where the section of globals has so many.
+    fn counts_with_globals(&self, count: u32) -> Counts
+        requires { count ≤ most }
+        ensures { result ≡ with_globals count self.now }
+    {
+        let imported = self.imported.globals as u32;
+        Counts {
+            globals: imported + count,
+            ..self.counts()
+        }
+    }
+
     /// A custom section is kept as it is.
     #[tactic(auto, unfolding(crate::specs::Sections::custom_section))]
     fn read_custom(&mut self, reader: &mut Reader<'_>, alloc: Global) -> Result<(), ReadFault>
@@ -155,7 +167,7 @@ impl Lists {
         ensures { GivesState result self.new reader.new (function_section self.old reader.old) }
     {
         let counts = self.counts();
-        let room = MOST - self.imported.funcs as u32;
+        let room = room_beside(self.imported.funcs);
         store(
             &mut self.parts.functions,
             read_list(room, reader, alloc, &counts),
@@ -167,7 +179,7 @@ impl Lists {
         ensures { GivesState result self.new reader.new (table_section self.old reader.old) }
     {
         let counts = self.counts();
-        let room = MOST - self.imported.tables as u32;
+        let room = room_beside(self.imported.tables);
         store(
             &mut self.parts.tables,
             read_list(room, reader, alloc, &counts),
@@ -178,7 +190,7 @@ impl Lists {
     fn read_memories(&mut self, reader: &mut Reader<'_>, alloc: Global) -> Result<(), ReadFault>
         ensures { GivesState result self.new reader.new (memory_section self.old reader.old) }
     {
-        let room = MOST - self.imported.memories as u32;
+        let room = room_beside(self.imported.memories);
         store(
             &mut self.parts.memories,
             read_memory_list(room, reader, alloc),
@@ -190,7 +202,7 @@ impl Lists {
         ensures { GivesState result self.new reader.new (tag_section self.old reader.old) }
     {
         let counts = self.counts();
-        let room = MOST - self.imported.tags as u32;
+        let room = room_beside(self.imported.tags);
         store(
             &mut self.parts.tags,
             read_tag_list(room, reader, alloc, &counts),
@@ -202,12 +214,8 @@ impl Lists {
     fn read_globals(&mut self, reader: &mut Reader<'_>, alloc: Global) -> Result<(), ReadFault>
         ensures { GivesState result self.new reader.new (global_section self.old reader.old) }
     {
-        let imported = self.imported.globals as u32;
-        let count = read_count(reader, MOST - imported)?;
-        let counts = Counts {
-            globals: imported + count,
-            ..self.counts()
-        };
+        let count = read_count(reader, room_beside(self.imported.globals))?;
+        let counts = self.counts_with_globals(count);
         store(
             &mut self.parts.globals,
             read_entries(count, reader, alloc, &counts),
@@ -308,7 +316,7 @@ impl Lists {
 
     /// The content of a section.
     #[tactic(auto, unfolding(crate::specs::Sections::content))]
-    pub(crate) fn read_content(
+    fn read_content(
         &mut self,
         id: u8,
         reader: &mut Reader<'_>,
@@ -333,6 +341,32 @@ impl Lists {
             _ => self.read_tags(reader, alloc),
         }
     }
+
+    /// The content of a section of that many bytes, used up exactly. It is read as far as its bytes are there before it
+    /// is said that some are missing.
+    pub(crate) fn read_filled(
+        &mut self,
+        id: u8,
+        len: usize,
+        reader: &mut Reader<'_>,
+        alloc: Global,
+    ) -> Result<(), ReadFault>
+        ensures { GivesState result self.new reader.new (filled len (content id self.old) reader.old) }
+    {
+        let mut inside = reader.part(len);
+        self.read_content(id, &mut inside, alloc)?;
+        inside.finish()?;
+        let _ = reader.frame(len)?;
+        Ok(())
+    }
+}
+
+/// How many entries of a kind may stand beside imported ones.
+fn room_beside(imported: usize) -> u32
+    requires { imported ≤ most }
+    ensures { result ≡ most - imported }
+{
+    MOST - imported as u32
 }
 
 /// A list that was read takes the place of another, which stands where there is a fault.

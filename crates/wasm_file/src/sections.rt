@@ -1,8 +1,9 @@
 //! Reading the sections of a file, one after another (WebAssembly core specification, 5.5.2 and 5.5.16).
 
 ghost use Rattle.std.specs.Prelude.{◌≡◌, length, IfOk, OnOk};
-ghost use Rattle.wasm_bytes.specs.Gives.{Decodes, GivesState};
-ghost use Rattle.wasm_file.specs.Grammar.{at_start, rank_of, may_come, is_complete, whole, parts_of};
+ghost use Rattle.wasm_bytes.specs.Gives.{Decodes, Gives, GivesState};
+ghost use Rattle.wasm_bytes.specs.Reading.{allowed, byte};
+ghost use Rattle.wasm_file.specs.Grammar.{at_start, rank_of, rank_after, may_come, is_complete, whole, parts_of};
 ghost use Rattle.wasm_file.specs.Parts.{AreFew};
 
 use crate::entries::Parts;
@@ -34,6 +35,26 @@ fn rank(id: u8) -> u8
     }
 }
 
+/// The place of the last section that isn't a custom one, behind a section.
+fn rank_after(last: u8, id: u8) -> u8
+    ensures { result ≡ rank_after last id }
+{
+    if id == 0 { last } else { rank(id) }
+}
+
+/// The id of a section that may come behind one of this place.
+fn read_id(last: u8, reader: &mut Reader<'_>) -> Result<u8, ReadFault>
+    ensures { Gives result reader.new (allowed (may_come last) byte reader.old) }
+{
+    let place = reader.place();
+    let id = reader.byte()?;
+    if id == 0 || last < rank(id) {
+        Ok(id)
+    } else {
+        Err(ReadFault::Parse { place })
+    }
+}
+
 /// The lists so far, and the place of the last section in the order of sections.
 #[derive(Drop)]
 struct Progress {
@@ -57,12 +78,6 @@ impl Progress {
             rank: 0,
             lists: Lists::new(alloc),
         }
-    }
-
-    fn may_come(&self, id: u8) -> bool
-        ensures { result ≡ may_come self.now.rank id }
-    {
-        id == 0 || self.rank < rank(id)
     }
 
     /// The lists themselves.
@@ -105,22 +120,13 @@ impl Step for Progress {
 
     ghost step = { «section» };
 
-    /// One section. It is read as far as its bytes are there before it is said that some are missing.
+    /// One section.
     #[tactic(auto, unfolding(crate::specs::Grammar::section))]
     fn read_step(&mut self, reader: &mut Reader<'_>, alloc: Global) -> Result<(), ReadFault> {
-        let place = reader.place();
-        let id = reader.byte()?;
-        if !self.may_come(id) {
-            return Err(ReadFault::Parse { place });
-        }
-        let len = reader.number32()? as usize;
-        let mut inside = reader.part(len);
-        self.lists.read_content(id, &mut inside, alloc)?;
-        inside.finish()?;
-        let _ = reader.frame(len)?;
-        if id != 0 {
-            self.rank = rank(id);
-        }
+        let id = read_id(self.rank, reader)?;
+        let len = reader.number32()?;
+        self.lists.read_filled(id, len as usize, reader, alloc)?;
+        self.rank = rank_after(self.rank, id);
         Ok(())
     }
 }

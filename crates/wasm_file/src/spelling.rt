@@ -1,6 +1,7 @@
 //! Writing entries and sections (WebAssembly core specification, 5.5).
 
 ghost use Rattle.std.specs.Prelude.{◌≡◌, ◌++◌, OnOk};
+ghost use Rattle.wasm_file.specs.Kinds.{kind_byte};
 ghost use Rattle.wasm_file.specs.Spelling.{truth_bit, has_max, limits_flag, limits_bytes, table_bytes, global_type_bytes, tag_bytes, import_type_bytes, item_bytes, custom_bytes, value_bytes, field_bytes, section_bytes};
 
 use crate::entries::{Custom, ExportItem, ImportType, ProducerField, ProducerValue, TableType};
@@ -57,36 +58,37 @@ impl Spell for TableType {
     }
 }
 
+/// The byte that tells what an import asks for.
+fn kind_byte(ty: ImportType) -> u8
+    ensures { result ≡ kind_byte ty }
+{
+    match ty {
+        ImportType::Func(_) => 0,
+        ImportType::Table(_, _) => 1,
+        ImportType::Memory(_) => 2,
+        ImportType::Global(_, _) => 3,
+        ImportType::Tag(_) => 4,
+    }
+}
+
 impl Spell for ImportType {
     ghost spelled = { import_type_bytes };
 
     #[tactic(auto, unfolding(crate::specs::Spelling::import_type_bytes))]
     fn write(&self, out: &mut Vec<u8>) -> Result<(), AllocError> {
+        out.push(kind_byte(*self))?;
         match self {
-            ImportType::Func(ty) => {
-                out.push(0)?;
-                push_u32(out, ty.0)
-            }
+            ImportType::Func(ty) => push_u32(out, ty.0),
             ImportType::Table(elem, limits) => {
-                out.push(1)?;
                 let table = TableType {
                     elem: *elem,
                     limits: *limits,
                 };
                 table.write(out)
             }
-            ImportType::Memory(limits) => {
-                out.push(2)?;
-                write_limits(out, limits)
-            }
-            ImportType::Global(ty, mutable) => {
-                out.push(3)?;
-                write_global_type(out, *ty, *mutable)
-            }
-            ImportType::Tag(ty) => {
-                out.push(4)?;
-                write_tag(out, *ty)
-            }
+            ImportType::Memory(limits) => write_limits(out, limits),
+            ImportType::Global(ty, mutable) => write_global_type(out, *ty, *mutable),
+            ImportType::Tag(ty) => write_tag(out, *ty),
         }
     }
 }
