@@ -143,10 +143,9 @@ fn read_all_names(funcs: u32, reader: &mut Reader<'_>, alloc: Global) -> Result<
             funcs: Seq::new(alloc),
         },
     };
-    read_steps(&mut found, reader, alloc)?;
-    reader.finish()?;
-    let Subsections { names, .. } = found;
-    Ok(names)
+    let read = read_steps(&mut found, reader, alloc);
+    let used_up = reader.finish();
+    read.and(used_up).and(Ok(found.names))
 }
 
 /// The names of a name section, none where it doesn't read in a file of so many functions: its subsections stand in
@@ -219,8 +218,7 @@ fn read_fields(reader: &mut Reader<'_>, alloc: Global) -> Result<Seq<ProducerFie
 {
     let count = reader.number32()?;
     let fields = read_entries(count, reader, alloc, &NO_COUNTS)?;
-    reader.finish()?;
-    Ok(fields)
+    reader.finish().and(Ok(fields))
 }
 
 /// The fields of a producers section, none where it doesn't read: a list of fields, each a name and a list of names with
@@ -269,8 +267,7 @@ fn read_pluses(reader: &mut Reader<'_>, wanted: &str) -> Result<bool, ReadFault>
 {
     let count = reader.number32()?;
     let found = read_each_plus(count, reader, wanted)?;
-    reader.finish()?;
-    Ok(found)
+    reader.finish().and(Ok(found))
 }
 
 /// Whether the content of a section of target features lists one with a plus: it is a list of entries, each a byte and a

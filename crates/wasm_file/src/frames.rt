@@ -100,7 +100,6 @@ pub fn read_frames(alloc: Global, bytes: &[u8]) -> Result<Vec<Section>, ReadFaul
     let mut found = Frames {
         sections: Vec::new(alloc),
     };
-    read_steps(&mut found, &mut reader, alloc)?;
-    let Frames { sections } = found;
-    Ok(sections)
+    let read = read_steps(&mut found, &mut reader, alloc);
+    read.and(Ok(found.sections))
 }

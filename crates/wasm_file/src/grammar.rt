@@ -88,12 +88,43 @@ fn read_limits(reader: &mut Reader<'_>, greatest: u64) -> Result<Limits, ReadFau
     })
 }
 
+/// What stands in a list where the type of an entry doesn't tell its spelling.
+pub(crate) trait Listed {
+    ghost use Rattle.std.specs.Prelude.{Result, ℕ};
+    ghost use Rattle.wasm_bytes.specs.declared.counts.Counts.{Counts};
+    ghost use Rattle.wasm_bytes.specs.Reading.{Input};
+    ghost use Rattle.wasm_bytes.specs.Gives.{Gives};
+
+    /// An entry.
+    type Item: Drop;
+
+    /// Its spelling.
+    ghost grammar: { Counts → Input → Result (Self.Item × Input) ℕ };
+
+    fn read(
+        reader: &mut Reader<'_>,
+        alloc: Global,
+        counts: &Counts,
+    ) -> Result<Self::Item, ReadFault>
+        ensures { Gives result reader.new (grammar counts.now reader.old) };
+}
+
 /// The limits of a memory (WebAssembly core specification, 5.3.9).
-#[tactic(auto, unfolding(crate::specs::Entries::memory_type))]
-pub(crate) fn read_memory_type(reader: &mut Reader<'_>) -> Result<Limits, ReadFault>
-    ensures { Gives result reader.new (memory_type reader.old) }
-{
-    read_limits(reader, MEMORY_LIMIT)
+pub(crate) struct MemoryType;
+
+impl Listed for MemoryType {
+    type Item = Limits;
+
+    ghost grammar = { λ _. memory_type };
+
+    #[tactic(auto, unfolding(crate::specs::Entries::memory_type))]
+    fn read(
+        reader: &mut Reader<'_>,
+        _alloc: Global,
+        _counts: &Counts,
+    ) -> Result<Limits, ReadFault> {
+        read_limits(reader, MEMORY_LIMIT)
+    }
 }
 
 impl Entry for TableType {
@@ -120,16 +151,18 @@ fn read_mutability(reader: &mut Reader<'_>) -> Result<bool, ReadFault>
 }
 
 /// The type of a tag.
-#[tactic(auto, unfolding(crate::specs::Entries::tag_type))]
-pub(crate) fn read_tag_type(
-    reader: &mut Reader<'_>,
-    alloc: Global,
-    counts: &Counts,
-) -> Result<TypeId, ReadFault>
-    ensures { Gives result reader.new (tag_type counts.now reader.old) }
-{
-    read_exactly(reader, 0)?;
-    TypeId::read(reader, alloc, counts)
+pub(crate) struct TagType;
+
+impl Listed for TagType {
+    type Item = TypeId;
+
+    ghost grammar = { tag_type };
+
+    #[tactic(auto, unfolding(crate::specs::Entries::tag_type))]
+    fn read(reader: &mut Reader<'_>, alloc: Global, counts: &Counts) -> Result<TypeId, ReadFault> {
+        read_exactly(reader, 0)?;
+        TypeId::read(reader, alloc, counts)
+    }
 }
 
 /// What an import of a kind asks for.
@@ -149,12 +182,12 @@ fn read_import_of(
             let table = TableType::read(reader, alloc, counts)?;
             Ok(ImportType::Table(table.elem, table.limits))
         }
-        2 => Ok(ImportType::Memory(read_memory_type(reader)?)),
+        2 => Ok(ImportType::Memory(MemoryType::read(reader, alloc, counts)?)),
         3 => {
             let ty = ValType::read(reader, alloc, counts)?;
             Ok(ImportType::Global(ty, read_mutability(reader)?))
         }
-        4 => Ok(ImportType::Tag(read_tag_type(reader, alloc, counts)?)),
+        4 => Ok(ImportType::Tag(TagType::read(reader, alloc, counts)?)),
         _ => Err(ReadFault::Parse { place }),
     }
 }

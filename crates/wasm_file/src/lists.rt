@@ -6,20 +6,19 @@ ghost use Rattle.wasm_bytes.specs.Gives.{Gives, GivesState};
 ghost use Rattle.wasm_bytes.specs.Reading.{allowed, filled, entries, for_each};
 ghost use Rattle.wasm_bytes.specs.Items.{listed};
 ghost use Rattle.wasm_bytes.specs.Numbers.{number32};
-ghost use Rattle.wasm_file.specs.Entries.{memory_type, tag_type};
 ghost use Rattle.wasm_file.specs.Grammar.{is_complete};
 ghost use Rattle.wasm_file.specs.Parts.{most, no_parts, AreFew, AreCounted, counts_of, params_of, is_plain, imported_func_types, func_types};
 ghost use Rattle.wasm_file.specs.Sections.{custom_section, type_section, import_section, function_section, table_section, memory_section, tag_section, with_globals, global_section, export_section, type_at, start_section, elem_section, data_count_section, function_body, code_section, is_told, data_section, content};
 
 use crate::MOST;
 use crate::entries::{FileImport, ImportType, Parts};
-use crate::grammar::{read_custom, read_memory_type, read_tag_type};
+use crate::grammar::{Listed, MemoryType, TagType, read_custom};
 use crate::imported::{Imported, count_imports};
 use std::alloc::Global;
 use std::marker::Model;
 use values::Seq;
 use wasm_bytes::{Counts, Entry, ReadFault, Reader, read_entries, read_list};
-use wasm_ops::{Body, FuncId, FuncType, Limits, TypeId, read_code_entry};
+use wasm_ops::{Body, FuncId, FuncType, TypeId, read_code_entry};
 
 /// The lists of the sections so far, and how many items of each kind are imported.
 #[derive(Drop)]
@@ -89,16 +88,6 @@ impl Lists {
             && is_told(parts.data_count, parts.segments.len())
     }
 
-    /// The number of segments that is told, 0 where none is.
-    fn told_segments(&self) -> u32
-        ensures { result ≡ (counts_of self.now).segments }
-    {
-        match self.parts.data_count {
-            Some(count) => count,
-            None => 0,
-        }
-    }
-
     /// How many entries an index can name.
     fn counts(&self) -> Counts
         ensures { result ≡ counts_of self.now }
@@ -113,7 +102,7 @@ impl Lists {
             globals: (imported.globals + parts.globals.len()) as u32,
             tags: (imported.tags + parts.tags.len()) as u32,
             elems: parts.elems.len() as u32,
-            segments: self.told_segments(),
+            segments: parts.data_count.unwrap_or(0),
             locals: 0,
         }
     }
@@ -190,11 +179,10 @@ impl Lists {
     fn read_memories(&mut self, reader: &mut Reader<'_>, alloc: Global) -> Result<(), ReadFault>
         ensures { GivesState result self.new reader.new (memory_section self.old reader.old) }
     {
+        let counts = self.counts();
         let room = room_beside(self.imported.memories);
-        store(
-            &mut self.parts.memories,
-            read_memory_list(room, reader, alloc),
-        )
+        let read = read_list_of::<MemoryType>(room, reader, alloc, &counts);
+        store(&mut self.parts.memories, read)
     }
 
     #[tactic(auto, unfolding(crate::specs::Sections::tag_section))]
@@ -203,10 +191,8 @@ impl Lists {
     {
         let counts = self.counts();
         let room = room_beside(self.imported.tags);
-        store(
-            &mut self.parts.tags,
-            read_tag_list(room, reader, alloc, &counts),
-        )
+        let read = read_list_of::<TagType>(room, reader, alloc, &counts);
+        store(&mut self.parts.tags, read)
     }
 
     /// An initial expression may name each global of the section.
@@ -455,64 +441,34 @@ fn imported_func_type(imports: &[FileImport], place: usize) -> Option<TypeId>
     None
 }
 
-/// A list of memories.
+/// A list of at most so many entries.
 #[tactic(auto, unfolding(wasm_bytes::specs::Items::listed))]
-fn read_memory_list(
-    room: u32,
-    reader: &mut Reader<'_>,
-    alloc: Global,
-) -> Result<Seq<Limits>, ReadFault>
-    ensures value { Gives result reader.new (listed room memory_type reader.old) }
-    ensures len { IfOk result (λ xs. length xs ≤ room) }
-{
-    let count = read_count(reader, room)?;
-    read_memories(count, reader, alloc)
-}
-
-/// Memories, so many.
-fn read_memories(
-    count: u32,
-    reader: &mut Reader<'_>,
-    alloc: Global,
-) -> Result<Seq<Limits>, ReadFault>
-    ensures value { Gives result reader.new (entries count memory_type reader.old) }
-    ensures len { IfOk result (λ xs. length xs ≡ count) }
-{
-    let mut items = Seq::new(alloc);
-    for _ in 0..count {
-        items.push(read_memory_type(reader)?)?;
-    }
-    Ok(items)
-}
-
-/// A list of tags.
-#[tactic(auto, unfolding(wasm_bytes::specs::Items::listed))]
-fn read_tag_list(
+fn read_list_of<L: Listed>(
     room: u32,
     reader: &mut Reader<'_>,
     alloc: Global,
     counts: &Counts,
-) -> Result<Seq<TypeId>, ReadFault>
-    ensures value { Gives result reader.new (listed room (tag_type counts.now) reader.old) }
+) -> Result<Seq<L::Item>, ReadFault>
+    ensures value { Gives result reader.new (listed room (L.grammar counts.now) reader.old) }
     ensures len { IfOk result (λ xs. length xs ≤ room) }
 {
     let count = read_count(reader, room)?;
-    read_tags(count, reader, alloc, counts)
+    read_each_of::<L>(count, reader, alloc, counts)
 }
 
-/// Tags, so many.
-fn read_tags(
+/// Entries, so many.
+fn read_each_of<L: Listed>(
     count: u32,
     reader: &mut Reader<'_>,
     alloc: Global,
     counts: &Counts,
-) -> Result<Seq<TypeId>, ReadFault>
-    ensures value { Gives result reader.new (entries count (tag_type counts.now) reader.old) }
+) -> Result<Seq<L::Item>, ReadFault>
+    ensures value { Gives result reader.new (entries count (L.grammar counts.now) reader.old) }
     ensures len { IfOk result (λ xs. length xs ≡ count) }
 {
     let mut items = Seq::new(alloc);
     for _ in 0..count {
-        items.push(read_tag_type(reader, alloc, counts)?)?;
+        items.push(L::read(reader, alloc, counts)?)?;
     }
     Ok(items)
 }

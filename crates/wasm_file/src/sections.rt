@@ -3,7 +3,7 @@
 ghost use Rattle.std.specs.Prelude.{◌≡◌, length, IfOk, OnOk};
 ghost use Rattle.wasm_bytes.specs.Gives.{Decodes, Gives, GivesState};
 ghost use Rattle.wasm_bytes.specs.Reading.{allowed, byte};
-ghost use Rattle.wasm_file.specs.Grammar.{at_start, rank_of, rank_after, may_come, is_complete, whole, parts_of};
+ghost use Rattle.wasm_file.specs.Grammar.{at_start, rank_of, rank_after, may_come, whole, parts_of};
 ghost use Rattle.wasm_file.specs.Parts.{AreFew};
 
 use crate::entries::Parts;
@@ -71,30 +71,6 @@ impl Model for Progress {
 }
 
 impl Progress {
-    fn new(alloc: Global) -> Progress
-        ensures { result ≡ at_start }
-    {
-        Progress {
-            rank: 0,
-            lists: Lists::new(alloc),
-        }
-    }
-
-    /// The lists themselves.
-    fn into_parts(self) -> Parts
-        ensures same { result ≡ self.parts }
-        ensures few { AreFew result }
-    {
-        self.lists.into_parts()
-    }
-
-    /// Whether the lists may be those of a whole file.
-    fn is_complete(&self) -> bool
-        ensures { result ≡ is_complete self.now.parts }
-    {
-        self.lists.is_complete()
-    }
-
     /// A whole file, from its first byte on.
     #[tactic(auto, unfolding(crate::specs::Grammar::whole, crate::specs::Grammar::all_sections))]
     fn read_whole(&mut self, reader: &mut Reader<'_>, alloc: Global) -> Result<(), ReadFault>
@@ -105,7 +81,7 @@ impl Progress {
         read_preamble(reader)?;
         read_steps(self, reader, alloc)?;
         reader.finish()?;
-        if self.is_complete() {
+        if self.lists.is_complete() {
             Ok(())
         } else {
             Err(ReadFault::Parse {
@@ -138,7 +114,10 @@ pub fn read_parts(alloc: Global, bytes: &[u8]) -> Result<Parts, ReadFault>
     ensures few { IfOk result AreFew }
     ensures paired { IfOk result (λ p. length p.functions ≡ length p.bodies) }
 {
-    let mut progress = Progress::new(alloc);
+    let mut progress = Progress {
+        rank: 0,
+        lists: Lists::new(alloc),
+    };
     let read = progress.read_whole(&mut Reader::new(bytes), alloc);
-    read.and(Ok(progress.into_parts()))
+    read.and(Ok(progress.lists.into_parts()))
 }

@@ -1,7 +1,7 @@
 use Rattle.std.proofs.Common.{arith}
 use Rattle.std.proofs.lemmas.Grind.{common_steps}
 use Rattle.wasm_file.specs.Entries.{memory_type}
-use Rattle.wasm_file.proofs.grammar.read_memory_type.Goals as goal
+use Rattle.wasm_file.proofs.grammar.MemoryTypeListed.read.Goals as goal
 
 pub returns : goal.returns
 unfolding memory_type
