@@ -1,8 +1,6 @@
-use Rattle.std.proofs.Common.{arith}
-use Rattle.std.proofs.lemmas.Grind.{common_steps}
 use Rattle.wasm_file.specs.Entries.{memory_type}
 use Rattle.wasm_file.proofs.grammar.MemoryTypeListed.read.Goals as goal
 
 pub returns : goal.returns
 unfolding memory_type
-returns c = grind (arith, common_steps)
+returns c = c.read_limits.ensures
