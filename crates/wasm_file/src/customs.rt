@@ -4,9 +4,10 @@ ghost use Rattle.std.specs.Prelude.{◌≡◌, ◌≢◌, false, IfOk, IfErr};
 ghost use Rattle.wasm_bytes.specs.Gives.{Gives, GivesState};
 ghost use Rattle.wasm_bytes.specs.Reading.{entries};
 ghost use Rattle.wasm_bytes.specs.declared.fault.ReadFault.TheVariants.{OutOfMemory};
-ghost use Rattle.wasm_file.specs.Customs.{func_name, rise_from, func_names, subsection_names, used_up, all_names, names_of, producers, producers_of, is_plus, pluses, lists_feature, with_any};
+ghost use Rattle.wasm_file.specs.Customs.{rise_from, func_names, subsection_names, used_up, all_names, names_of, producers, producers_of, is_plus, pluses, lists_feature, with_any};
 
 use crate::entries::{Names, ProducerField, ProducerValue};
+use crate::grammar::{Listed, read_each_of};
 use std::alloc::{AllocError, Global};
 use values::{Seq, Text};
 use wasm_bytes::{
@@ -15,34 +16,39 @@ use wasm_bytes::{
 };
 use wasm_ops::FuncId;
 
-/// A function, one of so many, and its name.
-#[tactic(auto, unfolding(crate::specs::Customs::func_name))]
-fn read_func_name(
-    funcs: u32,
-    reader: &mut Reader<'_>,
-    alloc: Global,
-) -> Result<(FuncId, Text), ReadFault>
-    ensures { Gives result reader.new (func_name funcs reader.old) }
-{
-    let func = read_index(reader, funcs as u64)?;
-    let name = read_name(reader, alloc)?;
-    Ok((FuncId(func), name))
-}
+/// What an entry that names nothing is read with.
+const NO_COUNTS: Counts = Counts {
+    types: 0,
+    funcs: 0,
+    tables: 0,
+    memories: 0,
+    globals: 0,
+    tags: 0,
+    elems: 0,
+    segments: 0,
+    locals: 0,
+};
 
-/// So many functions and their names.
-fn read_each_func_name(
-    count: u32,
-    funcs: u32,
-    reader: &mut Reader<'_>,
-    alloc: Global,
-) -> Result<Seq<(FuncId, Text)>, ReadFault>
-    ensures { Gives result reader.new (entries count (func_name funcs) reader.old) }
-{
-    let mut items = Seq::new(alloc);
-    for _ in 0..count {
-        items.push(read_func_name(funcs, reader, alloc)?)?;
+/// A function and its name.
+struct FuncName;
+
+impl Listed for FuncName {
+    ghost use Rattle.wasm_file.specs.Customs.{func_name};
+
+    type Item = (FuncId, Text);
+
+    ghost grammar = { λ counts. func_name counts.funcs };
+
+    #[tactic(auto, unfolding(crate::specs::Customs::func_name))]
+    fn read(
+        reader: &mut Reader<'_>,
+        alloc: Global,
+        counts: &Counts,
+    ) -> Result<(FuncId, Text), ReadFault> {
+        let func = read_index(reader, counts.funcs as u64)?;
+        let name = read_name(reader, alloc)?;
+        Ok((FuncId(func), name))
     }
-    Ok(items)
 }
 
 /// Whether each function is greater than those before it.
@@ -71,7 +77,8 @@ fn read_func_names(
 {
     let place = reader.place();
     let count = reader.number32()?;
-    let names = read_each_func_name(count, funcs, reader, alloc)?;
+    let counts = Counts { funcs, ..NO_COUNTS };
+    let names = read_each_of::<FuncName>(count, reader, alloc, &counts)?;
     if do_rise(names.as_slice()) {
         Ok(names)
     } else {
@@ -162,19 +169,6 @@ pub fn read_names(alloc: Global, bytes: &[u8], funcs: u32) -> Result<Option<Name
         Err(ReadFault::OutOfMemory) => Err(AllocError),
     }
 }
-
-/// What an entry that names nothing is read with.
-const NO_COUNTS: Counts = Counts {
-    types: 0,
-    funcs: 0,
-    tables: 0,
-    memories: 0,
-    globals: 0,
-    tags: 0,
-    elems: 0,
-    segments: 0,
-    locals: 0,
-};
 
 impl Entry for ProducerValue {
     ghost use Rattle.wasm_file.specs.Customs.{producer_value};

@@ -1,8 +1,8 @@
 //! Reading the entries of sections (WebAssembly core specification, 5.5).
 
-ghost use Rattle.std.specs.Prelude.{◌≡◌, ◌==◌, nat_lt};
+ghost use Rattle.std.specs.Prelude.{◌≡◌, ◌==◌, length, nat_lt, IfOk};
 ghost use Rattle.wasm_bytes.specs.Gives.{Gives};
-ghost use Rattle.wasm_bytes.specs.Reading.{allowed, byte};
+ghost use Rattle.wasm_bytes.specs.Reading.{allowed, byte, entries};
 ghost use Rattle.wasm_bytes.specs.Numbers.{number32};
 ghost use Rattle.wasm_file.specs.Entries.{has_bit, limit, maximum, limits, memory_type, table_type, mutability, tag_type, import_of, import_type, «import», export_of, export_item, «export», global_entry, are_elem_flags, elem_table, elem_place, elem_type, elem_entries, elem, are_segment_flags, segment_memory, segment_place, blob, segment, custom};
 
@@ -107,6 +107,23 @@ pub(crate) trait Listed {
         counts: &Counts,
     ) -> Result<Self::Item, ReadFault>
         ensures { Gives result reader.new (grammar counts.now reader.old) };
+}
+
+/// Entries, so many.
+pub(crate) fn read_each_of<L: Listed>(
+    count: u32,
+    reader: &mut Reader<'_>,
+    alloc: Global,
+    counts: &Counts,
+) -> Result<Seq<L::Item>, ReadFault>
+    ensures value { Gives result reader.new (entries count (L.grammar counts.now) reader.old) }
+    ensures len { IfOk result (λ xs. length xs ≡ count) }
+{
+    let mut items = Seq::new(alloc);
+    for _ in 0..count {
+        items.push(L::read(reader, alloc, counts)?)?;
+    }
+    Ok(items)
 }
 
 /// The limits of a memory (WebAssembly core specification, 5.3.9).
@@ -286,13 +303,20 @@ impl Entry for FileGlobal {
     }
 }
 
-/// The flags of an element segment. 0 and 4 mean table 0, which must be there.
+/// Whether an element segment can have these flags. 0 and 4 mean table 0, which must be there.
+fn are_elem_flags(flags: u32, counts: &Counts) -> bool
+    ensures { result ≡ are_elem_flags counts.now flags }
+{
+    flags < 8 && (0 < counts.tables || !(flags == 0 || flags == 4))
+}
+
+/// The flags of an element segment.
 fn read_elem_flags(reader: &mut Reader<'_>, counts: &Counts) -> Result<u32, ReadFault>
     ensures { Gives result reader.new (allowed (are_elem_flags counts.now) number32 reader.old) }
 {
     let place = reader.place();
     let flags = reader.number32()?;
-    if flags < 8 && (0 < counts.tables || !(flags == 0 || flags == 4)) {
+    if are_elem_flags(flags, counts) {
         Ok(flags)
     } else {
         Err(ReadFault::Parse { place })

@@ -12,7 +12,7 @@ ghost use Rattle.wasm_file.specs.Sections.{custom_section, type_section, import_
 
 use crate::MOST;
 use crate::entries::{FileImport, ImportType, Parts};
-use crate::grammar::{Listed, MemoryType, TagType, read_custom};
+use crate::grammar::{Listed, MemoryType, TagType, read_custom, read_each_of};
 use crate::imported::{Imported, count_imports};
 use std::alloc::Global;
 use std::marker::Model;
@@ -454,23 +454,6 @@ fn read_list_of<L: Listed>(
 {
     let count = read_count(reader, room)?;
     read_each_of::<L>(count, reader, alloc, counts)
-}
-
-/// Entries, so many.
-fn read_each_of<L: Listed>(
-    count: u32,
-    reader: &mut Reader<'_>,
-    alloc: Global,
-    counts: &Counts,
-) -> Result<Seq<L::Item>, ReadFault>
-    ensures value { Gives result reader.new (entries count (L.grammar counts.now) reader.old) }
-    ensures len { IfOk result (λ xs. length xs ≡ count) }
-{
-    let mut items = Seq::new(alloc);
-    for _ in 0..count {
-        items.push(L::read(reader, alloc, counts)?)?;
-    }
-    Ok(items)
 }
 
 /// The number of parameters of a type, 0 where there is none.

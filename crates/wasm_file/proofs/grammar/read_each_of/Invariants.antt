@@ -1,7 +1,7 @@
 use Rattle.std.proofs.Common.{◌≡◌, ◌-◌, length}
 use Rattle.wasm_bytes.specs.Reading.{entries}
 use Rattle.wasm_bytes.proofs.Loop.{with_front}
-use Rattle.wasm_file.proofs.lists.read_each_of.Given as goal
+use Rattle.wasm_file.proofs.grammar.read_each_of.Given as goal
 
 abbrev pub invariant-loop : goal.invariant-loop
 invariant-loop g l = record {

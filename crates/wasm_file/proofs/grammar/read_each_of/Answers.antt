@@ -3,7 +3,7 @@ use Rattle.std.proofs.lemmas.Grind.{common_steps}
 use Rattle.std.proofs.lemmas.Result.{err_from_is_err_and}
 use Rattle.wasm_bytes.specs.Reading.{entries}
 use Rattle.wasm_bytes.proofs.Loop.{goes_on, ends, is_done}
-use Rattle.wasm_file.proofs.lists.read_each_of.Goals as goal
+use Rattle.wasm_file.proofs.grammar.read_each_of.Goals as goal
 
 pub returns-in_err-read-clause-value : goal.returns-in_err-read-clause-value
 returns-in_err-read-clause-value g c =
