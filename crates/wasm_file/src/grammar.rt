@@ -303,20 +303,13 @@ impl Entry for FileGlobal {
     }
 }
 
-/// Whether an element segment can have these flags. 0 and 4 mean table 0, which must be there.
-fn are_elem_flags(flags: u32, counts: &Counts) -> bool
-    ensures { result ≡ are_elem_flags counts.now flags }
-{
-    flags < 8 && (0 < counts.tables || !(flags == 0 || flags == 4))
-}
-
-/// The flags of an element segment.
+/// The flags of an element segment. 0 and 4 mean table 0, which must be there.
 fn read_elem_flags(reader: &mut Reader<'_>, counts: &Counts) -> Result<u32, ReadFault>
     ensures { Gives result reader.new (allowed (are_elem_flags counts.now) number32 reader.old) }
 {
     let place = reader.place();
     let flags = reader.number32()?;
-    if are_elem_flags(flags, counts) {
+    if flags < 8 && (0 < counts.tables || !(flags == 0 || flags == 4)) {
         Ok(flags)
     } else {
         Err(ReadFault::Parse { place })
