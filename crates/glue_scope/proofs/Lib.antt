@@ -10,7 +10,6 @@ pub mod Lists
 mod LiteralReads
 mod NoteSteps
 mod NumberMaps
-mod PastEnds
 pub mod Samples
 mod Scopes
 pub mod Spaced
