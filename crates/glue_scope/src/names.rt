@@ -1,10 +1,10 @@
 //! Names that are bound once.
-ghost use Rattle.std.specs.Prelude.{◌≡◌, ◌<◌, ◌^◌, ◌+◌, ◌-◌, ℕ, false, IfOk, OnOk, OnErr, IsTrue, not, Some};
+ghost use Rattle.std.specs.Prelude.{◌≡◌, ◌<◌, ◌^◌, ◌+◌, ◌-◌, ℕ, false, IfOk, IfSome, OnOk, OnErr, IsTrue, not, Some};
 ghost use Rattle.std.specs.FinMap as finite;
 ghost use Rattle.std.specs.FinSet as set;
 ghost use Rattle.std.specs.String.{string_bytes};
 ghost use Rattle.glue_scope.specs.Ident.{is_ident, to_ident};
-ghost use Rattle.glue_scope.specs.Scope.{Bound, IsFirstFree, IsLeastFree, KeepsTaken, key_set, numbered};
+ghost use Rattle.glue_scope.specs.Scope.{Bound, IsFirstFree, IsKept, IsLeastFree, KeepsTaken, key_set, numbered};
 
 use crate::ident::to_valid_ident;
 use crate::number_map::NumberMap;
@@ -73,6 +73,7 @@ impl IdentScope {
     /// The number that is kept for a name.
     fn kept(&self, name: &str) -> Option<u64>
         ensures kept { result ≡ finite.get self.now name.now }
+        ensures taken { IfSome result (λ start. IsKept self.now name.now start) }
     {
         self.names.get(name)
     }
@@ -103,13 +104,13 @@ impl IdentScope {
 
     /// Binds the first free name with a number, and keeps the number after it.
     fn bind_numbered(&mut self, name: &str, start: u64) -> Result<String, AllocError>
-        requires { finite.get self.old name.now ≡ Some start }
+        requires there { finite.get self.old name.now ≡ Some start }
+        requires kept { IsKept self.old name.now start }
         ensures ok { IfOk result (λ answer. (n : ℕ) × (string_bytes answer ≡ numbered name.now n) × (n < 2 ^ 64) × IsLeastFree (key_set self.old) name.now 2 n × (self.new ≡ finite.insert (finite.insert self.old (string_bytes answer) 2) name.now (n + 1))) }
         ensures err { OnErr result (self.new ≡ self.old) }
     {
         let (answer, number) = self.first_free(name, start)?;
-        let key = String::from_str(self.alloc, answer.as_str())?;
-        self.names.insert(key, 2)?;
+        self.bind(answer.as_str())?;
         self.names.set(name, number + 1);
         Ok(answer)
     }
