@@ -58,20 +58,27 @@ fn push_segment(alloc: Global, words: &mut Vec<Word>, segment: &str) -> Result<(
     push(words, Word::Punct(5))
 }
 
+/// Adds the words that access a property: a computed key whole, or each part between dots.
+#[tactic(auto, unfolding(crate::specs::Properties::property_parts))]
+fn push_parts(alloc: Global, words: &mut Vec<Word>, name: &str) -> Result<(), AllocError>
+    ensures { OnOk result (words.new.items ≡ words.old.items ++ property_parts name.now) }
+{
+    if is_computed_key(name) {
+        return push(words, Word::Splice(Text::from_str(alloc, name)?));
+    }
+    for segment in name.split('.') {
+        push_segment(alloc, words, segment)?;
+    }
+    Ok(())
+}
+
 /// The words that access a property after an object.
 ///
 /// A computed key is spliced whole. Any other name is split at its dots, and each part is accessed in turn.
-#[tactic(auto, unfolding(crate::specs::Properties::property_parts))]
 pub fn property_words(alloc: Global, name: &str) -> Result<Vec<Word>, AllocError>
     ensures words { IfOk result (λ words. words.items ≡ property_parts name.now) }
 {
     let mut words = Vec::new(alloc);
-    if is_computed_key(name) {
-        push(&mut words, Word::Splice(Text::from_str(alloc, name)?))?;
-        return Ok(words);
-    }
-    for segment in name.split('.') {
-        push_segment(alloc, &mut words, segment)?;
-    }
+    push_parts(alloc, &mut words, name)?;
     Ok(words)
 }
