@@ -3,7 +3,7 @@ ghost use Rattle.std.specs.Prelude.{◌≡◌, ◌||◌, ◌==◌, ◌++◌, ◌
 ghost use Rattle.std.specs.List.{list_all};
 ghost use Rattle.std.specs.Str.{chars};
 ghost use Rattle.std.specs.String.{string_bytes};
-ghost use Rattle.glue_scope.specs.Ident.{is_reserved as reserved, is_first as first, is_rest as rest, has_ident_form as has_form, is_ident, cleaned_name, to_ident};
+ghost use Rattle.glue_scope.specs.Ident.{is_reserved as reserved, is_first as first, is_rest as rest, kept_char as kept, has_ident_form as has_form, is_ident, cleaned_name, to_ident};
 
 use std::alloc::{AllocError, Global};
 use unicode_ident::{is_xid_continue, is_xid_start};
@@ -84,7 +84,7 @@ fn is_rest(ch: char) -> bool
 fn all_rest(text: &str) -> bool
     ensures { result ≡ list_all rest (chars text.now) }
 {
-    text.chars().all(|ch| is_rest(ch))
+    text.chars().all(is_rest)
 }
 
 /// Whether the name has a first character and others that may follow it.
@@ -109,13 +109,18 @@ pub fn is_valid_ident(name: &str) -> bool
     !is_reserved(name) && has_ident_form(name)
 }
 
+/// The character, or `_` where no identifier holds it.
+fn kept_char(ch: char) -> char
+    ensures { result ≡ kept ch }
+{
+    if is_rest(ch) { ch } else { '_' }
+}
+
 #[tactic(auto, unfolding(crate::specs::Ident::cleaned_name))]
 fn cleaned(alloc: Global, name: &str) -> Result<String, AllocError>
     ensures { IfOk result (λ s. string_bytes s ≡ cleaned_name name.now) }
 {
-    name.chars()
-        .map(|ch| if is_rest(ch) { ch } else { '_' })
-        .collect(alloc)
+    name.chars().map(kept_char).collect(alloc)
 }
 
 /// The name made an identifier: `_` for each character that no identifier holds, and `_` in front where that is none yet.

@@ -128,10 +128,7 @@ impl IdentScope {
                 self.bind(ident.as_str())?;
                 Ok(ident)
             }
-            Some(start) => {
-                let answer = self.bind_numbered(ident.as_str(), start)?;
-                Ok(answer)
-            }
+            Some(start) => self.bind_numbered(ident.as_str(), start),
         }
     }
 }
@@ -160,7 +157,6 @@ impl Names for IdentScope {
 
     fn generate(&mut self, name: &str) -> Result<String, AllocError> {
         let ident = to_valid_ident(self.alloc, name)?;
-        let answer = self.bind_first(ident)?;
-        Ok(answer)
+        self.bind_first(ident)
     }
 }

@@ -4,7 +4,6 @@ ghost use Rattle.std.specs.List.{flat_map};
 ghost use Rattle.std.specs.String.{string_bytes};
 ghost use Rattle.std.specs.Fmt.{signed_decimal};
 ghost use Rattle.glue_scope.specs.Literal.{literal};
-ghost use Rattle.glue_scope.specs.declared.word.NoteKind.TheVariants.{Block};
 ghost use Rattle.glue_scope.specs.Words.{access, note_body, note_char, note_text as text_of_note, outer, printed, text_of};
 
 use crate::ident::is_valid_ident;
@@ -45,14 +44,6 @@ fn push_marked(out: &mut String, mark: &str, text: &str) -> Result<(), AllocErro
     push_note_body(out, text)
 }
 
-/// Writes `/* text */`.
-fn push_block(out: &mut String, text: &str) -> Result<(), AllocError>
-    ensures { IfOk result (λ _. string_bytes out.new ≡ string_bytes out.old ++ text_of_note Block text.now) }
-{
-    push_marked(out, "/* ", text)?;
-    out.push_str(" */")
-}
-
 fn push_note(out: &mut String, kind: NoteKind, text: &str) -> Result<(), AllocError>
     ensures { IfOk result (λ _. string_bytes out.new ≡ string_bytes out.old ++ text_of_note kind text.now) }
 {
@@ -61,7 +52,10 @@ fn push_note(out: &mut String, kind: NoteKind, text: &str) -> Result<(), AllocEr
         NoteKind::Line => push_marked(out, " * ", text),
         NoteKind::Close => out.push_str(" */"),
         NoteKind::Slash => push_marked(out, "// ", text),
-        NoteKind::Block => push_block(out, text),
+        NoteKind::Block => {
+            push_marked(out, "/* ", text)?;
+            out.push_str(" */")
+        }
     }
 }
 
