@@ -1,2 +1,3 @@
+mod Grown
 pub mod Sets
 pub mod Texts

@@ -232,7 +232,10 @@ fn push_memory(out: &mut Vec<ExportItem>, memories: &[Option<Memory>]) -> Result
 fn has_entry<T>(entries: &[Option<T>], place: u32) -> bool
     ensures test { result ≡ is_entry (slice_get entries.now place) }
 {
-    matches!(entries.get(place as usize), Some(Some(_)))
+    match entries.get(place as usize) {
+        Some(entry) => entry.is_some(),
+        None => false,
+    }
 }
 
 // Whether an item is there.
