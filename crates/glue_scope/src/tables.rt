@@ -4,51 +4,9 @@ ghost use Rattle.glue_scope.specs.Tables.{punct_text as punct_at, key_text as ke
 
 /// Punctuation, by its places.
 const PUNCTUATION: [&str; 45] = [
-    "{",
-    "}",
-    "(",
-    ")",
-    "[",
-    "]",
-    ".",
-    ",",
-    ";",
-    ":",
-    "?",
-    "?.",
-    "...",
-    "=>",
-    "=",
-    "==",
-    "===",
-    "!=",
-    "!==",
-    "<",
-    ">",
-    "<=",
-    ">=",
-    "+",
-    "-",
-    "*",
-    "/",
-    "%",
-    "**",
-    "++",
-    "--",
-    "+=",
-    "&",
-    "|",
-    "^",
-    "~",
-    "<<",
-    ">>",
-    ">>>",
-    "!",
-    "&&",
-    "||",
-    "??",
-    "??=",
-    "||=",
+    "{", "}", "(", ")", "[", "]", ".", ",", ";", ":", "?", "?.", "...", "=>", "=", "==", "===",
+    "!=", "!==", "<", ">", "<=", ">=", "+", "-", "*", "/", "%", "**", "++", "--", "+=", "&", "|",
+    "^", "~", "<<", ">>", ">>>", "!", "&&", "||", "??", "??=", "||=",
 ];
 
 /// The punctuation at a place, and the empty text from 45 up.
@@ -115,10 +73,7 @@ pub fn key_text(place: u8) -> &'static str
 }
 
 /// Regular expressions, by their places.
-const REGEXES: [&str; 2] = [
-    "/\\.js$/",
-    "/\\[object ([^\\]]+)\\]/",
-];
+const REGEXES: [&str; 2] = ["/\\.js$/", "/\\[object ([^\\]]+)\\]/"];
 
 /// The regular expression at a place, and the empty text from 2 up.
 #[tactic(auto, unfolding(crate::specs::Tables::regex_text))]

@@ -52,9 +52,9 @@ fn is_host_of(name: &str, omitted: bool, described: &JsImportName) -> bool
 {
     match described {
         JsImportName::Global { name: global } => global.as_str() == name,
-        JsImportName::Module { name: given, .. } => omitted && given.as_str() == name,
-        JsImportName::LocalModule { name: given, .. } => omitted && given.as_str() == name,
-        JsImportName::InlineJs { name: given, .. } => omitted && given.as_str() == name,
+        JsImportName::Module { name: given, .. }
+        | JsImportName::LocalModule { name: given, .. }
+        | JsImportName::InlineJs { name: given, .. } => omitted && given.as_str() == name,
         JsImportName::VendorPrefixed {
             name: vendor,
             prefixes,
