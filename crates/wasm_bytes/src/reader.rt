@@ -107,7 +107,6 @@ impl<'a> Reader<'a> {
     }
 
     /// The next bytes, so many or as far as they are there, to be read by themselves. They stay to be passed.
-    #[tactic(auto, using(std::proofs::lemmas::List::take_all))]
     pub fn part(&self, len: usize) -> Reader<'a>
         ensures { result ≡ part len self.now }
     {

@@ -1,10 +1,36 @@
-use Rattle.std.proofs.Common.{arith, ◌-◌, ◌*◌, ◌^◌, ◌≡◌}
+use Rattle.std.proofs.Common.{arith, ◌-◌, ◌*◌, ◌^◌, ◌≡◌, ◌∙◌, sym, inl, inr}
 use Rattle.std.specs.Prelude.{pos, ◌+ℤ◌, ◌*ℤ◌}
 use Rattle.std.specs.Int.{w64}
 use Rattle.std.proofs.lemmas.Int.{to_z-of_z}
 use Rattle.wasm_bytes.specs.Signed.{IsWithin}
-use Rattle.wasm_bytes.proofs.NumberSteps.{scaled, digit_within, more_within, high_fits, within_fits, signed-last}
+use Rattle.wasm_bytes.proofs.NumberSteps.{scaled, digit_within, last_within, more_within, high_fits, within_fits, signed-end, signed-refused, signed-short, signed-last}
 use Rattle.wasm_bytes.proofs.reader.Reader.+signed.Goals as goal
+use Rattle.wasm_bytes.proofs.reader.Reader.+signed.Goals.{else-byte-lt128-via-then-byte-lt128+else-is_last, else-byte-lt128-via-else-byte-lt128}
+
+pub returns-then-is_last-clause-value : goal.returns-then-is_last-clause-value
+returns-then-is_last-clause-value t c =
+    rw (to_z-of_z w64 c.digit.result (record { sfits = c.digit.type_inv }), c.digit.ensures)
+    (signed-end c.args.start c.args.more c.args.room _ _ _ c.if-more-eq0.true c.in_ok-byte.ensures.value c.if-byte-lt128.true c.if-is_last.ensures.value)
+
+pub returns-then-is_last-clause-bound : goal.returns-then-is_last-clause-bound
+returns-then-is_last-clause-bound t c =
+    let one : c.args.room * 128 ^ c.args.more ≡ c.args.room = rw c.if-more-eq0.true (grind arith) in
+    rw (to_z-of_z w64 c.digit.result (record { sfits = c.digit.type_inv }), one)
+    (last_within c.args.room c.in_ok-byte.byte _ c.requires.few c.if-byte-lt128.true (c.is_last.ensures.cases c.if-is_last.true) c.digit.ensures)
+
+pub returns-then-more-eq0-clause-value : goal.returns-then-more-eq0-clause-value
+returns-then-more-eq0-clause-value t c =
+    let is_refused = signed-refused c.args.start c.args.more c.args.room _ _ _ c.if-more-eq0.true c.in_ok-byte.ensures.value in
+    elim c.else-byte-lt128.branch [
+      | else-byte-lt128-via-then-byte-lt128+else-is_last w ↦ is_refused (inr (sym w.is_last.ensures.value ∙ w.if-is_last.false))
+      | else-byte-lt128-via-else-byte-lt128 w ↦ is_refused (inl w.if-byte-lt128.false)
+    ]
+
+pub returns-then-byte-lt128-2-clause-value : goal.returns-then-byte-lt128-2-clause-value
+returns-then-byte-lt128-2-clause-value t c =
+    let d = c.digit-then-byte-lt128-2 in
+    rw (to_z-of_z w64 d.result (record { sfits = d.type_inv }), d.ensures)
+    (signed-short c.args.start c.args.more c.args.room _ _ _ (omega arith) c.in_ok-byte.ensures.value c.if-byte-lt128-2.true)
 
 pub returns-then-byte-lt128-2-clause-bound : goal.returns-then-byte-lt128-2-clause-bound
 returns-then-byte-lt128-2-clause-bound t c =
