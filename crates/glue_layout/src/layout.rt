@@ -90,7 +90,6 @@ fn push_line(laid: &mut String, level: usize, line: &str) -> Result<(), AllocErr
 /// back first, never below none, and one that ends with `{` goes one level on after it. A line that begins with `:`
 /// or `?` gets one more level. A line that begins with `*`, as in a comment, gets one more space, and changes no
 /// level. An empty line gets no spaces. Each line ends with a line feed, and the empty text gives the empty text.
-#[tactic(auto, using(crate::proofs::Laying::laying_start, crate::proofs::Laying::laying_more))]
 pub fn reset_indentation(alloc: Global, text: &str) -> Result<String, AllocError>
     ensures value { IfOk result (λ s. string_bytes s ≡ indented text.now) }
 
