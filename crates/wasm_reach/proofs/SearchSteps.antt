@@ -6,7 +6,7 @@ use Rattle.std.proofs.lemmas.List.Elements.{All-nil, All-append, All-weaker, All
 use Rattle.std.proofs.lemmas.Option.{slice_get_within, get_or_from_slice_get}
 use Rattle.wasm_reach.specs.declared.things.Thing.{Thing}
 use Rattle.wasm_reach.specs.Marks.{is_marked}
-use Rattle.wasm_reach.specs.Found.{Nodes, AreMarked, Adds}
+use Rattle.wasm_reach.specs.Found.{Nodes, Adds}
 use Rattle.wasm_reach.specs.Reach.{IsClosed, IsLeast}
 
 -- the roots are marked, what the first things refer to is marked, and no more was found than must be
@@ -48,9 +48,9 @@ steps refs roots next t old new at a s =
           subst (λ xs. All (λ v. p v ≡ true) xs) (sym a.grown) (All-append (λ v. p v ≡ true) old.found a.extra before (holds p (refs t) a.extra (c t here) a.only));
     }
 
-pub is_done : (refs : Thing → List Thing) (roots : List Thing) (next : ℕ) (n : Nodes) → length n.found ≤ next → AreMarked n.marks n.found → Searched refs roots next n → IsLeast refs roots (is_marked n.marks)
-is_done refs roots next n le m s = record {
+pub is_done : (refs : Thing → List Thing) (roots : List Thing) (next : ℕ) (n : Nodes) → length n.found ≤ next → ((t : Thing) → is_marked n.marks t ≡ true → Contains n.found t) → Searched refs roots next n → IsLeast refs roots (is_marked n.marks)
+is_done refs roots next n le told s = record {
   roots_in = s.roots_in;
-  closed = λ t e. All-contains (λ v. All (λ u. is_marked n.marks u ≡ true) (refs v)) n.found t (subst (λ xs. All (λ v. All (λ u. is_marked n.marks u ≡ true) (refs v)) xs) (take_all next n.found le) s.closed) (m.told t e);
-  least = λ p r c t e. All-contains (λ v. p v ≡ true) n.found t (s.least p r c) (m.told t e);
+  closed = λ t e. All-contains (λ v. All (λ u. is_marked n.marks u ≡ true) (refs v)) n.found t (subst (λ xs. All (λ v. All (λ u. is_marked n.marks u ≡ true) (refs v)) xs) (take_all next n.found le) s.closed) (told t e);
+  least = λ p r c t e. All-contains (λ v. p v ≡ true) n.found t (s.least p r c) (told t e);
 }

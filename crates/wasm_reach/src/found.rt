@@ -1,8 +1,8 @@
 //! Things that were found.
 
-ghost use Rattle.std.specs.Prelude.{◌≡◌, ◌<◌, ◌≤◌, [], ◌∷◌, length, slice_get, OnOk, IfOk, Some, true};
+ghost use Rattle.std.specs.Prelude.{◌≡◌, ◌<◌, ◌≤◌, [], ◌∷◌, length, slice_get, OnOk, IfOk, Some, true, Contains};
 ghost use Rattle.std.specs.List.{filter};
-ghost use Rattle.wasm_reach.specs.Marks.{IsWithin, unmarked, room};
+ghost use Rattle.wasm_reach.specs.Marks.{IsWithin, is_marked, unmarked, room};
 ghost use Rattle.wasm_reach.specs.Found.{Nodes, Adds};
 
 use crate::graph::Graph;
@@ -71,16 +71,15 @@ impl Found {
         requires { (t : Thing) → G.is_there graph.now t ≡ true → IsWithin self.old.marks t }
         ensures { OnOk result (Adds self.old self.new (filter (G.is_there graph.now) (thing ∷ []))) }
     {
-        if !graph.is_there(thing) {
-            return Ok(());
-        }
-        self.add(thing)
+        let is_there = graph.is_there(thing);
+        if is_there { self.add(thing) } else { Ok(()) }
     }
 
     /// How many were found.
     pub(crate) fn len(&self) -> usize
         ensures len { result ≡ length self.now.found }
         ensures few { result ≤ room self.now.marks }
+        ensures told { (t : Thing) → is_marked self.now.marks t ≡ true → Contains self.now.found t }
     {
         self.list.len()
     }

@@ -1,9 +1,9 @@
 //! The least set that holds the roots and what each of its members refers to.
 
-ghost use Rattle.std.specs.Prelude.{◌≡◌, true, IfOk};
+ghost use Rattle.std.specs.Prelude.{◌≡◌, [], true, IfOk, OnOk};
 ghost use Rattle.std.specs.List.{filter};
 ghost use Rattle.wasm_reach.specs.declared.things.Thing.{Thing};
-ghost use Rattle.wasm_reach.specs.Marks.{IsCounted, is_marked};
+ghost use Rattle.wasm_reach.specs.Marks.{IsCounted, IsWithin, is_marked};
 ghost use Rattle.wasm_reach.specs.Reach.{IsLeast};
 
 use crate::found::Found;
@@ -42,6 +42,21 @@ pub fn search<G: Graph>(
     ensures { IfOk result (λ m. IsLeast (λ t. filter (G.is_there graph.now) (G.names graph.now t)) (filter (G.is_there graph.now) roots.now) (is_marked m)) }
 {
     let mut found = Found::new(alloc, sizes)?;
+    let added = add_reached(&mut found, alloc, graph, roots);
+    added.and(Ok(found.into_marks()))
+}
+
+/// Adds those of the roots that stand there, and what can be reached from them.
+fn add_reached<G: Graph>(
+    found: &mut Found,
+    alloc: Global,
+    graph: &G,
+    roots: &[Thing],
+) -> Result<(), AllocError>
+    requires none { found.old.found ≡ [] }
+    requires within { (t : Thing) → G.is_there graph.now t ≡ true → IsWithin found.old.marks t }
+    ensures { OnOk result (IsLeast (λ t. filter (G.is_there graph.now) (G.names graph.now t)) (filter (G.is_there graph.now) roots.now) (is_marked found.new.marks)) }
+{
     found.add_all(graph, roots)?;
     let mut names = Vec::new(alloc);
     let mut next = 0;
@@ -51,5 +66,5 @@ pub fn search<G: Graph>(
         found.add_all(graph, &names)?;
         next += 1;
     }
-    Ok(found.into_marks())
+    Ok(())
 }

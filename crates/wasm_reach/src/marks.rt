@@ -1,6 +1,6 @@
 //! Marks on things.
 
-ghost use Rattle.std.specs.Prelude.{◌≡◌, false, slice_index_or, IfOk};
+ghost use Rattle.std.specs.Prelude.{◌≡◌, ◌<◌, true, false, length, replicate, slice_index_or, slice_set, IfOk};
 ghost use Rattle.wasm_reach.specs.Marks.{is_marked, with_mark, unmarked, IsWithin};
 
 use crate::things::Thing;
@@ -43,19 +43,18 @@ impl Model for Marks {
 
 impl Marks {
     /// No mark on any place of lists of these sizes.
-    #[tactic(auto, unfolding(crate::specs::Marks::unmarked))]
     pub(crate) fn new(alloc: Global, sizes: &Sizes) -> Result<Marks, AllocError>
         ensures { IfOk result (λ m. m ≡ unmarked sizes.now) }
     {
         Ok(Marks {
-            types: vec![in alloc; false; sizes.types]?,
-            funcs: vec![in alloc; false; sizes.funcs]?,
-            tables: vec![in alloc; false; sizes.tables]?,
-            memories: vec![in alloc; false; sizes.memories]?,
-            globals: vec![in alloc; false; sizes.globals]?,
-            tags: vec![in alloc; false; sizes.tags]?,
-            elems: vec![in alloc; false; sizes.elems]?,
-            segments: vec![in alloc; false; sizes.segments]?,
+            types: no_marks(alloc, sizes.types)?,
+            funcs: no_marks(alloc, sizes.funcs)?,
+            tables: no_marks(alloc, sizes.tables)?,
+            memories: no_marks(alloc, sizes.memories)?,
+            globals: no_marks(alloc, sizes.globals)?,
+            tags: no_marks(alloc, sizes.tags)?,
+            elems: no_marks(alloc, sizes.elems)?,
+            segments: no_marks(alloc, sizes.segments)?,
         })
     }
 
@@ -81,14 +80,14 @@ impl Marks {
         ensures { self.new ≡ with_mark self.old thing }
     {
         match thing {
-            Thing::Type(place) => self.types[place as usize] = true,
-            Thing::Func(place) => self.funcs[place as usize] = true,
-            Thing::Table(place) => self.tables[place as usize] = true,
-            Thing::Memory(place) => self.memories[place as usize] = true,
-            Thing::Global(place) => self.globals[place as usize] = true,
-            Thing::Tag(place) => self.tags[place as usize] = true,
-            Thing::Elem(place) => self.elems[place as usize] = true,
-            Thing::Segment(place) => self.segments[place as usize] = true,
+            Thing::Type(place) => set_at(&mut self.types, place),
+            Thing::Func(place) => set_at(&mut self.funcs, place),
+            Thing::Table(place) => set_at(&mut self.tables, place),
+            Thing::Memory(place) => set_at(&mut self.memories, place),
+            Thing::Global(place) => set_at(&mut self.globals, place),
+            Thing::Tag(place) => set_at(&mut self.tags, place),
+            Thing::Elem(place) => set_at(&mut self.elems, place),
+            Thing::Segment(place) => set_at(&mut self.segments, place),
         }
     }
 
@@ -157,4 +156,19 @@ fn mark_at(marks: &[bool], place: u32) -> bool
         Some(mark) => *mark,
         None => false,
     }
+}
+
+/// Marks a place.
+fn set_at(marks: &mut Vec<bool>, place: u32)
+    requires { place < length marks.old.items }
+    ensures { marks.new.items ≡ slice_set marks.old.items place true }
+{
+    marks[place as usize] = true;
+}
+
+/// So many places without a mark.
+fn no_marks(alloc: Global, count: usize) -> Result<Vec<bool>, AllocError>
+    ensures { IfOk result (λ marks. marks.items ≡ replicate count false) }
+{
+    vec![in alloc; false; count]
 }

@@ -3,7 +3,7 @@ use Rattle.std.specs.List.{filter}
 use Rattle.wasm_reach.specs.declared.things.Thing.{Thing}
 use Rattle.wasm_reach.specs.Marks.{IsWithin, room}
 use Rattle.wasm_reach.proofs.SearchSteps.{Searched}
-use Rattle.wasm_reach.proofs.graph.search.Given as goal
+use Rattle.wasm_reach.proofs.graph.add_reached.Given as goal
 
 abbrev pub invariant-search : goal.invariant-search
 invariant-search g l = record {

@@ -6,3 +6,6 @@ use Rattle.wasm_reach.proofs.found.Found.len.Goals as goal
 
 pub returns-clause-few : goal.returns-clause-few
 returns-clause-few c = let h : length c.self.inside.list.items ≤ room c.self.inside.marks = few_found _ _ c.self.invariant in rw (← c.self.view_is) (grind (arith, common_steps))
+
+pub returns-clause-told : goal.returns-clause-told
+returns-clause-told c = rw (← c.self.view_is) c.self.invariant.told
