@@ -184,6 +184,12 @@ added_more p things i d a b c lt h k =
     let is : filter p (take (i + 1) things) ≡ filter p (take i things) ++ filter p (get_or things i d ∷ []) = ap (filter p) (take_more things i d lt) ∙ filter-append p (take i things) (get_or things i d ∷ []) in
     subst (λ xs. Adds a c xs) (sym is) (adds_both a b c (filter p (take i things)) (filter p (get_or things i d ∷ [])) h k)
 
+pub unmarked_by : (s : Sizes) (types funcs tables memories globals tags elems segments : List Bool)
+    → types ≡ replicate s.types false → funcs ≡ replicate s.funcs false → tables ≡ replicate s.tables false → memories ≡ replicate s.memories false → globals ≡ replicate s.globals false → tags ≡ replicate s.tags false → elems ≡ replicate s.elems false → segments ≡ replicate s.segments false
+    → record { types = types; funcs = funcs; tables = tables; memories = memories; globals = globals; tags = tags; elems = elems; segments = segments } ≡ unmarked s
+unfolding unmarked
+unmarked_by s types funcs tables memories globals tags elems segments a b c d e f g h = rw (a, b, c, d, e, f, g, h) refl
+
 -- the places of marks that were made are those that were counted
 pub counted_within : (s : Sizes) (t : Thing) → IsCounted s t → IsWithin (unmarked s) t
 unfolding unmarked
