@@ -10,6 +10,9 @@ search-init g c = record {
   searched = begins _ _ c.args.found.now c.add_all.new.self c.requires.none c.in_ok-add_all.ensures;
 }
 
+pub overflow_add-next : goal.overflow_add-next
+overflow_add-next g c = omega (arith, c.search-test.true, c.len.type_inv)
+
 pub search-preserved : goal.search-preserved
 search-preserved g c =
     let there = g.G.Graph.is_there c.args.graph.now in
