@@ -16,4 +16,4 @@ pub returns-clause-value : goal.returns-clause-value
 returns-clause-value c = elim c.if-is_empty.branch [
   | then-is_empty w ↦ rw (w.result-is, ← c.self.view_is) (left_none _ _ (sym c.is_empty.ensures ∙ w.if-is_empty.true))
   | else-is_empty w ↦ rw (w.result-is, ← c.self.view_is) (left_some _ _ (sym c.is_empty.ensures ∙ w.if-is_empty.false))
-  ]
+]

@@ -7,4 +7,4 @@ pub returns : goal.returns
 returns c = elim c.if-len-self.branch [
   | then-len-self w ↦ rw (w.bytes-is, ← c.self.view_is) refl
   | else-len-self w ↦ rw (w.bytes-is, ← c.self.view_is, take_all _ _ w.if-len-self.false) refl
-  ]
+]
