@@ -1,15 +1,15 @@
 -- What is written is read again: one step after another, numbers and lists.
-use Rattle.std.proofs.Common.{◌≡◌, ℕ, zero, suc, ◌+◌, ◌-◌, ◌*◌, ◌/◌, ◌%◌, ◌^◌, ◌<◌, ◌≤◌, Bool, true, false, List, [], ◌∷◌, ◌++◌, length, Option, Some, None, Result, Ok, Err, refl, sym, ap, ◌∙◌, append_assoc, append-nil, arith, inl, inr, ltb, leb, eqb}
-use Rattle.std.specs.Prelude.{ℤ, pos, negsuc, ◌+ℤ◌, ◌*ℤ◌, ◌-ℤ◌, ◌≤ℤ◌, ◌<ℤ◌}
+use Rattle.std.proofs.Common.{◌≡◌, ℕ, zero, suc, ◌+◌, ◌-◌, ◌*◌, ◌/◌, ◌%◌, ◌^◌, ◌<◌, ◌≤◌, Bool, true, false, List, [], ◌∷◌, ◌++◌, length, Option, Some, Result, Ok, refl, ap, append_assoc, append-nil, arith, inl, inr, ltb}
+use Rattle.std.specs.Prelude.{ℤ, pos, negsuc, ◌+ℤ◌, ◌*ℤ◌}
 use Rattle.std.specs.List.{flat_map, AllByRecursion}
 use Rattle.std.proofs.lemmas.Bool.{le-ltb, lt-ltb, le-leb, lt-leb, cases_lt}
 use Rattle.std.proofs.lemmas.Int.{ints}
 use Rattle.std.proofs.lemmas.List.{length-append, take_at, drop_at}
-use Rattle.wasm_bytes.specs.Reading.{Input, followed, ◌>>=◌, pure, byte, raw, frame, within, framed, filled, allowed, meant, entries}
+use Rattle.wasm_bytes.specs.Reading.{Input, ◌>>=◌, pure, byte, raw, framed, filled, allowed, meant, entries}
 use Rattle.wasm_bytes.specs.Numbers.{unsigned_from, number32, number64, shortest, number_bytes}
-use Rattle.wasm_bytes.specs.Signed.{signed_from, signed32, signed33, signed64, shortest_signed, signed_bytes, signed_digit, is_digit, low_bits, IsWithin}
+use Rattle.wasm_bytes.specs.Signed.{signed_from, signed32, signed33, signed64, shortest_signed, signed_bytes, IsWithin}
 use Rattle.wasm_bytes.specs.Items.{index}
-use Rattle.wasm_bytes.specs.Spelling.{list_bytes, framed_bytes}
+use Rattle.wasm_bytes.specs.Spelling.{list_bytes}
 use Rattle.wasm_bytes.specs.Reads.{Reads}
 use Rattle.wasm_bytes.proofs.NumberSteps.{scaled}
 
