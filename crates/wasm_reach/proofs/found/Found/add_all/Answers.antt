@@ -1,3 +1,7 @@
+use Rattle.std.proofs.Common.{subst}
+use Rattle.std.specs.List.{filter}
+use Rattle.std.proofs.lemmas.List.{take_all}
+use Rattle.wasm_reach.specs.Found.{Adds}
 use Rattle.wasm_reach.proofs.MarkSteps.{added_more}
 use Rattle.wasm_reach.proofs.found.Found.add_all.Goals as goal
 
@@ -6,3 +10,6 @@ loop-thing-preserved g c = added_more (g.G.Graph.is_there c.args.graph.now) c.ar
 
 pub add_there-requires : goal.add_there-requires
 add_there-requires g c = λ t h. c.loop-thing.invariant.within t (c.requires t h)
+
+pub returns : goal.returns
+returns g c = subst (λ xs. Adds c.args.self.now c.loop-thing.self (filter (g.G.Graph.is_there c.args.graph.now) xs)) (take_all _ _ c.loop-thing-test.false) c.loop-thing.invariant
