@@ -4,15 +4,14 @@
 //! what was written is the listing of files whose items are linked with their module, define each own import once by a function
 //! that means its adapter, and publish exactly the described tree.
 //!
-//! Stands on `cli_support`. Trusted are standard input and output, of whose bytes nothing is known.
+//! Stands on `glue_run`. Trusted are standard input and output, of whose bytes nothing is known.
 #![tactic(auto)]
 
-mod run;
 #[cfg(test)]
 mod tests;
 
-use crate::run::{Ran, run};
 use cli_support::{ReadEnd, WriteEnd};
+use glue_run::{Ran, run};
 use std::io;
 use std::process::ExitCode;
 

@@ -1,5 +1,5 @@
-use crate::run::{Ran, run};
 use cli_support::{MemSink, MemSource};
+use glue_run::{Ran, run};
 use std::alloc::{AllocError, Global};
 use std::test::Fail;
 

@@ -1,0 +1,5 @@
+use Rattle.std.proofs.Common.{rules}
+use Rattle.glue_check.proofs.check.is_met.Goals as goal
+
+pub returns-in_ok-reserve-in-Some-clause-met : goal.returns-in_ok-reserve-in-Some-clause-met
+returns-in_ok-reserve-in-Some-clause-met c = search rules

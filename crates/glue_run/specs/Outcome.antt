@@ -1,0 +1,102 @@
+-- What a run of some bytes comes to.
+use Rattle.std.specs.Prelude.{Bool, true, false, ◌≡◌, ◌≤◌, ◌⊎◌, IsSome, ℕ, List, [], ◌∷◌, ◌++◌, codes, Option, Some, None, Result, Ok, Err}
+use Rattle.std.specs.Io.KnownBytes.{Appends, Keeps}
+use Rattle.wasm_core.specs.Emission.{too_large}
+use Rattle.glue_ends.specs.Causes.{Rose, AppendsPrefix}
+use Rattle.glue_ends.specs.Listing.{listing}
+use Rattle.glue_shared.specs.declared.description.Lowered.{Lowered}
+use Rattle.glue_lower.specs.Lowering.{lowered_of}
+use Rattle.cli_support.specs.declared.fault.Fault.{Fault}
+use Rattle.cli_support.specs.declared.fault.Fault.TheVariants as fault
+use Rattle.cli_support.specs.Generating.{Made, Configured, answer_of}
+use Rattle.glue_items.specs.Rewritten.{rewritten}
+use Rattle.cli_support.specs.Plan.{plan_of}
+use Rattle.glue_run.specs.Headline.{deno, deno_settings, IsOutputOf}
+
+-- why nothing but a fault's line is written: a fault of the generator, or a section of the module that is too large
+pub data Cause : Type 0 where
+  Refused : Fault → Cause
+  Oversized : Cause
+
+-- the generator's input: these bytes, under the name `out`
+abbrev pub with_bytes : List ℕ → Configured
+with_bytes bytes = record deno { input = Some (codes "out", bytes) }
+
+-- what the description in the bytes' module leads to
+abbrev pub planning : Option ℕ → Option Cause
+planning None = None
+planning (Some section) = Some Oversized
+
+abbrev pub outcome_of : Option (Result Lowered Fault) → Option Cause
+outcome_of None = None
+outcome_of (Some (Err f)) = Some (Refused f)
+outcome_of (Some (Ok l)) = planning (too_large (rewritten deno_settings l))
+
+-- the first fault of a run over these bytes, or none
+abbrev pub outcome : List ℕ → Option Cause
+outcome bytes = outcome_of (answer_of (λ settings m. Some (lowered_of settings m)) (with_bytes bytes))
+
+-- want of memory
+abbrev pub is_memory : Fault → Bool
+is_memory fault.OutOfMemory = true
+is_memory fault.NoInput = false
+is_memory fault.BadStem = false
+is_memory (fault.Parse place) = false
+is_memory fault.Lower = false
+is_memory (fault.NotBuilt what) = false
+
+-- the variant's name
+abbrev pub fault_name : Fault → List ℕ
+fault_name fault.NoInput = codes "NoInput"
+fault_name fault.BadStem = codes "BadStem"
+fault_name (fault.Parse place) = codes "Parse"
+fault_name fault.Lower = codes "Lower"
+fault_name (fault.NotBuilt what) = codes "NotBuilt"
+fault_name fault.OutOfMemory = codes "OutOfMemory"
+
+abbrev pub cause_name : Cause → List ℕ
+cause_name (Refused f) = fault_name f
+cause_name Oversized = codes "TooLarge"
+
+-- the line for a cause
+abbrev pub fault_line : Cause → List ℕ
+fault_line cause = codes "fault " ++ (cause_name cause ++ codes "\n")
+
+-- the bytes come to a cause with no output, or to an output, which may be too large to be written
+abbrev pub ComesTo : List ℕ → Option Made → Option Cause → Type 0
+ComesTo bytes None cause = (outcome bytes ≡ cause) × IsSome cause
+ComesTo bytes (Some made) cause = IsOutputOf bytes made × (outcome bytes ≡ cause)
+
+-- what is to be written
+abbrev pub said : Option Cause → Option Made → List ℕ
+said (Some cause) output = fault_line cause
+said None (Some made) = listing (plan_of made)
+said None None = []
+
+-- these bytes came to this, and all of it was written
+pub record IsSaid (bytes : List ℕ) (output : Option Made) (cause : Option Cause) (old new : Option (List ℕ)) : Type 0 where
+  pub comes : ComesTo bytes output cause
+  pub written : Appends old new (said cause output)
+
+-- these bytes came to something, and a part of it was written
+pub record IsCut (bytes : List ℕ) (output : Option Made) (old new : Option (List ℕ)) : Type 0 where
+  pub cause : Option Cause
+  pub comes : ComesTo bytes output cause
+  pub written : AppendsPrefix old new (said cause output)
+
+-- a status after a text was to be written: the one of success, 4 or 5
+pub record Wrote (done : ℕ) (text : List ℕ) (status : ℕ) (old new : Option (List ℕ)) (before now : ℕ) : Type 0 where
+  pub known : (status ≡ done) ⊎ ((status ≡ 4) ⊎ (status ≡ 5))
+  pub all : status ≡ done → Appends old new text
+  pub prefix : AppendsPrefix old new text
+  pub failed : status ≡ 4 → Rose before now
+  pub later : before ≤ now
+
+-- What these bytes came to, and by the status what was written of it: all with 0 and 1, a part with 4 and 5.
+pub record Answered (bytes : List ℕ) (status : ℕ) (output : Option Made) (old new : Option (List ℕ)) (before now : ℕ) : Type 0 where
+  pub known : (status ≡ 0) ⊎ ((status ≡ 1) ⊎ ((status ≡ 4) ⊎ (status ≡ 5)))
+  pub done : status ≡ 0 → IsSaid bytes output None old new
+  pub refused : status ≡ 1 → (cause : Cause) × IsSaid bytes output (Some cause) old new
+  pub failed : status ≡ 4 → Rose before now × IsCut bytes output old new
+  pub short : status ≡ 5 → Keeps old new ⊎ IsCut bytes output old new
+  pub later : before ≤ now

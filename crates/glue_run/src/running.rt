@@ -1,0 +1,241 @@
+//! The top call.
+ghost use Rattle.std.specs.Prelude.{◌↔◌, ◌≡◌, ◌≢◌, ◌≤◌, ◌⊎◌, ℕ, List, length, Ok, Err, Some, None, map, string_bytes, IsTrue, IsSome, IfOk, IfErr};
+ghost use Rattle.std.specs.Io.KnownBytes.{Appends, Keeps};
+ghost use Rattle.wasm_core.specs.Emission.{too_large};
+ghost use Rattle.glue_ends.specs.Causes.{Rose, AppendsPrefix};
+ghost use Rattle.glue_ends.specs.Listing.{listing};
+ghost use Rattle.glue_ends.specs.Taking.{IsWhole, TakesAtMost, TakesMoreThan};
+ghost use Rattle.cli_support.specs.Plan.{plan_of};
+ghost use Rattle.glue_run.specs.Headline.{IsOutputOf};
+ghost use Rattle.glue_run.specs.Outcome.{Cause, Refused, Oversized, outcome, planning, with_bytes, is_memory as the_memory_test, fault_line, Wrote, Answered, IsSaid, IsCut, ComesTo};
+ghost use Rattle.glue_run.specs.Running.{AreRead, IsDone, IsPartly, IsUntroubled};
+
+use cli_support::{
+    Bindgen, Fault, JsonLowering, Output, PlannedFile, SetFault, Sink, Source, Stop, WriteFault,
+    read_whole, write_files,
+};
+use std::alloc::{AllocError, Global};
+use wasm_core::EmitFault;
+
+/// The most bytes that are read.
+pub const LIMIT: usize = 268_435_456;
+
+/// How many bytes are asked for in one read.
+pub const PIECE: usize = 65_536;
+
+/// How a run ended: its status, and the output where one was made.
+#[derive(Debug, Drop)]
+pub struct Ran {
+    pub status: u8,
+    pub output: Option<Output>,
+}
+
+// The line of a fault.
+fn fault_line_of(fault: &Fault) -> &'static str
+    ensures line { result.now ≡ fault_line (Refused fault.now) }
+{
+    match fault {
+        Fault::NoInput => "fault NoInput\n",
+        Fault::BadStem => "fault BadStem\n",
+        Fault::Parse { .. } => "fault Parse\n",
+        Fault::Lower => "fault Lower\n",
+        Fault::NotBuilt { .. } => "fault NotBuilt\n",
+        Fault::OutOfMemory => "fault OutOfMemory\n",
+    }
+}
+
+// The line of a module with a section that is too large.
+fn oversized_line() -> &'static str
+    ensures line { result.now ≡ fault_line Oversized }
+{
+    "fault TooLarge\n"
+}
+
+// Writes a fault's line.
+fn tell<O: Sink>(line: &str, output: &mut O) -> u8
+    ensures wrote { Wrote 1 line.now result (O.taken output.old) (O.taken output.new) (O.faults output.old) (O.faults output.new) }
+{
+    match output.write_all(line.as_bytes()) {
+        Ok(()) => 1,
+        Err(WriteFault::Failed) => 4,
+        Err(WriteFault::OutOfMemory) => 5,
+    }
+}
+
+// Writes the listing of the files.
+fn list<O: Sink>(alloc: Global, files: &[PlannedFile], output: &mut O) -> u8
+    ensures wrote { Wrote 0 (listing files.now) result (O.taken output.old) (O.taken output.new) (O.faults output.old) (O.faults output.new) }
+{
+    match write_files(alloc, files, output) {
+        Ok(()) => 0,
+        Err(WriteFault::Failed) => 4,
+        Err(WriteFault::OutOfMemory) => 5,
+    }
+}
+
+// Writes the files of what was made of the bytes.
+fn deliver<O: Sink>(alloc: Global, made: &Output, output: &mut O) -> u8
+    ensures answered { (bytes : List ℕ) → IsOutputOf bytes made.now → outcome bytes ≡ planning (too_large made.now.«module») → Answered bytes result (Some made.now) (O.taken output.old) (O.taken output.new) (O.faults output.old) (O.faults output.new) }
+{
+    match made.files(alloc) {
+        Ok(files) => list(alloc, files.as_slice(), output),
+        Err(EmitFault::OutOfMemory) => 5,
+        Err(EmitFault::TooLarge { .. }) => tell(oversized_line(), output),
+    }
+}
+
+// The generator for Deno, with its input.
+fn generator(alloc: Global, bytes: Vec<u8>) -> Result<Bindgen, Fault>
+    ensures set { IfOk result (λ b. b ≡ with_bytes bytes.items) }
+    ensures memory { IfErr result (λ e. e ≡ Fault.OutOfMemory) }
+{
+    let mut generator = Bindgen::new(false, false);
+    match generator.deno(true) {
+        Ok(_) => {}
+        Err(_) => unreachable!(),
+    }
+    generator.input_bytes(alloc, "out", bytes)?;
+    Ok(generator)
+}
+
+// Makes an output of the bytes.
+fn generate(alloc: Global, bytes: Vec<u8>) -> Result<Output, Fault>
+    ensures made { IfOk result (λ o. IsOutputOf bytes.items o × (outcome bytes.items ≡ planning (too_large o.«module»))) }
+    ensures cause { IfErr result (λ e. e ≢ Fault.OutOfMemory → outcome bytes.items ≡ Some (Refused e)) }
+{
+    let mut generator = generator(alloc, bytes)?;
+    generator.generate_output(alloc, &mut JsonLowering::new())
+}
+
+// Whether the fault is want of memory.
+fn is_memory(fault: &Fault) -> bool
+    ensures test { result ≡ the_memory_test fault.now }
+{
+    match fault {
+        Fault::OutOfMemory => true,
+        Fault::NoInput
+        | Fault::BadStem
+        | Fault::Parse { .. }
+        | Fault::Lower
+        | Fault::NotBuilt { .. } => false,
+    }
+}
+
+// Writes the line of a fault, but for want of memory.
+fn refuse<O: Sink>(fault: &Fault, output: &mut O) -> u8
+    ensures answered { (bytes : List ℕ) → (fault.now ≢ Fault.OutOfMemory → outcome bytes ≡ Some (Refused fault.now)) → Answered bytes result None (O.taken output.old) (O.taken output.new) (O.faults output.old) (O.faults output.new) }
+{
+    if is_memory(fault) {
+        return 5;
+    }
+    tell(fault_line_of(fault), output)
+}
+
+// Makes what the bytes say, and writes it.
+fn answer<O: Sink>(alloc: Global, bytes: Vec<u8>, output: &mut O) -> Ran
+    ensures answered { Answered bytes.items result.status result.output (O.taken output.old) (O.taken output.new) (O.faults output.old) (O.faults output.new) }
+{
+    match generate(alloc, bytes) {
+        Ok(made) => Ran {
+            status: deliver(alloc, &made, output),
+            output: Some(made),
+        },
+        Err(fault) => Ran {
+            status: refuse(&fault, output),
+            output: None,
+        },
+    }
+}
+
+// Whether the words are `--target` and `deno`.
+fn are_read(words: &[String]) -> bool
+    ensures read { IsTrue result ↔ AreRead words.now }
+{
+    match words {
+        [first, second] => first.as_str() == "--target" && second.as_str() == "deno",
+        _ => false,
+    }
+}
+
+// The status of a source that wasn't read to its end.
+fn status_of(stop: Stop) -> u8
+    ensures failed { stop ≡ Stop.Failed → result ≡ 3 }
+    ensures too_long { stop ≡ Stop.TooLong → result ≡ 6 }
+    ensures memory { stop ≡ Stop.OutOfMemory → result ≡ 5 }
+{
+    match stop {
+        Stop::Failed => 3,
+        Stop::TooLong => 6,
+        Stop::OutOfMemory => 5,
+    }
+}
+
+// Reads the source to its end, where it isn't too long.
+fn read_input<I: Source>(alloc: Global, input: &mut I) -> Result<Vec<u8>, Stop>
+    ensures whole { IfOk result (λ v. IsWhole LIMIT (I.left input.old) (I.left input.new) v.items) }
+    ensures failed { result ≡ Err Stop.Failed → Rose (I.faults input.old) (I.faults input.new) × TakesAtMost LIMIT (I.left input.old) (I.left input.new) }
+    ensures too_long { result ≡ Err Stop.TooLong → TakesMoreThan LIMIT (I.left input.old) (I.left input.new) }
+    ensures later { I.faults input.old ≤ I.faults input.new }
+{
+    read_whole(alloc, input, LIMIT, PIECE)
+}
+
+/// Reads a module from the source to its end, and writes the listing of the files that are made of it.
+///
+/// `words` are those of the command line after the program's name; exactly `--target` and `deno` are read. The statuses:
+/// 0, all was written; 1, the input has a fault, and its line was written; 2, the words aren't read, and nothing else was done;
+/// 3, the source failed, and nothing was written; 4, the sink failed; 5, memory ran out; 6, the source has more than
+/// 268,435,456 bytes, and nothing was written.
+pub fn run<I: Source, O: Sink>(
+    alloc: Global,
+    words: &[String],
+    input: &mut I,
+    output: &mut O,
+) -> Ran
+    ensures known { result.status ≤ 6 }
+
+    // All was read, and all of what it comes to was written: files that are linked, defined, published and mean their adapters,
+    // or a fault's line.
+    ensures done { result.status ≡ 0 → IsDone result.output None (I.left input.old) (I.left input.new) (O.taken output.old) (O.taken output.new) }
+    ensures refused { result.status ≡ 1 → (cause : Cause) × IsDone result.output (Some cause) (I.left input.old) (I.left input.new) (O.taken output.old) (O.taken output.new) }
+
+    // The words are not those that are read.
+    ensures words { (result.status ≡ 2 → ¬ AreRead words.now) × (¬ AreRead words.now → result.status ≡ 2) }
+    ensures untouched { result.status ≡ 2 → Keeps (I.left input.old) (I.left input.new) × Keeps (O.taken output.old) (O.taken output.new) }
+
+    // An end failed.
+    ensures read_failed { result.status ≡ 3 → Rose (I.faults input.old) (I.faults input.new) × Keeps (O.taken output.old) (O.taken output.new) }
+    ensures write_failed { result.status ≡ 4 → Rose (O.faults output.old) (O.faults output.new) × IsPartly result.output (I.left input.old) (I.left input.new) (O.taken output.old) (O.taken output.new) }
+
+    // Want of memory: a part of what the input comes to was written, which may be nothing.
+    ensures short { result.status ≡ 5 → Keeps (O.taken output.old) (O.taken output.new) ⊎ IsPartly result.output (I.left input.old) (I.left input.new) (O.taken output.old) (O.taken output.new) }
+
+    // The input is too long.
+    ensures too_long { result.status ≡ 6 → TakesMoreThan LIMIT (I.left input.old) (I.left input.new) × Keeps (O.taken output.old) (O.taken output.new) }
+    ensures not_too_long { result.status ≢ 6 → result.status ≢ 5 → TakesAtMost LIMIT (I.left input.old) (I.left input.new) }
+
+    // It gives up for want of memory alone.
+    ensures complete { (bytes : List ℕ) → AreRead words.now →
+        IsUntroubled (I.left input.old) bytes None (I.faults input.old) (I.faults input.new) (O.faults output.old) (O.faults output.new) →
+        (result.status ≡ 0) ⊎ (result.status ≡ 5) }
+    ensures complete_refusal { (bytes : List ℕ) → (cause : Cause) → AreRead words.now →
+        IsUntroubled (I.left input.old) bytes (Some cause) (I.faults input.old) (I.faults input.new) (O.faults output.old) (O.faults output.new) →
+        (result.status ≡ 1) ⊎ (result.status ≡ 5) }
+
+    ensures no_output { (result.status ≡ 2) ⊎ ((result.status ≡ 3) ⊎ (result.status ≡ 6)) → result.output ≡ None }
+    ensures later { (I.faults input.old ≤ I.faults input.new) × (O.faults output.old ≤ O.faults output.new) }
+{
+    if !are_read(words) {
+        return Ran {
+            status: 2,
+            output: None,
+        };
+    }
+    match read_input(alloc, input) {
+        Ok(bytes) => answer(alloc, bytes, output),
+        Err(stop) => Ran {
+            status: status_of(stop),
+            output: None,
+        },
+    }
+}
