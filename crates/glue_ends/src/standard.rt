@@ -59,7 +59,6 @@ impl<W: Write> WriteEnd<W> {
 }
 
 // Writes all the bytes, and flushes. A write that takes none of them is an error.
-#[tactic(auto, using(crate::proofs::Writing::up_to_start, crate::proofs::Writing::up_to_more, crate::proofs::Writing::up_to_prefix, crate::proofs::Writing::up_to_end))]
 fn write_whole<W: Write>(inner: &mut W, bytes: &[u8]) -> io::Result<()>
     ensures ok { OnOk result (Appends (W.contents inner.old) (W.contents inner.new) bytes.now) }
     ensures prefix { AppendsPrefix (W.contents inner.old) (W.contents inner.new) bytes.now }
