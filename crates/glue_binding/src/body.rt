@@ -186,7 +186,6 @@ impl Body {
     }
 
     /// The statements, with the newest operand returned where there is one.
-    #[tactic(auto, unfolding(crate::specs::Body::plain_lines, crate::specs::Stack::stack_of))]
     fn finish(self) -> Result<Seq<Stmt>, AllocError>
         ensures tree { IfOk result (λ tree. plain_stmts tree ≡ lines_of (plain_lines self.lines ++ s.ending (stack_of self.stack))) }
     {

@@ -1,0 +1,13 @@
+use Rattle.std.proofs.Common.{◌+◌, drop}
+use Rattle.glue_binding.specs.Stack.{stack_of}
+use Rattle.glue_binding.proofs.Stacks.{lines_next, drop_next}
+use Rattle.glue_binding.proofs.body.body_of.Goals as goal
+
+pub loop-step-preserved : goal.loop-step-preserved
+loop-step-preserved c =
+    let steps = c.args.steps.now in
+    let i = c.loop-step.step-index in
+    let body = c.loop-step.body in
+    let after = c.in_ok-add.ensures.after in
+    lines_next (drop i steps) (drop (i + 1) steps) c.step-item.result c.args.params.now (stack_of body.stack) _ (stack_of body.coming) _ _ _ _
+    (drop_next steps i _ c.loop-step-test.true c.step-item.is) after.lines after.stack after.names c.loop-step.invariant
