@@ -1,7 +1,8 @@
 //! The parts of the glue file that every call of a target has: the frame of imports, and loading.
 //!
 //! On Deno the imports stand in one object that a function answers, and the module is fetched beside the file.
-ghost use Rattle.std.specs.Prelude.{◌≡◌, ◌++◌, ◌∷◌, [], map, IfOk, string_bytes};
+ghost use Rattle.std.specs.Prelude.{◌≡◌, ◌++◌, ◌∷◌, [], map, IfOk, OnOk, string_bytes};
+ghost use Rattle.glue_scope.specs.declared.item.Role.TheVariants.{Fixed};
 ghost use Rattle.glue_targets.specs.Targets.{file_name, kind_word, frame_start, frame_end, loading_item as the_loading_item};
 
 use glue_scope::{Item, Role, Word};
@@ -205,14 +206,21 @@ fn pieces_words(alloc: Global, stem: &str, pieces: &[Piece]) -> Result<Seq<Word>
     Ok(words)
 }
 
-// An item whose words are those of a text of pieces.
-fn pieces_item(alloc: Global, role: Role, stem: &str, pieces: &[Piece]) -> Result<Item, AllocError>
-    ensures item { IfOk result (λ item. item ≡ record { role = role; words = map (λ piece. kind_word stem.now piece.0 piece.1 piece.2.now) pieces.now }) }
+// Appends a fixed item, whose words are those of a text of pieces.
+fn push_fixed(
+    alloc: Global,
+    stem: &str,
+    pieces: &[Piece],
+    items: &mut Seq<Item>,
+) -> Result<(), AllocError>
+    ensures items { OnOk result (items.new ≡ items.old ++ record { role = Fixed; words = map (λ piece. kind_word stem.now piece.0 piece.1 piece.2.now) pieces.now } ∷ []) }
 {
-    Ok(Item {
-        role,
-        words: pieces_words(alloc, stem, pieces)?,
-    })
+    let words = pieces_words(alloc, stem, pieces)?;
+    items.push(Item {
+        role: Role::Fixed,
+        words,
+    })?;
+    Ok(())
 }
 
 /// The first item of the frame, the members in their order, and the last item of the frame.
@@ -225,9 +233,9 @@ pub fn frame_items(
 {
     let stem = settings.stem.as_str();
     let mut items = Seq::new(alloc);
-    items.push(pieces_item(alloc, Role::Fixed, stem, &FRAME_START)?)?;
+    push_fixed(alloc, stem, &FRAME_START, &mut items)?;
     items.append(defines)?;
-    items.push(pieces_item(alloc, Role::Fixed, stem, &FRAME_END)?)?;
+    push_fixed(alloc, stem, &FRAME_END, &mut items)?;
     Ok(items)
 }
 
@@ -235,5 +243,9 @@ pub fn frame_items(
 pub fn loading_item(alloc: Global, settings: &Settings) -> Result<Item, AllocError>
     ensures item { IfOk result (λ item. item ≡ the_loading_item settings.now.stem) }
 {
-    pieces_item(alloc, Role::Loading, settings.stem.as_str(), &LOADING)
+    let words = pieces_words(alloc, settings.stem.as_str(), &LOADING)?;
+    Ok(Item {
+        role: Role::Loading,
+        words,
+    })
 }
