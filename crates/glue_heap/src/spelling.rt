@@ -1,7 +1,8 @@
 //! From expressions and statements to their words.
-ghost use Rattle.std.specs.Prelude.{◌≡◌, ◌++◌, ◌∷◌, [], map, codes, IfOk, OnOk, List, ℕ, false};
+ghost use Rattle.std.specs.Prelude.{◌≡◌, ◌++◌, ◌∷◌, [], map, codes, IfOk, OnOk, Some, List, ℕ, false};
 ghost use Rattle.glue_heap.specs.Plainly.{plain_expr, plain_exprs, plain_stmt, plain_stmts};
 ghost use Rattle.glue_heap.specs.Spelling as s;
+ghost use Rattle.glue_heap.specs.Term.{Leave};
 ghost use Rattle.glue_scope.specs.Functions.{further_parameters, parameter_words, parenthesised};
 ghost use Rattle.glue_scope.specs.declared.word.Word.TheVariants as w;
 
@@ -88,7 +89,8 @@ fn push_comma_unless(alloc: Global, is_first: bool, words: &mut Seq<Word>) -> Re
     }
 }
 
-fn push_param(alloc: Global, name: &Text, words: &mut Seq<Word>) -> Result<(), AllocError>
+/// A local where it is bound.
+fn push_bound(alloc: Global, name: &Text, words: &mut Seq<Word>) -> Result<(), AllocError>
     ensures words { OnOk result (words.new ≡ words.old ++ w.LocalBind name.now ∷ []) }
 {
     words.push(Word::LocalBind(name.copy(alloc)?))?;
@@ -101,7 +103,7 @@ fn push_other_params(alloc: Global, names: &[Text], words: &mut Seq<Word>) -> Re
 {
     for name in names {
         push_comma(alloc, words)?;
-        push_param(alloc, name, words)?;
+        push_bound(alloc, name, words)?;
     }
     Ok(())
 }
@@ -112,7 +114,7 @@ fn push_params(alloc: Global, params: &[Text], words: &mut Seq<Word>) -> Result<
 {
     words.push(Word::Punct(OPEN_PAREN))?;
     if let [first, others @ ..] = params {
-        push_param(alloc, first, words)?;
+        push_bound(alloc, first, words)?;
         push_other_params(alloc, others, words)?;
     }
     words.push(Word::Punct(CLOSE_PAREN))?;
@@ -176,7 +178,7 @@ pub fn push_const(alloc: Global, name: &Text, words: &mut Seq<Word>) -> Result<(
 {
     words.push(Word::Key(CONST))?;
     push_gap(alloc, " ", words)?;
-    words.push(Word::LocalBind(name.copy(alloc)?))?;
+    push_bound(alloc, name, words)?;
     push_gap(alloc, " ", words)?;
     words.push(Word::Punct(EQUALS))?;
     push_gap(alloc, " ", words)?;
@@ -206,6 +208,16 @@ fn push_do(alloc: Global, value: &Expr, words: &mut Seq<Word>) -> Result<(), All
     Ok(())
 }
 
+/// `return e;`
+fn push_return(alloc: Global, value: &Expr, words: &mut Seq<Word>) -> Result<(), AllocError>
+    ensures words { OnOk result (words.new ≡ words.old ++ s.line_words (Leave (Some (plain_expr value.now)))) }
+{
+    words.push(Word::Key(RETURN))?;
+    push_gap(alloc, " ", words)?;
+    push_do(alloc, value, words)?;
+    Ok(())
+}
+
 fn push_line(alloc: Global, line: &Stmt, words: &mut Seq<Word>) -> Result<(), AllocError>
     ensures words { OnOk result (words.new ≡ words.old ++ s.line_words (plain_stmt line.now)) }
 {
@@ -217,12 +229,7 @@ fn push_line(alloc: Global, line: &Stmt, words: &mut Seq<Word>) -> Result<(), Al
             words.push(Word::Punct(SEMICOLON))?;
             Ok(())
         }
-        Stmt::Return(Some(value)) => {
-            words.push(Word::Key(RETURN))?;
-            push_gap(alloc, " ", words)?;
-            push_do(alloc, value, words)?;
-            Ok(())
-        }
+        Stmt::Return(Some(value)) => push_return(alloc, value, words),
         Stmt::Embedded(_, _, _, own) => push_all(alloc, own.as_slice(), words),
     }
 }
