@@ -30,11 +30,11 @@ pub fn body_of(
     alloc: Global,
     steps: &[Step],
     params: &[Text],
-    temps: &[Text],
+    temps: Seq<Text>,
 ) -> Result<Seq<Stmt>, AllocError>
-    ensures tree { IfOk result (λ tree. plain_stmts tree ≡ s.tree_of steps.now params.now temps.now) }
+    ensures tree { IfOk result (λ tree. plain_stmts tree ≡ s.tree_of steps.now params.now temps) }
 {
-    let mut body = Body::new(alloc, temps)?;
+    let mut body = Body::new(alloc, temps);
     for step in steps {
         body.add(alloc, step, params)?;
     }
@@ -53,21 +53,18 @@ fn param(alloc: Global, params: &[Text], place: u32) -> Result<Text, AllocError>
 
 impl Body {
     /// No operands and no statements, and these names to come.
-    fn new(alloc: Global, temps: &[Text]) -> Result<Body, AllocError>
-        ensures stack { IfOk result (λ body. stack_of body.stack ≡ []) }
-        ensures names { IfOk result (λ body. stack_of body.coming ≡ temps.now) }
-        ensures lines { IfOk result (λ body. plain_lines body.lines ≡ []) }
+    fn new(alloc: Global, temps: Seq<Text>) -> Body
+        ensures stack { stack_of result.stack ≡ [] }
+        ensures names { stack_of result.coming ≡ temps }
+        ensures lines { plain_lines result.lines ≡ [] }
     {
-        let mut coming = Vec::new(alloc);
-        for name in temps {
-            coming.push(name.copy(alloc)?)?;
-        }
+        let mut coming = temps.into_vec();
         coming.reverse();
-        Ok(Body {
+        Body {
             stack: Seq::new(alloc),
             coming: Seq::from_vec(coming),
             lines: Seq::new(alloc),
-        })
+        }
     }
 
     #[tactic(auto, unfolding(crate::specs::Body::plain_lines))]

@@ -10,12 +10,10 @@ returns g c =
     let steps = c.args.steps.now in
     let params = c.in_ok-params.params in
     let bound = g.N.Names.bound in
-    let tree = c.in_ok-tree.ensures.tree
-    ∙ ap (λ ps. tree_of steps ps c.as_slice-3.result.now) c.as_slice-2.ensures
-    ∙ ap (λ ts. tree_of steps params ts) c.as_slice-3.ensures in
+    let tree = c.in_ok-tree.ensures.tree ∙ ap (λ ps. tree_of steps ps c.in_ok-temps.temps) c.as_slice-2.ensures in
     let words = c.in_ok-words.ensures.words
-    ∙ ap (λ ps. function_words ps (plain_stmts c.as_slice-5.result.now)) c.as_slice-4.ensures
-    ∙ ap (λ body. function_words params (plain_stmts body)) c.as_slice-5.ensures in record {
+    ∙ ap (λ ps. function_words ps (plain_stmts c.as_slice-4.result.now)) c.as_slice-3.ensures
+    ∙ ap (λ body. function_words params (plain_stmts body)) c.as_slice-4.ensures in record {
       function = bound_function steps c.args.wanted.now _ c.in_ok-temps.temps _ (bound c.new-scope.result) (bound c.reserve_outer.new.scope) (bound c.draw.new.scope)
           c.new-scope.ensures.empty c.in_ok-reserve_outer.ensures.bound c.in_ok-params.ensures.drawn c.in_ok-params.ensures.bound
           (c.as_slice.ensures ∙ c.in_ok-others.ensures.wanted) c.in_ok-temps.ensures.drawn tree words (c.empty.ensures, c.empty-2.ensures, c.empty-3.ensures);
