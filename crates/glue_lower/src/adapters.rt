@@ -4,7 +4,8 @@ ghost use Rattle.serde_json.specs.Find.{get};
 ghost use Rattle.serde_json.specs.View.{view};
 ghost use Rattle.glue_lower.specs.Reading.{u32_of};
 ghost use Rattle.glue_lower.specs.Thin as spec;
-ghost use Rattle.glue_lower.specs.Thin.{import_id_of, type_of, numbered, signed, row, headed, instruction_of, call_of, kind_of, adapter_of};
+ghost use Rattle.glue_shared.specs.declared.adapter.Instruction.TheVariants.{Int32ToWasm};
+ghost use Rattle.glue_lower.specs.Thin.{import_id_of, type_of, bare, numbered, signed, row, headed, instruction_of, call_of, kind_of, adapter_of};
 
 use crate::fields::{has_keys_alone, list, required};
 use crate::reads::{LowerFault, Reads};
@@ -75,6 +76,17 @@ fn one_number(alloc: Global, parts: &[Value]) -> Result<u32, LowerFault>
     }
 }
 
+// No part of a row.
+fn no_parts(parts: &[Value]) -> Result<Instruction, LowerFault>
+    ensures ok { IfOk result (λ i. bare Int32ToWasm (map view parts.now) ≡ Some i) }
+    ensures failed { result ≡ Err LowerFault.Failed → bare Int32ToWasm (map view parts.now) ≡ None }
+{
+    match parts {
+        [] => Ok(Instruction::Int32ToWasm),
+        [_, ..] => Err(LowerFault::Failed),
+    }
+}
+
 // `false`, the one part of a row.
 fn one_false(parts: &[Value]) -> Result<Instruction, LowerFault>
     ensures ok { IfOk result (λ i. signed (map view parts.now) ≡ Some i) }
@@ -98,11 +110,7 @@ fn read_row(alloc: Global, name: &str, parts: &[Value]) -> Result<Instruction, L
         return Ok(Instruction::ArgGet(one_number(alloc, parts)?));
     }
     if name == "Int32ToWasm" {
-        return if parts.is_empty() {
-            Ok(Instruction::Int32ToWasm)
-        } else {
-            Err(LowerFault::Failed)
-        };
+        return no_parts(parts);
     }
     if name == "WasmToInt32" {
         return one_false(parts);

@@ -4,13 +4,15 @@ ghost use Rattle.serde_json.specs.Read.{read};
 ghost use Rattle.serde_json.specs.View.{view};
 ghost use Rattle.glue_lower.specs.Document.{description_in, versioned_of};
 
-use crate::reads::{LowerFault, Reads};
-use crate::whole::is_versioned;
+use crate::fields::has_keys_alone;
+use crate::reads::LowerFault;
+use crate::whole::{is_versioned, read_parts};
 use glue_shared::Description;
 use serde_json::Value;
 use std::alloc::Global;
 
 // The description, or none where its form isn't read. Fails where the version doesn't stand.
+#[tactic(auto, unfolding(crate::specs::Thin::thin_description_of))]
 fn read_versioned(alloc: Global, value: &Value) -> Result<Option<Description>, LowerFault>
     ensures ok { IfOk result (λ d. versioned_of (view value.now) ≡ Some d) }
     ensures failed { result ≡ Err LowerFault.Failed → versioned_of (view value.now) ≡ None }
@@ -18,7 +20,13 @@ fn read_versioned(alloc: Global, value: &Value) -> Result<Option<Description>, L
     if !is_versioned(value) {
         return Err(LowerFault::Failed);
     }
-    match Description::read(alloc, value) {
+    if !has_keys_alone(
+        value,
+        &["version", "adapters", "exports", "implements", "imports"],
+    ) {
+        return Ok(None);
+    }
+    match read_parts(alloc, value) {
         Ok(description) => Ok(Some(description)),
         Err(LowerFault::Failed) => Ok(None),
         Err(LowerFault::OutOfMemory) => Err(LowerFault::OutOfMemory),

@@ -5,7 +5,8 @@ ghost use Rattle.wasm_core.specs.Contents.{Contents};
 ghost use Rattle.glue_ends.specs.Causes.{Rose};
 ghost use Rattle.glue_shared.specs.declared.description.Lowered.{Lowered};
 ghost use Rattle.glue_shared.specs.declared.settings.Settings.{Settings};
-ghost use Rattle.glue_lower.specs.Lowering.{described_by, glue_sections, listed, lowered, lowered_of};
+ghost use Rattle.wasm_core.specs.Edits.{without_custom};
+ghost use Rattle.glue_lower.specs.Lowering.{described_by, glue_sections, listed, lowered, lowered_of, section_name};
 
 use crate::document::read_description;
 use crate::reads::LowerFault;
@@ -105,10 +106,12 @@ fn read_customs(alloc: Global, customs: &[Custom]) -> Result<Option<Description>
     }
 }
 
-// A module with its description, or with an empty one.
+// The module without the section, with its description or with an empty one.
 fn with_description(alloc: Global, module: Module, description: Option<Description>) -> Lowered
-    ensures { result ≡ lowered «module» description }
+    ensures { result ≡ lowered (without_custom section_name «module») description }
 {
+    let mut module = module;
+    module.remove_custom("__wbg_glue");
     match description {
         Some(Description { wit, aux }) => Lowered {
             module,
@@ -131,8 +134,11 @@ fn read_module(alloc: Global, settings: &Settings, module: Module) -> Result<Low
     ensures ok { IfOk result (λ l. lowered_of settings.now «module» ≡ Some l) }
     ensures failed { result ≡ Err LowerFault.Failed → lowered_of settings.now «module» ≡ None }
 {
-    let mut module = module;
-    let description = read_customs(alloc, module.customs())?;
-    module.remove_custom("__wbg_glue");
-    Ok(with_description(alloc, module, description))
+    match read_customs(alloc, module.customs()) {
+        Ok(description) => Ok(with_description(alloc, module, description)),
+        Err(fault) => {
+            drop(module);
+            Err(fault)
+        }
+    }
 }

@@ -1,5 +1,5 @@
 //! Reading exports and imports.
-ghost use Rattle.std.specs.Prelude.{◌≡◌, IfOk, None, Some, map};
+ghost use Rattle.std.specs.Prelude.{◌≡◌, ◌≢◌, IfOk, None, Some, map};
 ghost use Rattle.serde_json.specs.View.{view};
 ghost use Rattle.glue_lower.specs.Thin.{bare_of, export, export_kind_of, export_of, js_of, import_of, described_import_of};
 
@@ -11,7 +11,7 @@ use glue_shared::{
     JsImportName,
 };
 use serde_json::Value;
-use std::alloc::{AllocError, Global};
+use std::alloc::Global;
 use values::{Duplicate, Seq, Text};
 
 impl Reads for AuxExportKind {
@@ -33,8 +33,9 @@ fn plain_export(
     kind: AuxExportKind,
     name: Text,
     args: Seq<Text>,
-) -> Result<AuxExport, AllocError>
-    ensures { IfOk result (λ e. e ≡ export adapter kind name args) }
+) -> Result<AuxExport, LowerFault>
+    ensures ok { IfOk result (λ e. e ≡ export adapter kind name args) }
+    ensures memory { result ≢ Err LowerFault.Failed }
 {
     let debug = name.copy(alloc)?;
     Ok(AuxExport {
@@ -66,7 +67,7 @@ impl Reads for AuxExport {
         let kind = required(alloc, value, "kind")?;
         let name = required(alloc, value, "name")?;
         let args = list(alloc, value, "args")?;
-        Ok(plain_export(alloc, adapter, kind, name, args)?)
+        plain_export(alloc, adapter, kind, name, args)
     }
 }
 

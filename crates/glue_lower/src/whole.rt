@@ -1,11 +1,11 @@
-//! Reading a whole description.
+//! Reading the parts of a whole description.
 ghost use Rattle.std.specs.Prelude.{◌≡◌, [], IfOk, None, Some};
 ghost use Rattle.serde_json.specs.View.{view};
 ghost use Rattle.glue_lower.specs.Thin as spec;
-ghost use Rattle.glue_lower.specs.Thin.{adapters_of, description, import_id_of, parts_of, put_all, thin_description_of};
+ghost use Rattle.glue_lower.specs.Thin.{adapters_of, description, import_id_of, parts_of, put_all};
 ghost use Rattle.glue_lower.specs.Reading.{pair_of, u32_of};
 
-use crate::fields::{has_keys_alone, list, read_pair};
+use crate::fields::{list, read_pair};
 use crate::reads::{LowerFault, Reads};
 use glue_shared::{Adapter, AdapterId, AuxExport, AuxImport, Description};
 use serde_json::Value;
@@ -76,9 +76,9 @@ fn described(
     description
 }
 
-// The parts of a description.
+/// The parts of a description.
 #[tactic(auto, unfolding(crate::specs::Thin::parts_of))]
-fn read_parts(alloc: Global, value: &Value) -> Result<Description, LowerFault>
+pub fn read_parts(alloc: Global, value: &Value) -> Result<Description, LowerFault>
     ensures ok { IfOk result (λ d. parts_of (view value.now) ≡ Some d) }
     ensures failed { result ≡ Err LowerFault.Failed → parts_of (view value.now) ≡ None }
 {
@@ -87,22 +87,4 @@ fn read_parts(alloc: Global, value: &Value) -> Result<Description, LowerFault>
     let exports = list(alloc, value, "exports")?;
     let imports = list(alloc, value, "imports")?;
     Ok(described(alloc, adapters, implements, exports, imports))
-}
-
-impl Reads for Description {
-    ghost reads = { thin_description_of };
-
-    #[tactic(auto, unfolding(crate::specs::Thin::thin_description_of))]
-    fn read(alloc: Global, value: &Value) -> Result<Self, LowerFault> {
-        if !is_versioned(value) {
-            return Err(LowerFault::Failed);
-        }
-        if !has_keys_alone(
-            value,
-            &["version", "adapters", "exports", "implements", "imports"],
-        ) {
-            return Err(LowerFault::Failed);
-        }
-        read_parts(alloc, value)
-    }
 }
