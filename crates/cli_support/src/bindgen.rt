@@ -193,12 +193,13 @@ fn import_name(alloc: Global, module: &Module, place: u32) -> Result<Option<Text
 fn move_import(alloc: Global, module: &mut Module, stem: &str, place: u32) -> Result<(), AllocError>
     ensures moved { OnOk result («module».new ≡ moved_one stem.now place (entry_at «module».old.imports place) «module».old) }
 {
-    let name = import_name(alloc, module, place)?;
-    if let Some(name) = name {
-        let home = glue_module_name(alloc, stem)?;
-        module.set_import(alloc, ImportId(place), home.as_str(), name.as_str())?;
+    match import_name(alloc, module, place)? {
+        Some(name) => {
+            let home = glue_module_name(alloc, stem)?;
+            module.set_import(alloc, ImportId(place), home.as_str(), name.as_str())
+        }
+        None => Ok(()),
     }
-    Ok(())
 }
 
 // Moves the imports that adapters implement to the glue file's module.
@@ -399,6 +400,7 @@ fn generate_from<L: Lowering>(
     ensures later { L.faults lowering.old ≤ L.faults lowering.new }
 {
     if !is_deno(&settings.target) {
+        drop(module);
         return Err(not_built(alloc, "target"));
     }
     match prepare(alloc, module) {
