@@ -188,7 +188,5 @@ pub fn read_code_entry(
     let len = reader.number32()? as usize;
     let mut inside = reader.part(len);
     let body = read_body(&mut inside, alloc, counts, params)?;
-    inside.finish()?;
-    let _ = reader.frame(len)?;
-    Ok(body)
+    inside.finish().and(reader.frame(len)).and(Ok(body))
 }

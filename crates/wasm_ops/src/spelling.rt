@@ -281,27 +281,27 @@ fn push_coded_signed(out: &mut Vec<u8>, code: u8, value: i64) -> Result<(), Allo
 fn write_op(out: &mut Vec<u8>, numbers: &Numbering, op: &Op) -> Result<(), AllocError>
     ensures { OnOk result (out.new.items ≡ out.old.items ++ op_bytes (renumbered_op numbers.now op.now)) }
 {
-    match op {
-        Op::Plain(code) => push_bytes(out, *code, &[]),
-        Op::Block(code, ty) => write_block(out, *code, numbers, *ty),
-        Op::Tag(code, tag) => push_place(out, *code, &numbers.tags, tag.0),
-        Op::Label(code, label) => push_coded(out, *code, *label),
-        Op::BrTable(labels, label) => write_br_table(out, labels.as_slice(), *label),
-        Op::Func(code, func) => push_place(out, *code, &numbers.funcs, func.0),
-        Op::Indirect(code, ty, table) => write_indirect(out, *code, numbers, *ty, *table),
-        Op::Select(types) => write_select(out, types.as_slice()),
-        Op::TryTable(ty, clauses) => write_try_table(out, numbers, *ty, clauses.as_slice()),
-        Op::Local(code, local) => push_coded(out, *code, *local),
-        Op::Global(code, global) => push_place(out, *code, &numbers.globals, global.0),
-        Op::Table(code, table) => push_place(out, *code, &numbers.tables, table.0),
-        Op::Mem(code, arg) => write_mem(out, *code, numbers, *arg),
-        Op::Memory(code, memory) => push_place(out, *code, &numbers.memories, memory.0),
-        Op::Const32(value) => push_coded_signed(out, 0x41, *value as i64),
-        Op::Const64(value) => push_coded_signed(out, 0x42, *value),
-        Op::Raw4(bytes) => push_bytes(out, 0x43, bytes),
-        Op::Raw8(bytes) => push_bytes(out, 0x44, bytes),
+    match *op {
+        Op::Plain(code) => push_bytes(out, code, &[]),
+        Op::Block(code, ty) => write_block(out, code, numbers, ty),
+        Op::Tag(code, tag) => push_place(out, code, &numbers.tags, tag.0),
+        Op::Label(code, label) => push_coded(out, code, label),
+        Op::BrTable(ref labels, label) => write_br_table(out, labels.as_slice(), label),
+        Op::Func(code, func) => push_place(out, code, &numbers.funcs, func.0),
+        Op::Indirect(code, ty, table) => write_indirect(out, code, numbers, ty, table),
+        Op::Select(ref types) => write_select(out, types.as_slice()),
+        Op::TryTable(ty, ref clauses) => write_try_table(out, numbers, ty, clauses.as_slice()),
+        Op::Local(code, local) => push_coded(out, code, local),
+        Op::Global(code, global) => push_place(out, code, &numbers.globals, global.0),
+        Op::Table(code, table) => push_place(out, code, &numbers.tables, table.0),
+        Op::Mem(code, arg) => write_mem(out, code, numbers, arg),
+        Op::Memory(code, memory) => push_place(out, code, &numbers.memories, memory.0),
+        Op::Const32(value) => push_coded_signed(out, 0x41, value as i64),
+        Op::Const64(value) => push_coded_signed(out, 0x42, value),
+        Op::Raw4(ref bytes) => push_bytes(out, 0x43, bytes),
+        Op::Raw8(ref bytes) => push_bytes(out, 0x44, bytes),
         Op::RefNull(ty) => push_bytes(out, 0xD0, &[ty.code()]),
-        Op::FcPlain(code) => push_coded(out, 0xFC, *code),
+        Op::FcPlain(code) => push_coded(out, 0xFC, code),
         Op::MemoryInit(segment, memory) => {
             push_bulk_pair(
                 out,
@@ -324,12 +324,12 @@ fn write_op(out: &mut Vec<u8>, numbers: &Numbering, op: &Op) -> Result<(), Alloc
         Op::TableCopy(to, from) => {
             push_bulk_pair(out, 14, &numbers.tables, to.0, &numbers.tables, from.0)
         }
-        Op::FcTable(code, table) => push_bulk(out, *code, &numbers.tables, table.0),
-        Op::Simd(code) => push_coded(out, 0xFD, *code),
-        Op::SimdMem(code, arg) => write_simd_mem(out, numbers, *code, *arg, &[]),
-        Op::SimdMemLane(code, arg, lane) => write_simd_mem(out, numbers, *code, *arg, &[*lane]),
-        Op::SimdBytes(code, bytes) => push_coded_bytes(out, 0xFD, *code, bytes),
-        Op::SimdLane(code, lane) => push_coded_bytes(out, 0xFD, *code, &[*lane]),
+        Op::FcTable(code, table) => push_bulk(out, code, &numbers.tables, table.0),
+        Op::Simd(code) => push_coded(out, 0xFD, code),
+        Op::SimdMem(code, arg) => write_simd_mem(out, numbers, code, arg, &[]),
+        Op::SimdMemLane(code, arg, lane) => write_simd_mem(out, numbers, code, arg, &[lane]),
+        Op::SimdBytes(code, ref bytes) => push_coded_bytes(out, 0xFD, code, bytes),
+        Op::SimdLane(code, lane) => push_coded_bytes(out, 0xFD, code, &[lane]),
     }
 }
 

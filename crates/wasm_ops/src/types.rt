@@ -5,7 +5,7 @@ ghost use Rattle.wasm_ops.specs.Types.{code_of, is_reference, val_type_of};
 use values::Seq;
 
 /// The type of a value: numbers, vectors and references.
-#[derive(Clone, Copy, Debug, PartialEq, Eq, PartialOrd, Ord, Hash)]
+#[derive(Clone, Copy, Debug, PartialEq, Eq)]
 pub enum ValType {
     I32,
     I64,
