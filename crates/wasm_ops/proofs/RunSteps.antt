@@ -1,12 +1,12 @@
 -- Runs of locals, one after another, as a loop does.
-use Rattle.std.proofs.Common.{drop, length, lt-ltb, Option, Some, None, append_assoc, ◌≡◌, ℕ, suc, ◌-◌, ◌+◌, ◌≤◌, ◌<◌, [], ◌∷◌, ◌++◌, Result, Ok, Err, refl, sym, ap, ◌∙◌, arith}
+use Rattle.std.proofs.Common.{drop, length, Bool, true, false, if◌then◌else◌, nat_le, rules, lt-ltb, Option, Some, None, append_assoc, ◌≡◌, ℕ, suc, ◌-◌, ◌+◌, ◌≤◌, ◌<◌, [], ◌∷◌, ◌++◌, Result, Ok, Err, refl, sym, ap, ◌∙◌, arith}
 use Rattle.std.proofs.lemmas.List.{append-nil, drop_all}
 use Rattle.wasm_bytes.specs.declared.fault.ReadFault.{ReadFault}
 use Rattle.wasm_bytes.specs.declared.fault.ReadFault.TheVariants as faults
 use Rattle.wasm_bytes.specs.Reading.{Input}
 use Rattle.wasm_bytes.specs.Gives.{Fails}
 use Rattle.wasm_bytes.proofs.Loop.{with_front, regroup}
-use Rattle.wasm_ops.specs.Locals.{Runs, run, runs, joined_pair, joined_from, without_empty, joined_runs, joined_behind}
+use Rattle.wasm_ops.specs.Locals.{checked_total, most_locals, Runs, run, runs, joined_pair, joined_from, without_empty, joined_runs, joined_behind}
 use Rattle.wasm_ops.specs.declared.types.ValType.{ValType}
 
 pub runs_more : (front : Runs) (count i before : ℕ) (s : Input) (r : ℕ × ValType) (after : Input) (total : Result (Runs × Input) ℕ) → i < count → run before s ≡ Ok (r, after)
@@ -79,3 +79,10 @@ pub ends_with_run : (done : Runs) (last : Option (ℕ × ValType)) (r : ℕ × V
 ends_with_run done last r i rs total le is so_far =
     let one : done ++ joined_behind last (drop i rs) ≡ done ++ r ∷ [] = rw (is, drop_all i rs le, last_of_runs r) refl in
     sym one ∙ so_far
+
+some_sum : (fits : Bool) (total sum : ℕ) → Some sum ≡ (if fits then Some total else None) → sum ≡ total
+some_sum true total sum h = search rules
+some_sum false total sum h = search rules
+
+pub sum_is : (before count sum : ℕ) → Some sum ≡ checked_total before count → sum ≡ before + count
+sum_is before count sum h = some_sum (nat_le (before + count) most_locals) (before + count) sum h
