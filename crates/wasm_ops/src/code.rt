@@ -65,10 +65,7 @@ fn read_next_op(
 {
     let op = read_op(reader, alloc, counts, labels)?;
     update_labels(labels, &op)?;
-    if labels.is_empty() {
-        return Ok(None);
-    }
-    Ok(Some(op))
+    Ok((!labels.is_empty()).then_some(op))
 }
 
 /// The operators of a body, up to the one that closes it.
@@ -79,8 +76,7 @@ fn read_expression(
 ) -> Result<Seq<Op>, ReadFault>
     ensures { Gives result reader.new (expression counts.now reader.old) }
 {
-    let mut labels = Vec::new(alloc);
-    labels.push(false)?;
+    let mut labels = vec![in alloc; false]?;
     let mut ops = Seq::new(alloc);
     for _ in 0..reader.len() {
         match read_next_op(reader, alloc, counts, &mut labels)? {
