@@ -44,13 +44,13 @@ impl Places {
     }
 }
 
-/// Imports, each of the next item of its kind.
+/// Adds imports, each of the next item of its kind.
 #[tactic(auto, unfolding(crate::specs::Parsing::imports_behind))]
-pub(crate) fn place_imports(
-    alloc: Global,
+pub(crate) fn add_imports(
+    entries: &mut Vec<Option<Import>>,
     imports: Seq<FileImport>,
-) -> Result<Vec<Option<Import>>, AllocError>
-    ensures { IfOk result (λ v. v.items ≡ imports_behind [] imports) }
+) -> Result<(), AllocError>
+    ensures { OnOk result (entries.new.items ≡ entries.old.items ++ imports_behind [] imports) }
 {
     let mut places = Places {
         funcs: 0,
@@ -59,16 +59,15 @@ pub(crate) fn place_imports(
         globals: 0,
         tags: 0,
     };
-    let mut placed = Vec::new(alloc);
     for import in imports.into_vec() {
         let kind = places.take(import.ty)?;
-        placed.push(Some(Import {
+        entries.push(Some(Import {
             module: import.module,
             name: import.name,
             kind,
         }))?;
     }
-    Ok(placed)
+    Ok(())
 }
 
 /// What an import can bring in.
@@ -159,21 +158,21 @@ impl Imported for Tag {
     }
 }
 
-/// What imports bring in of one kind.
+/// Adds what imports bring in of one kind.
 fn import_all<T: Imported>(
     alloc: Global,
+    entries: &mut Vec<Option<T>>,
     imports: &[FileImport],
-) -> Result<Vec<Option<T>>, AllocError>
+) -> Result<(), AllocError>
     requires { length imports.now < 2 ^ 32 }
-    ensures { IfOk result (λ v. v.items ≡ map Some (brought T.imported imports.now)) }
+    ensures { OnOk result (entries.new.items ≡ entries.old.items ++ map Some (brought T.imported imports.now)) }
 {
-    let mut items = Vec::new(alloc);
     for (place, import) in imports.iter().enumerate() {
         if let Some(item) = T::from_import(alloc, ImportId(place as u32), import.ty) {
-            items.push(Some(item))?;
+            entries.push(Some(item))?;
         }
     }
-    Ok(items)
+    Ok(())
 }
 
 /// What a file has of an entry that isn't imported.
@@ -246,20 +245,21 @@ impl Own for TypeId {
     }
 }
 
-/// All entries of a kind: the imported ones, and then the others.
-pub(crate) fn with_own<T: Own>(
+/// Adds all entries of a kind: the imported ones, and then the others.
+pub(crate) fn add_all<T: Own>(
     alloc: Global,
+    entries: &mut Vec<Option<T::Entry>>,
     imports: &[FileImport],
     own: Seq<T>,
-) -> Result<Vec<Option<T::Entry>>, AllocError>
+) -> Result<(), AllocError>
     requires { length imports.now < 2 ^ 32 }
-    ensures { IfOk result (λ v. v.items ≡ joined (brought T.Entry.imported imports.now) (map T.entry own)) }
+    ensures { OnOk result (entries.new.items ≡ entries.old.items ++ joined (brought T.Entry.imported imports.now) (map T.entry own)) }
 {
-    let mut items = import_all(alloc, imports)?;
+    import_all(alloc, entries, imports)?;
     for item in own.into_vec() {
-        items.push(Some(item.into_entry()))?;
+        entries.push(Some(item.into_entry()))?;
     }
-    Ok(items)
+    Ok(())
 }
 
 /// Adds functions with their bodies.
@@ -285,15 +285,17 @@ fn join_bodies(
     Ok(())
 }
 
-/// Entries, each at its place.
-pub(crate) fn place_all<T: Drop>(alloc: Global, items: Seq<T>) -> Result<Vec<Option<T>>, AllocError>
-    ensures { IfOk result (λ v. v.items ≡ map Some items) }
+/// Adds entries, each at its place.
+pub(crate) fn place_all<T: Drop>(
+    entries: &mut Vec<Option<T>>,
+    items: Seq<T>,
+) -> Result<(), AllocError>
+    ensures { OnOk result (entries.new.items ≡ entries.old.items ++ map Some items) }
 {
-    let mut placed = Vec::new(alloc);
     for item in items.into_vec() {
-        placed.push(Some(item))?;
+        entries.push(Some(item))?;
     }
-    Ok(placed)
+    Ok(())
 }
 
 /// The names that a custom section gives, none where it is another than a name section, or doesn't read.
@@ -409,19 +411,21 @@ pub(crate) fn drop_read(customs: &mut Vec<Custom>, keep_debug: bool)
     customs.retain(|custom| is_kept(custom, keep_debug));
 }
 
-/// All functions, without names.
-pub(crate) fn all_funcs(
+/// Adds all functions, without names.
+pub(crate) fn add_funcs(
     alloc: Global,
+    funcs: &mut Vec<Option<Func>>,
     imports: &[FileImport],
     types: &[TypeId],
     bodies: Seq<Body>,
-) -> Result<Vec<Option<Func>>, AllocError>
+) -> Result<(), AllocError>
+    requires none { funcs.old.items ≡ [] }
     requires few { length imports.now < 2 ^ 32 }
     requires paired { length types.now ≡ length bodies }
-    ensures value { IfOk result (λ v. v.items ≡ joined (brought imported_func imports.now) (own_funcs types.now bodies)) }
-    ensures few { IfOk result (λ v. length v.items ≤ length imports.now + length types.now) }
+    ensures value { OnOk result (funcs.new.items ≡ joined (brought imported_func imports.now) (own_funcs types.now bodies)) }
+    ensures few { OnOk result (length funcs.new.items ≤ length imports.now + length types.now) }
 {
-    let mut funcs = import_all(alloc, imports)?;
-    join_bodies(&mut funcs, types, bodies)?;
-    Ok(funcs)
+    import_all(alloc, funcs, imports)?;
+    join_bodies(funcs, types, bodies)?;
+    Ok(())
 }

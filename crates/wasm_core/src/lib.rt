@@ -8,14 +8,13 @@
 
 mod added;
 mod assemble;
-mod both;
 mod collect;
 mod declarers;
 mod edges;
 mod edits;
 mod emit;
 mod faults;
-mod groups;
+mod fill;
 mod lists;
 mod lookup;
 mod module;

@@ -1,9 +1,8 @@
 //! The numbers that entries have in the file that is written (WebAssembly core specification, 5.5.1).
 
-ghost use Rattle.std.specs.Prelude.{◌≡◌, ◌+◌, count_by, is_some, IfOk};
+ghost use Rattle.std.specs.Prelude.{◌≡◌, ◌+◌, ◌++◌, [], count_by, is_some, IfOk, OnOk};
 ghost use Rattle.wasm_core.specs.Renumbering.{is_first, is_other, numbers, numbering, never, advanced, next_number};
 
-use crate::both::both;
 use crate::module::Module;
 use crate::types::{Func, GlobalVar, Memory, Table, Tag};
 use std::alloc::{AllocError, Global};
@@ -137,45 +136,60 @@ fn count_imported<T: Numbered>(entries: &[Option<T>]) -> usize
     entries.iter().filter(|entry| is_first(*entry)).count()
 }
 
-/// The number of each place of a list. More than 4,294,967,295 entries can't be numbered: then it is `AllocError`.
+/// Adds the number of each place of a list. More than 4,294,967,295 entries can't be numbered: then it is `AllocError`.
 #[tactic(auto, unfolding(crate::specs::Renumbering::numbers))]
-fn numbers<T: Numbered>(alloc: Global, entries: &[Option<T>]) -> Result<Seq<u32>, AllocError>
-    ensures { IfOk result (λ xs. xs ≡ numbers T.test entries.now) }
+fn add_numbers<T: Numbered>(out: &mut Seq<u32>, entries: &[Option<T>]) -> Result<(), AllocError>
+    ensures { OnOk result (out.new ≡ out.old ++ numbers T.test entries.now) }
 {
     let mut next = Next {
         imported: 0,
         own: u32::try_from(count_imported(entries)).map_err(|_| AllocError)?,
     };
-    let mut numbers = Seq::new(alloc);
     for entry in entries {
-        numbers.push(next.take(entry)?)?;
+        out.push(next.take(entry)?)?;
     }
-    Ok(numbers)
+    Ok(())
+}
+
+/// No numbers.
+fn no_numbers(alloc: Global) -> Numbering
+    ensures { result ≡ record { types = []; funcs = []; tables = []; memories = []; globals = []; tags = []; elems = []; segments = [] } }
+{
+    Numbering {
+        types: Seq::new(alloc),
+        funcs: Seq::new(alloc),
+        tables: Seq::new(alloc),
+        memories: Seq::new(alloc),
+        globals: Seq::new(alloc),
+        tags: Seq::new(alloc),
+        elems: Seq::new(alloc),
+        segments: Seq::new(alloc),
+    }
 }
 
 impl Module {
     /// The number of each place of each list.
-    #[tactic(auto, unfolding(crate::specs::Renumbering::numbering))]
     pub(crate) fn numbering(&self, alloc: Global) -> Result<Numbering, AllocError>
         ensures { IfOk result (λ n. n ≡ numbering self.now) }
     {
-        let ((types, funcs), (tables, memories)) = both(
-            both(numbers(alloc, &self.types), numbers(alloc, &self.funcs)),
-            both(numbers(alloc, &self.tables), numbers(alloc, &self.memories)),
-        )?;
-        let ((globals, tags), (elems, segments)) = both(
-            both(numbers(alloc, &self.globals), numbers(alloc, &self.tags)),
-            both(numbers(alloc, &self.elems), numbers(alloc, &self.segments)),
-        )?;
-        Ok(Numbering {
-            types,
-            funcs,
-            tables,
-            memories,
-            globals,
-            tags,
-            elems,
-            segments,
-        })
+        let mut numbers = no_numbers(alloc);
+        let done = self.number(&mut numbers);
+        done.and(Ok(numbers))
+    }
+
+    /// Adds the number of each place of each list to no numbers.
+    #[tactic(auto, unfolding(crate::specs::Renumbering::numbering))]
+    fn number(&self, numbers: &mut Numbering) -> Result<(), AllocError>
+        requires { numbers.old ≡ record { types = []; funcs = []; tables = []; memories = []; globals = []; tags = []; elems = []; segments = [] } }
+        ensures { OnOk result (numbers.new ≡ numbering self.now) }
+    {
+        add_numbers(&mut numbers.types, &self.types)?;
+        add_numbers(&mut numbers.funcs, &self.funcs)?;
+        add_numbers(&mut numbers.tables, &self.tables)?;
+        add_numbers(&mut numbers.memories, &self.memories)?;
+        add_numbers(&mut numbers.globals, &self.globals)?;
+        add_numbers(&mut numbers.tags, &self.tags)?;
+        add_numbers(&mut numbers.elems, &self.elems)?;
+        add_numbers(&mut numbers.segments, &self.segments)
     }
 }

@@ -3,7 +3,6 @@
 ghost use Rattle.std.specs.Prelude.{◌≡◌, map, IfOk, OnOk, OnErr};
 ghost use Rattle.wasm_core.specs.Edits.{updated, updated_field, new_field, with_version, with_field, with_processed_by};
 
-use crate::both::both;
 use crate::lookup::has_named;
 use crate::module::Module;
 use std::alloc::{AllocError, Global};
@@ -32,7 +31,8 @@ impl Module {
 fn new_value(alloc: Global, name: &str, version: &str) -> Result<ProducerValue, AllocError>
     ensures { IfOk result (λ v. v ≡ record { name = name.now; version = version.now }) }
 {
-    let (name, version) = both(Text::from_str(alloc, name), Text::from_str(alloc, version))?;
+    let name = Text::from_str(alloc, name)?;
+    let version = Text::from_str(alloc, version)?;
     Ok(ProducerValue { name, version })
 }
 

@@ -5,4 +5,4 @@ use Rattle.wasm_core.proofs.assemble.place_all.Given as goal
 abbrev pub invariant-loop-item : goal.invariant-loop-item
 invariant-loop-item g l = (goal.iterator-loop-item g).can_next l.item-iterator
     × (goal.iterator-loop-item g).is_finite l.item-iterator
-    × (l.placed.items ++ map Some (into_iter_items l.item-iterator) ≡ map Some l.fn.items)
+    × (l.entries.items ++ map Some (into_iter_items l.item-iterator) ≡ l.fn.entries.items ++ map Some l.fn.items)

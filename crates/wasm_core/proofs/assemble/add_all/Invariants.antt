@@ -1,8 +1,8 @@
 use Rattle.std.proofs.Common.{◌≡◌, ◌++◌, map, Some}
 use Rattle.std.specs.Vec.Iter.{into_iter_items}
-use Rattle.wasm_core.proofs.assemble.with_own.Given as goal
+use Rattle.wasm_core.proofs.assemble.add_all.Given as goal
 
 abbrev pub invariant-loop-item : goal.invariant-loop-item
 invariant-loop-item g l = (goal.iterator-loop-item g).can_next l.item-iterator
     × (goal.iterator-loop-item g).is_finite l.item-iterator
-    × (l.items.items ++ map Some (map g.T.Own.entry (into_iter_items l.item-iterator)) ≡ l.initial.items.items ++ map Some (map g.T.Own.entry l.fn.own))
+    × (l.entries.items ++ map Some (map g.T.Own.entry (into_iter_items l.item-iterator)) ≡ l.initial.entries.items ++ map Some (map g.T.Own.entry l.fn.own))
