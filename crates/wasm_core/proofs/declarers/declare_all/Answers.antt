@@ -1,3 +1,5 @@
+use Rattle.std.proofs.Common.{arith}
+use Rattle.std.proofs.lemmas.Grind.{common_steps}
 use Rattle.wasm_core.proofs.Declared.{entries_begin, entries_more}
 use Rattle.wasm_core.proofs.declarers.declare_all.Goals as goal
 
@@ -6,3 +8,6 @@ loop-place-init g c = entries_begin g.T.Declares.named g.T.Declares.thing c.args
 
 pub loop-place-preserved : goal.loop-place-preserved
 loop-place-preserved g c = entries_more g.T.Declares.named g.T.Declares.thing c.args.entries.now c.loop-place.place c.index-entries-place.result c.args.declarers.now.items c.loop-place.declarers.items c.declare.new.declarers.items c.loop-place-test.true c.index-entries-place.is c.loop-place.invariant c.in_ok-declare.ensures
+
+pub returns : goal.returns
+returns g c = grind (arith, common_steps)

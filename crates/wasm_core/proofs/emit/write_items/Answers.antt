@@ -1,3 +1,5 @@
+use Rattle.std.proofs.Common.{arith}
+use Rattle.std.proofs.lemmas.Grind.{common_steps}
 use Rattle.wasm_core.proofs.Filed.{all_counted, all_written}
 use Rattle.wasm_core.proofs.emit.write_items.Goals as goal
 
@@ -7,3 +9,6 @@ returns g c =
       all_counted file c.args.items.now c.loop-item.item-index c.loop-item.count c.loop-item-test.false c.loop-item.invariant.count,
       all_written file g.L.FileList.spelled c.args.items.now c.loop-item.item-index c.args.out.now.items c.loop-item.out.items c.loop-item-test.false c.loop-item.invariant.bytes,
     )
+
+pub loop-item-preserved : goal.loop-item-preserved
+loop-item-preserved g c = grind (arith, common_steps)

@@ -1,4 +1,5 @@
-use Rattle.std.proofs.Common.{rules, ◌<◌, length}
+use Rattle.std.proofs.Common.{rules, ◌<◌, length, arith}
+use Rattle.std.proofs.lemmas.Grind.{common_steps}
 use Rattle.wasm_core.specs.Reach.{table_segments, is_imported_table}
 use Rattle.wasm_core.proofs.Places.{imported_none, imported_more}
 use Rattle.wasm_core.proofs.edges.Edges.push_imported_tables.Goals as goal
@@ -10,3 +11,6 @@ pub loop-place-preserved : goal.loop-place-preserved
 loop-place-preserved c =
     let lt : c.loop-place.place < length c.args.self.now.tables = search rules in
     imported_more (table_segments c.args.self.now) is_imported_table c.args.self.now.tables c.loop-place.place c.args.out.now.items c.loop-place.out.items c.push_imported_table.new.out.items lt c.loop-place.invariant c.in_ok-push_imported_table.ensures
+
+pub returns : goal.returns
+returns c = grind (arith, common_steps)

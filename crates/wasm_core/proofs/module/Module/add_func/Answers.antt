@@ -1,0 +1,7 @@
+use Rattle.std.proofs.Common.{rules}
+use Rattle.wasm_core.specs.Edits.{with_func}
+use Rattle.wasm_core.proofs.module.Module.add_func.Goals as goal
+
+pub returns-in-Some-clause-ok : goal.returns-in-Some-clause-ok
+unfolding with_func
+returns-in-Some-clause-ok c = search rules
