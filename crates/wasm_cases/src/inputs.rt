@@ -22,8 +22,17 @@ pub fn extend(bytes: &mut Vec<u8>, parts: &[&[u8]]) -> Result<(), AllocError> {
 /// A file of these sections.
 pub fn joined(alloc: Global, parts: &[&[u8]]) -> Result<Vec<u8>, AllocError> {
     let mut bytes = Vec::from_slice(alloc, HEAD)?;
-    extend(&mut bytes, parts)?;
-    Ok(bytes)
+    extend(&mut bytes, parts).and(Ok(bytes))
+}
+
+/// A file of the first sections and, behind them, the others.
+pub fn joined_behind(
+    alloc: Global,
+    ahead: &[&[u8]],
+    parts: &[&[u8]],
+) -> Result<Vec<u8>, AllocError> {
+    let mut bytes = joined(alloc, ahead)?;
+    extend(&mut bytes, parts).and(Ok(bytes))
 }
 
 pub fn read(alloc: Global, parts: &[&[u8]]) -> Result<Module, ParseFault> {

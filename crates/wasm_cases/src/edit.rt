@@ -1,7 +1,8 @@
 //! The editing calls, on modules of few entries.
 
 use crate::compare::{assert_told, debugged};
-use crate::inputs::{CONFIG, HEAD};
+use crate::inputs::read;
+use crate::work::{Work, assert_worked};
 use std::alloc::{AllocError, Global};
 use values::Seq;
 use wasm_core::{
@@ -9,42 +10,33 @@ use wasm_core::{
 };
 
 /// Type () -> () and an imported tag of it, which is exported.
-const TAG: &[u8] =
-    b"\0asm\x01\0\0\0\x01\x04\x01\x60\x00\x00\x02\x08\x01\x01m\x01t\x04\x00\x00\x07\x05\x01\x01t\x04\x00";
+const TAG: &[&[u8]] = &[
+    b"\x01\x04\x01\x60\x00\x00",
+    b"\x02\x08\x01\x01m\x01t\x04\x00\x00",
+    b"\x07\x05\x01\x01t\x04\x00",
+];
 
 /// Type () -> () and a function of it, which is the start function.
-const START: &[u8] =
-    b"\0asm\x01\0\0\0\x01\x04\x01\x60\x00\x00\x03\x02\x01\x00\x08\x01\x00\x0a\x04\x01\x02\x00\x0b";
+const START: &[&[u8]] = &[
+    b"\x01\x04\x01\x60\x00\x00",
+    b"\x03\x02\x01\x00",
+    b"\x08\x01\x00",
+    b"\x0a\x04\x01\x02\x00\x0b",
+];
 
 /// Two sections of target features: `+simd128` and `-atomics`, then `+atomics`.
-const FEATURES: &[u8] =
-    b"\0asm\x01\0\0\0\x00\x23\x0ftarget_features\x02+\x07simd128-\x07atomics\x00\x1a\x0ftarget_features\x01+\x07atomics";
+const FEATURES: &[&[u8]] = &[
+    b"\x00\x23\x0ftarget_features\x02+\x07simd128-\x07atomics",
+    b"\x00\x1a\x0ftarget_features\x01+\x07atomics",
+];
 
-fn read(alloc: Global, bytes: &[u8]) -> Result<Module, ParseFault> {
-    Module::parse(alloc, bytes, &CONFIG)
-}
-
-fn int(alloc: Global) -> Result<Seq<ValType>, AllocError> {
-    let mut types = Seq::new(alloc);
-    types.push(ValType::I32)?;
-    Ok(types)
-}
-
-/// Type (i32) -> i32.
-fn int_to_int(alloc: Global) -> Result<FuncType, AllocError> {
-    let params = int(alloc)?;
+/// The type of a function that takes these and gives the same.
+fn type_of(alloc: Global, types: &[ValType]) -> Result<FuncType, AllocError> {
+    let params = Seq::from_vec(Vec::from_slice(alloc, types)?);
     Ok(FuncType {
         params,
-        results: int(alloc)?,
+        results: Seq::from_vec(Vec::from_slice(alloc, types)?),
     })
-}
-
-/// Type () -> ().
-fn nothing_to_nothing(alloc: Global) -> FuncType {
-    FuncType {
-        params: Seq::new(alloc),
-        results: Seq::new(alloc),
-    }
 }
 
 fn no_body(alloc: Global) -> Body {
@@ -52,6 +44,17 @@ fn no_body(alloc: Global) -> Body {
         locals: Seq::new(alloc),
         ops: Seq::new(alloc),
     }
+}
+
+/// Adds an empty function of that type.
+fn add(
+    alloc: Global,
+    module: &mut Module,
+    name: &str,
+    types: &[ValType],
+) -> Result<FuncId, AllocError> {
+    let ty = type_of(alloc, types)?;
+    module.add_func(alloc, ty, name, no_body(alloc))
 }
 
 fn export_func(
@@ -86,41 +89,27 @@ pub fn localize(module: &mut Module, id: ImportId) {
     }
 }
 
-fn add_of_int(alloc: Global, module: &mut Module, name: &str) -> Result<FuncId, AllocError> {
-    module.add_func(alloc, int_to_int(alloc)?, name, no_body(alloc))
-}
-
-fn add_of_nothing(alloc: Global, module: &mut Module, name: &str) -> Result<FuncId, AllocError> {
-    module.add_func(alloc, nothing_to_nothing(alloc), name, no_body(alloc))
-}
-
 /// Functions `f` and `g` of type (i32) -> i32 and `h` of type () -> (): their ids.
 fn add_alike(alloc: Global, module: &mut Module) -> Result<String, AllocError> {
-    let first = add_of_int(alloc, module, "f")?;
-    let second = add_of_int(alloc, module, "g")?;
-    let third = add_of_nothing(alloc, module, "h")?;
+    let first = add(alloc, module, "f", &[ValType::I32])?;
+    let second = add(alloc, module, "g", &[ValType::I32])?;
+    let third = add(alloc, module, "h", &[])?;
     format!(in alloc; "{first:?} {second:?} {third:?}")
 }
 
 /// Their ids, the types and the functions.
-fn with_alike(alloc: Global, module: &mut Module) -> Result<String, AllocError> {
+pub fn with_alike(alloc: Global, module: &mut Module) -> Result<String, AllocError> {
     let ids = add_alike(alloc, module)?;
     format!(in alloc; "{ids} {:?} {:?}", module.types(), module.funcs())
 }
 
-/// The same in an empty module.
-fn alike_told(alloc: Global) -> Result<String, ParseFault> {
-    let mut module = read(alloc, HEAD)?;
-    let told = with_alike(alloc, &mut module);
-    drop(module);
-    Ok(told?)
-}
-
 #[test]
 fn a_type_that_is_alike_is_shared(rt: HostRuntime) -> Result<(), ParseFault> {
-    assert_told(
+    assert_worked(
         &rt,
-        alike_told(rt.alloc()),
+        rt.alloc(),
+        &Work::AddAlike,
+        &[],
         "FuncId(0) FuncId(1) FuncId(2) \
         [Some(FuncType { params: Seq { items: [I32] }, results: Seq { items: [I32] } }), \
         Some(FuncType { params: Seq { items: [] }, results: Seq { items: [] } })] \
@@ -141,24 +130,19 @@ fn export_twice(alloc: Global, module: &mut Module) -> Result<String, AllocError
 }
 
 /// Their ids, and what is left where the first is deleted.
-fn with_one_deleted(alloc: Global, module: &mut Module) -> Result<String, AllocError> {
+pub fn with_one_deleted(alloc: Global, module: &mut Module) -> Result<String, AllocError> {
     let ids = export_twice(alloc, module)?;
     delete_export(module, ExportId(0));
     format!(in alloc; "{ids} {:?}", module.exports())
 }
 
-fn exports_told(alloc: Global) -> Result<String, ParseFault> {
-    let mut module = read(alloc, START)?;
-    let told = with_one_deleted(alloc, &mut module);
-    drop(module);
-    Ok(told?)
-}
-
 #[test]
 fn an_export_stands_twice_until_one_is_deleted(rt: HostRuntime) -> Result<(), ParseFault> {
-    assert_told(
+    assert_worked(
         &rt,
-        exports_told(rt.alloc()),
+        rt.alloc(),
+        &Work::ExportTwice,
+        START,
         "Some(ExportId(0)) Some(ExportId(1)) \
         [None, Some(Export { name: Text { string: \"a\" }, item: Func(FuncId(0)) })]",
     )
@@ -179,24 +163,19 @@ fn take_twice(alloc: Global, module: &mut Module) -> Result<String, AllocError> 
 }
 
 /// The same and the functions, of which the first is named `begin`.
-fn with_begin(alloc: Global, module: &mut Module) -> Result<String, AllocError> {
+pub fn with_begin(alloc: Global, module: &mut Module) -> Result<String, AllocError> {
     name_first(module, alloc, "begin")?;
     let starts = take_twice(alloc, module)?;
     format!(in alloc; "{starts} {:?}", module.funcs())
 }
 
-fn start_told(alloc: Global) -> Result<String, ParseFault> {
-    let mut module = read(alloc, START)?;
-    let told = with_begin(alloc, &mut module);
-    drop(module);
-    Ok(told?)
-}
-
 #[test]
 fn a_start_function_is_taken_once_and_named(rt: HostRuntime) -> Result<(), ParseFault> {
-    assert_told(
+    assert_worked(
         &rt,
-        start_told(rt.alloc()),
+        rt.alloc(),
+        &Work::TakeStart,
+        START,
         "None Some(FuncId(0)) None [Some(Func { ty: TypeId(0), name: Some(Text { string: \"begin\" }), import: None, \
         body: Some(Body { locals: Seq { items: [] }, ops: Seq { items: [] } }) })]",
     )
@@ -213,34 +192,33 @@ fn tags_told(alloc: Global, module: &Module) -> Result<String, AllocError> {
 }
 
 /// The same where the imported tag became the module's own.
-fn tag_told(alloc: Global) -> Result<String, ParseFault> {
-    let mut module = read(alloc, TAG)?;
-    localize(&mut module, ImportId(0));
-    let told = tags_told(alloc, &module);
-    drop(module);
-    Ok(told?)
+pub fn with_own_tag(alloc: Global, module: &mut Module) -> Result<String, AllocError> {
+    localize(module, ImportId(0));
+    tags_told(alloc, module)
 }
 
 #[test]
 fn a_tag_becomes_the_modules_own(rt: HostRuntime) -> Result<(), ParseFault> {
-    assert_told(
+    assert_worked(
         &rt,
-        tag_told(rt.alloc()),
+        rt.alloc(),
+        &Work::OwnTag,
+        TAG,
         "[None] [Some(Tag { ty: TypeId(0), import: None })] \
         [Some(Export { name: Text { string: \"t\" }, item: Tag(TagId(0)) })]",
     )
 }
 
 /// Whether features are listed with a plus, none without a list.
-fn feature_told(alloc: Global, bytes: &[u8], name: &str) -> Result<String, ParseFault> {
-    let module = read(alloc, bytes)?;
+fn feature_told(alloc: Global, parts: &[&[u8]], name: &str) -> Result<String, ParseFault> {
+    let module = read(alloc, parts)?;
     let found = module.target_feature(name);
     drop(module);
     Ok(debugged(alloc, found)?)
 }
 
-const LISTED: &[(&[u8], &str, &str)] = &[
-    (HEAD, "simd128", "None"),
+const LISTED: &[(&[&[u8]], &str, &str)] = &[
+    (&[], "simd128", "None"),
     (FEATURES, "simd128", "Some(true)"),
     (FEATURES, "atomics", "Some(false)"),
     (FEATURES, "simd", "Some(false)"),
@@ -248,8 +226,8 @@ const LISTED: &[(&[u8], &str, &str)] = &[
 
 #[test]
 fn the_first_section_tells_the_features(rt: HostRuntime) -> Result<(), ParseFault> {
-    for (bytes, name, want) in LISTED {
-        assert_told(&rt, feature_told(rt.alloc(), bytes, name), want)?;
+    for (parts, name, want) in LISTED {
+        assert_told(&rt, feature_told(rt.alloc(), parts, name), want)?;
     }
     Ok(())
 }

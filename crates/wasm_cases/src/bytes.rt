@@ -1,12 +1,12 @@
 use crate::compare::{assert_bytes, assert_told, debugged};
 use std::alloc::{AllocError, Global};
 use std::process::Abort;
+use values::Text;
 use wasm_bytes::{
     ReadFault, Reader, push_i32, push_i64, push_number, push_u32, read_exactly, read_index,
     read_name, read_text, write_framed, write_name,
 };
 
-#[derive(Clone, Copy)]
 enum Number {
     U32(u32),
     U64(u64),
@@ -57,19 +57,18 @@ const SIGNED: &[(Number, &[u8])] = &[
     ),
 ];
 
-fn push(out: &mut Vec<u8>, number: Number) -> Result<(), AllocError> {
+fn push(out: &mut Vec<u8>, number: &Number) -> Result<(), AllocError> {
     match number {
-        Number::U32(value) => push_u32(out, value),
-        Number::U64(value) => push_number(out, value),
-        Number::I32(value) => push_i32(out, value),
-        Number::I64(value) => push_i64(out, value),
+        Number::U32(value) => push_u32(out, *value),
+        Number::U64(value) => push_number(out, *value),
+        Number::I32(value) => push_i32(out, *value),
+        Number::I64(value) => push_i64(out, *value),
     }
 }
 
-fn number_written(alloc: Global, number: Number) -> Result<Vec<u8>, AllocError> {
+fn number_written(alloc: Global, number: &Number) -> Result<Vec<u8>, AllocError> {
     let mut out = Vec::new(alloc);
-    push(&mut out, number)?;
-    Ok(out)
+    push(&mut out, number).and(Ok(out))
 }
 
 fn assert_written<H: Abort>(
@@ -78,7 +77,7 @@ fn assert_written<H: Abort>(
     cases: &[(Number, &[u8])],
 ) -> Result<(), AllocError> {
     for (number, want) in cases {
-        assert_bytes(rt, number_written(alloc, *number), want)?;
+        assert_bytes(rt, number_written(alloc, number), want)?;
     }
     Ok(())
 }
@@ -94,7 +93,6 @@ fn signed_numbers_are_written(rt: HostRuntime) -> Result<(), AllocError> {
 }
 
 /// What is read of bytes.
-#[derive(Clone, Copy)]
 enum Form {
     Number32,
     /// A number of 32 bits behind one byte.
@@ -112,7 +110,7 @@ fn behind(mut reader: Reader<'_>) -> Result<u32, ReadFault> {
 }
 
 /// What is read, or its fault.
-fn told(alloc: Global, form: Form, bytes: &[u8]) -> Result<String, AllocError> {
+fn told(alloc: Global, form: &Form, bytes: &[u8]) -> Result<String, AllocError> {
     let mut reader = Reader::new(bytes);
     match form {
         Form::Number32 => debugged(alloc, reader.number32()),
@@ -128,7 +126,7 @@ fn told(alloc: Global, form: Form, bytes: &[u8]) -> Result<String, AllocError> {
 fn assert_read<H: Abort>(
     rt: &H,
     alloc: Global,
-    form: Form,
+    form: &Form,
     cases: &[(&[u8], &str)],
 ) -> Result<(), AllocError> {
     for (bytes, want) in cases {
@@ -148,7 +146,7 @@ const READ: &[(&[u8], &str)] = &[
 
 #[test]
 fn numbers_are_read(rt: HostRuntime) -> Result<(), AllocError> {
-    assert_read(&rt, rt.alloc(), Form::Number32, READ)
+    assert_read(&rt, rt.alloc(), &Form::Number32, READ)
 }
 
 /// Numbers of 64 bits, of which the last has one bit too many.
@@ -165,7 +163,7 @@ const LONG: &[(&[u8], &str)] = &[
 
 #[test]
 fn long_numbers_are_read(rt: HostRuntime) -> Result<(), AllocError> {
-    assert_read(&rt, rt.alloc(), Form::Number64, LONG)
+    assert_read(&rt, rt.alloc(), &Form::Number64, LONG)
 }
 
 const READ_SIGNED: &[(&[u8], &str)] = &[
@@ -184,7 +182,7 @@ const READ_SIGNED: &[(&[u8], &str)] = &[
 
 #[test]
 fn signed_numbers_are_read(rt: HostRuntime) -> Result<(), AllocError> {
-    assert_read(&rt, rt.alloc(), Form::Signed32, READ_SIGNED)
+    assert_read(&rt, rt.alloc(), &Form::Signed32, READ_SIGNED)
 }
 
 const READ_WIDE: &[(&[u8], &str)] = &[
@@ -215,8 +213,8 @@ const READ_33: &[(&[u8], &str)] = &[
 
 #[test]
 fn wide_numbers_are_read(rt: HostRuntime) -> Result<(), AllocError> {
-    assert_read(&rt, rt.alloc(), Form::Signed64, READ_WIDE)?;
-    assert_read(&rt, rt.alloc(), Form::Signed33, READ_33)
+    assert_read(&rt, rt.alloc(), &Form::Signed64, READ_WIDE)?;
+    assert_read(&rt, rt.alloc(), &Form::Signed33, READ_33)
 }
 
 /// Numbers behind one byte.
@@ -229,7 +227,7 @@ const WRONG: &[(&[u8], &str)] = &[
 
 #[test]
 fn wrong_numbers_are_refused_at_their_place(rt: HostRuntime) -> Result<(), AllocError> {
-    assert_read(&rt, rt.alloc(), Form::Behind, WRONG)
+    assert_read(&rt, rt.alloc(), &Form::Behind, WRONG)
 }
 
 /// A byte ahead, a number of 33 bits, and what is ahead then.
@@ -251,8 +249,7 @@ fn a_byte_ahead_is_not_passed(rt: HostRuntime) -> Result<(), AllocError> {
 fn name_and_frame(alloc: Global, name: &str, framed: &[u8]) -> Result<Vec<u8>, AllocError> {
     let mut out = Vec::new(alloc);
     write_name(&mut out, name)?;
-    write_framed(&mut out, framed)?;
-    Ok(out)
+    write_framed(&mut out, framed).and(Ok(out))
 }
 
 /// The name `é`, and a frame with a 7, a 5 and two letters.
@@ -280,11 +277,18 @@ fn frame_told(alloc: Global, reader: &mut Reader<'_>) -> Result<String, ReadFaul
 }
 
 /// A name, what is read in the frame behind it, and whether a byte is left.
+fn behind_name(alloc: Global, name: &Text, reader: &mut Reader<'_>) -> Result<String, ReadFault> {
+    let frame = frame_told(alloc, reader)?;
+    Ok(format!(in alloc; "{name:?} {frame} {:?}", reader.finish())?)
+}
+
+/// The same of these bytes.
 fn framed_told(alloc: Global, bytes: &[u8]) -> Result<String, ReadFault> {
     let mut reader = Reader::new(bytes);
     let name = read_name(&mut reader, alloc)?;
-    let frame = frame_told(alloc, &mut reader)?;
-    Ok(format!(in alloc; "{name:?} {frame} {:?}", reader.finish())?)
+    let told = behind_name(alloc, &name, &mut reader);
+    drop(name);
+    told
 }
 
 #[test]
@@ -303,22 +307,18 @@ const NAMES: &[(&[u8], &str)] = &[
 
 #[test]
 fn a_name_is_utf8(rt: HostRuntime) -> Result<(), AllocError> {
-    assert_read(&rt, rt.alloc(), Form::Name, NAMES)
+    assert_read(&rt, rt.alloc(), &Form::Name, NAMES)
 }
 
-/// A text in a part of three bytes, and what is left in the part.
-fn part_told(alloc: Global, mut part: Reader<'_>) -> Result<String, AllocError> {
-    let text = read_text(&mut part);
-    debugged(alloc, (text, part.finish()))
-}
-
-/// A part of three bytes, how many bytes a part of nine has, and the place behind a frame of three bytes.
+/// A text in a part of three bytes and what is left in the part, how many bytes a part of nine has, and the place behind a
+/// frame of three bytes.
 fn parts_told(alloc: Global, bytes: &[u8]) -> Result<String, ReadFault> {
     let mut reader = Reader::new(bytes);
-    let part = part_told(alloc, reader.part(3))?;
+    let mut part = reader.part(3);
+    let text = read_text(&mut part);
     let nine = reader.part(9).len();
     reader.frame(3)?;
-    Ok(format!(in alloc; "{part} {nine} {}", reader.place())?)
+    Ok(format!(in alloc; "{:?} {nine} {}", (text, part.finish()), reader.place())?)
 }
 
 #[test]

@@ -4,6 +4,11 @@ use std::alloc::{AllocError, Global};
 use std::fmt::Debug;
 use std::process::Abort;
 
+/// It holds in this case.
+pub fn assert_case<H: Abort, C: Debug>(rt: &H, holds: bool, case: &C) {
+    assert!(rt; holds, "{case:?}");
+}
+
 /// The text is this one.
 pub fn assert_told<H: Abort, E: Drop>(
     rt: &H,
@@ -11,13 +16,19 @@ pub fn assert_told<H: Abort, E: Drop>(
     want: &str,
 ) -> Result<(), E> {
     let told = told?;
-    assert_eq!(rt; told.as_str(), want);
+    assert_case(rt, told.as_str() == want, &(told.as_str(), want));
     Ok(())
 }
 
-/// It holds in this case.
-pub fn assert_case<H: Abort, C: Debug>(rt: &H, holds: bool, case: &C) {
-    assert!(rt; holds, "{case:?}");
+/// The bytes are these.
+pub fn assert_bytes<H: Abort, E: Drop>(
+    rt: &H,
+    found: Result<Vec<u8>, E>,
+    want: &[u8],
+) -> Result<(), E> {
+    let found = found?;
+    assert_case(rt, found.as_slice() == want, &(found.as_slice(), want));
+    Ok(())
 }
 
 /// A value as `{:?}` prints it.

@@ -1,7 +1,8 @@
 use crate::collect::{collect_from, shown};
 use crate::compare::{assert_case, assert_told, debugged};
 use crate::edit::{delete_export, localize};
-use crate::inputs::{CONFIG, extend, joined, read};
+use crate::inputs::{CONFIG, joined, joined_behind, read};
+use crate::work::{Work, assert_worked};
 use std::alloc::{AllocError, Global};
 use std::process::Abort;
 use values::Seq;
@@ -39,39 +40,10 @@ fn is_written_as(alloc: Global, module: &Module, want: &[&[u8]]) -> Result<bool,
     Ok(is_emitted(alloc, module, &want))
 }
 
-/// It is written as these parts.
-fn assert_written<H: Abort>(
-    rt: &H,
-    alloc: Global,
-    module: &Module,
-    want: &[&[u8]],
-) -> Result<(), AllocError> {
-    assert_case(rt, is_written_as(alloc, module, want)?, &want);
-    Ok(())
-}
-
 /// The second call replaces the version of the first.
 fn process_twice(alloc: Global, module: &mut Module) -> Result<(), AllocError> {
     module.add_processed_by(alloc, "wasm-bindgen", "0.2.129")?;
     module.add_processed_by(alloc, "wasm-bindgen", "0.2.130")
-}
-
-fn assert_processed<H: Abort>(
-    rt: &H,
-    alloc: Global,
-    module: &mut Module,
-) -> Result<(), AllocError> {
-    process_twice(alloc, module)?;
-    assert_written(rt, alloc, module, &[PRODUCERS])
-}
-
-#[test]
-fn the_empty_module_gets_its_producers(rt: HostRuntime) -> Result<(), ParseFault> {
-    assert!(rt; PRODUCERS.len() == 48);
-    let mut module = read(rt.alloc(), &[])?;
-    let done = assert_processed(&rt, rt.alloc(), &mut module);
-    drop(module);
-    Ok(done?)
 }
 
 /// The first import is of this name from this module.
@@ -87,29 +59,100 @@ fn import_from(
     Ok(())
 }
 
-/// The custom section is there to be removed once.
-fn assert_removed<H: Abort>(rt: &H, module: &mut Module) {
-    assert!(rt; module.remove_custom("__wbg_glue"));
-    assert!(rt; !module.remove_custom("__wbg_glue"));
+/// Whether the custom section is there to be removed once.
+fn is_removed(module: &mut Module) -> bool {
+    module.remove_custom("__wbg_glue") && !module.remove_custom("__wbg_glue")
+}
+
+/// Whether the custom section was removed where the import and the producers are set.
+fn process(alloc: Global, module: &mut Module) -> Result<bool, AllocError> {
+    let is_removed = is_removed(module);
+    import_from(module, alloc, "./out_bg.js", "log")?;
+    module.add_processed_by(alloc, "wasm-bindgen", "0.2.130")?;
+    Ok(is_removed)
+}
+
+/// Export 0 goes, and with it what it alone keeps.
+fn collect(alloc: Global, module: &mut Module) -> Result<(), AllocError> {
+    delete_export(module, ExportId(0));
+    collect_from(module, alloc, FuncId(0))
+}
+
+/// What is done with a module before it is written.
+enum Edit {
+    Nothing,
+    ProcessTwice,
+    Process,
+    Collect,
+    Localize,
+}
+
+/// Whether the edit found what it is made for.
+fn edited(alloc: Global, module: &mut Module, edit: &Edit) -> Result<bool, AllocError> {
+    match edit {
+        Edit::Nothing => {}
+        Edit::ProcessTwice => process_twice(alloc, module)?,
+        Edit::Process => return process(alloc, module),
+        Edit::Collect => collect(alloc, module)?,
+        Edit::Localize => localize(module, ImportId(0)),
+    }
+    Ok(true)
+}
+
+/// Whether the module is written as these parts after the edit.
+fn is_edited(
+    alloc: Global,
+    module: &mut Module,
+    edit: &Edit,
+    want: &[&[u8]],
+) -> Result<bool, AllocError> {
+    Ok(edited(alloc, module, edit)? && is_written_as(alloc, module, want)?)
+}
+
+/// The same of the module of the first parts.
+fn is_edited_to(
+    alloc: Global,
+    edit: &Edit,
+    given: &[&[u8]],
+    want: &[&[u8]],
+) -> Result<bool, ParseFault> {
+    let mut module = read(alloc, given)?;
+    let is_edited = is_edited(alloc, &mut module, edit, want);
+    drop(module);
+    Ok(is_edited?)
+}
+
+/// The module of the first parts is written as the second ones after the edit.
+fn assert_edited<H: Abort>(
+    rt: &H,
+    alloc: Global,
+    edit: &Edit,
+    given: &[&[u8]],
+    want: &[&[u8]],
+) -> Result<(), ParseFault> {
+    assert_case(rt, is_edited_to(alloc, edit, given, want)?, &want);
+    Ok(())
+}
+
+#[test]
+fn the_empty_module_gets_its_producers(rt: HostRuntime) -> Result<(), ParseFault> {
+    assert!(rt; PRODUCERS.len() == 48);
+    assert_edited(&rt, rt.alloc(), &Edit::ProcessTwice, &[], &[PRODUCERS])
 }
 
 const RENAMED: &[u8] = b"\x02\x13\x01\x0b./out_bg.js\x03log\x00\x01";
 
 const WORKED: &[&[u8]] = &[TYPES, RENAMED, FUNCTION, ADD, CODE, PRODUCERS];
 
-fn assert_worked<H: Abort>(rt: &H, alloc: Global, module: &mut Module) -> Result<(), AllocError> {
-    assert_removed(rt, module);
-    import_from(module, alloc, "./out_bg.js", "log")?;
-    module.add_processed_by(alloc, "wasm-bindgen", "0.2.130")?;
-    assert_written(rt, alloc, module, WORKED)
-}
-
 #[test]
 fn an_exported_and_an_imported_function(rt: HostRuntime) -> Result<(), ParseFault> {
-    let mut module = read(rt.alloc(), &[TYPES, LOG, FUNCTION, ADD, CODE, GLUE])?;
-    let done = assert_worked(&rt, rt.alloc(), &mut module);
-    drop(module);
-    Ok(done?)
+    assert_edited(
+        &rt,
+        rt.alloc(),
+        &Edit::Process,
+        &[TYPES, LOG, FUNCTION, ADD, CODE, GLUE],
+        WORKED,
+    )
 }
 
 #[test]
@@ -141,7 +184,7 @@ const EVERY_KIND: &[&[u8]] = &[
 
 /// The lists as `shown` shows them, how many exports and custom sections there are, the start function, and how it was
 /// read.
-fn lists_told(alloc: Global, module: &Module) -> Result<String, AllocError> {
+pub fn lists_told(alloc: Global, module: &Module) -> Result<String, AllocError> {
     let exports = module.exports().len();
     let customs = module.customs().len();
     let text = shown(alloc, module)?;
@@ -152,34 +195,22 @@ fn lists_told(alloc: Global, module: &Module) -> Result<String, AllocError> {
     )
 }
 
-fn assert_every_kind<H: Abort>(rt: &H, alloc: Global, module: &Module) -> Result<(), AllocError> {
-    assert_told(
-        rt,
-        lists_told(alloc, module),
+#[test]
+fn every_kind_is_written_as_it_was_read(rt: HostRuntime) -> Result<(), ParseFault> {
+    assert_worked(
+        &rt,
+        rt.alloc(),
+        &Work::Lists,
+        EVERY_KIND,
         "xx xxx xx xxx xxx xx xxxxxxxx xxx xxxxx 5 1 Some(FuncId(1)) \
         ParseConfig { keep_debug: false, names: true, producers: true }",
     )?;
-    assert_written(rt, alloc, module, EVERY_KIND)
-}
-
-#[test]
-fn every_kind_is_written_as_it_was_read(rt: HostRuntime) -> Result<(), ParseFault> {
-    let module = read(rt.alloc(), EVERY_KIND)?;
-    let done = assert_every_kind(&rt, rt.alloc(), &module);
-    drop(module);
-    Ok(done?)
+    assert_edited(&rt, rt.alloc(), &Edit::Nothing, EVERY_KIND, EVERY_KIND)
 }
 
 /// The imports and the functions.
-fn functions_told(alloc: Global, module: &Module) -> Result<String, AllocError> {
+pub fn functions_told(alloc: Global, module: &Module) -> Result<String, AllocError> {
     format!(in alloc; "{:?} {:?}", module.imports(), module.funcs())
-}
-
-fn imports_told(alloc: Global, parts: &[&[u8]]) -> Result<String, ParseFault> {
-    let module = read(alloc, parts)?;
-    let told = functions_told(alloc, &module);
-    drop(module);
-    Ok(told?)
 }
 
 /// Functions and globals in turn.
@@ -188,9 +219,11 @@ const IN_TURN: &[u8] =
 
 #[test]
 fn imports_bring_in_the_next_items_of_their_kinds(rt: HostRuntime) -> Result<(), ParseFault> {
-    assert_told(
+    assert_worked(
         &rt,
-        imports_told(rt.alloc(), &[TYPES, IN_TURN]),
+        rt.alloc(),
+        &Work::Functions,
+        &[TYPES, IN_TURN],
         "[Some(Import { module: Text { string: \"m\" }, name: Text { string: \"a\" }, kind: Func(FuncId(0)) }), \
         Some(Import { module: Text { string: \"m\" }, name: Text { string: \"b\" }, kind: Global(GlobalId(0)) }), \
         Some(Import { module: Text { string: \"m\" }, name: Text { string: \"c\" }, kind: Func(FuncId(1)) }), \
@@ -210,12 +243,6 @@ fn comes_to(alloc: Global, config: &ParseConfig, given: &[u8], want: &[u8]) -> b
         }
         Err(_) => false,
     }
-}
-
-fn joined_behind(alloc: Global, ahead: &[&[u8]], parts: &[&[u8]]) -> Result<Vec<u8>, AllocError> {
-    let mut bytes = joined(alloc, ahead)?;
-    extend(&mut bytes, parts)?;
-    Ok(bytes)
 }
 
 /// Whether what is read of the first parts is written as the second ones, both behind the same ones.
@@ -320,19 +347,10 @@ const NUMBERED_ANEW: &[&[u8]] = &[
     b"\x00\x0c\x04name\x01\x05\x01\x01\x02yy",
 ];
 
-/// Export 0 goes, and with it function 1 and type 1, which nothing else keeps.
-fn assert_numbered<H: Abort>(rt: &H, alloc: Global, module: &mut Module) -> Result<(), AllocError> {
-    delete_export(module, ExportId(0));
-    collect_from(module, alloc, FuncId(0))?;
-    assert_written(rt, alloc, module, NUMBERED_ANEW)
-}
-
+// Export 0 goes, and with it function 1 and type 1, which nothing else keeps.
 #[test]
 fn entries_are_numbered_anew(rt: HostRuntime) -> Result<(), ParseFault> {
-    let mut module = read(rt.alloc(), NUMBERED)?;
-    let done = assert_numbered(&rt, rt.alloc(), &mut module);
-    drop(module);
-    Ok(done?)
+    assert_edited(&rt, rt.alloc(), &Edit::Collect, NUMBERED, NUMBERED_ANEW)
 }
 
 /// Two imported tags, of which the first is exported.
@@ -352,11 +370,7 @@ const OWN_TAG: &[&[u8]] = &[
 
 #[test]
 fn imported_entries_have_the_first_numbers(rt: HostRuntime) -> Result<(), ParseFault> {
-    let mut module = read(rt.alloc(), TWO_TAGS)?;
-    localize(&mut module, ImportId(0));
-    let done = assert_written(&rt, rt.alloc(), &module, OWN_TAG);
-    drop(module);
-    Ok(done?)
+    assert_edited(&rt, rt.alloc(), &Edit::Localize, TWO_TAGS, OWN_TAG)
 }
 
 const BODY: &[u8] = b"\x0a\x04\x01\x02\x00\x0b";

@@ -1,7 +1,8 @@
 //! What is kept of modules, shown as a row of their lists: `x` for an entry, `.` for a place that is empty.
 
 use crate::compare::assert_told;
-use crate::inputs::{CONFIG, joined, read};
+use crate::inputs::{extend, joined_behind};
+use crate::work::{Work, assert_worked, told};
 use std::alloc::{AllocError, Global};
 use std::process::Abort;
 use wasm_core::{ExportItem, FuncId, Module, ParseFault};
@@ -44,29 +45,21 @@ fn show_others(out: &mut String, module: &Module) -> Result<(), AllocError> {
     show(out, module.imports())
 }
 
+fn show_all(out: &mut String, module: &Module) -> Result<(), AllocError> {
+    show_first(out, module)?;
+    show_others(out, module)
+}
+
 /// Types, functions, tables, memories, globals, tags, element and data segments, and imports.
 pub fn shown(alloc: Global, module: &Module) -> Result<String, AllocError> {
     let mut out = String::new(alloc);
-    show_first(&mut out, module)?;
-    show_others(&mut out, module)?;
-    Ok(out)
+    show_all(&mut out, module).and(Ok(out))
 }
 
 /// What is left without roots.
-fn collected(alloc: Global, module: &mut Module) -> Result<String, AllocError> {
+pub fn collected(alloc: Global, module: &mut Module) -> Result<String, AllocError> {
     module.collect(alloc, &[])?;
     shown(alloc, module)
-}
-
-fn left_of(alloc: Global, bytes: &[u8]) -> Result<String, ParseFault> {
-    let mut module = Module::parse(alloc, bytes, &CONFIG)?;
-    let told = collected(alloc, &mut module);
-    drop(module);
-    Ok(told?)
-}
-
-fn left(alloc: Global, parts: &[&[u8]]) -> Result<String, ParseFault> {
-    left_of(alloc, &joined(alloc, parts)?)
 }
 
 /// This is left of each file.
@@ -76,7 +69,7 @@ fn assert_left<H: Abort>(
     cases: &[(&[&[u8]], &str)],
 ) -> Result<(), ParseFault> {
     for (parts, want) in cases {
-        assert_told(rt, left(alloc, parts), want)?;
+        assert_worked(rt, alloc, &Work::Collect, parts, want)?;
     }
     Ok(())
 }
@@ -147,28 +140,34 @@ fn code(alloc: Global, count: u8, ops: &[u8], behind: &[u8]) -> Result<Vec<u8>, 
     let len = ops.len() as u8;
     let rest = behind.len() as u8;
     let mut out = Vec::from_slice(alloc, &[0x0a, len + rest + 3, count, len + 2, 0x00])?;
-    out.extend_from_slice(ops)?;
-    out.extend_from_slice(behind)?;
-    Ok(out)
+    extend(&mut out, &[ops, behind]).and(Ok(out))
 }
 
-/// Two entries of each kind. Function 0 is exported and has these operators.
+/// What is left of these sections.
+fn left(alloc: Global, ahead: &[&[u8]], parts: &[&[u8]]) -> Result<String, ParseFault> {
+    let bytes = joined_behind(alloc, ahead, parts)?;
+    told(alloc, &Work::Collect, &bytes)
+}
+
+/// Two entries of each kind that stands ahead of code. Function 0 is exported.
+const TWO_OF_EACH: &[&[u8]] = &[
+    TYPES,
+    TWO,
+    b"\x04\x07\x02\x70\x00\x01\x70\x00\x01",
+    b"\x05\x05\x02\x00\x01\x00\x01",
+    b"\x0d\x05\x02\x00\x00\x00\x00",
+    b"\x06\x0b\x02\x7f\x00\x41\x00\x0b\x7f\x00\x41\x00\x0b",
+    EXPORTED,
+    b"\x09\x07\x02\x01\x00\x00\x01\x00\x00",
+    b"\x0c\x01\x02",
+];
+
+const TWO_SEGMENTS: &[u8] = b"\x0b\x05\x02\x01\x00\x01\x00";
+
+/// What is left of two entries of each kind where function 0 has these operators.
 fn kept_by(alloc: Global, ops: &[u8]) -> Result<String, ParseFault> {
     let code = code(alloc, 2, ops, b"\x0b\x02\x00\x0b")?;
-    let parts: [&[u8]; 11] = [
-        TYPES,
-        TWO,
-        b"\x04\x07\x02\x70\x00\x01\x70\x00\x01",
-        b"\x05\x05\x02\x00\x01\x00\x01",
-        b"\x0d\x05\x02\x00\x00\x00\x00",
-        b"\x06\x0b\x02\x7f\x00\x41\x00\x0b\x7f\x00\x41\x00\x0b",
-        EXPORTED,
-        b"\x09\x07\x02\x01\x00\x00\x01\x00\x00",
-        b"\x0c\x01\x02",
-        &code,
-        b"\x0b\x05\x02\x01\x00\x01\x00",
-    ];
-    left(alloc, &parts)
+    left(alloc, TWO_OF_EACH, &[&code, TWO_SEGMENTS])
 }
 
 /// A function with these operators keeps this.
@@ -219,9 +218,7 @@ fn an_operator_keeps_what_it_names(rt: HostRuntime) -> Result<(), ParseFault> {
 /// What is left of these sections where function 0 has these operators; 1 and 2 are empty.
 fn declared(alloc: Global, parts: &[&[u8]], ops: &[u8]) -> Result<String, ParseFault> {
     let code = code(alloc, 3, ops, b"\x0b\x02\x00\x0b\x02\x00\x0b")?;
-    let mut bytes = joined(alloc, parts)?;
-    bytes.extend_from_slice(&code)?;
-    left_of(alloc, &bytes)
+    left(alloc, parts, &[&code])
 }
 
 /// This is left.
@@ -297,16 +294,9 @@ fn shown_with_start(alloc: Global, module: &Module) -> Result<String, AllocError
 }
 
 /// What is left without roots, and the start function.
-fn collected_with_start(alloc: Global, module: &mut Module) -> Result<String, AllocError> {
+pub fn collected_with_start(alloc: Global, module: &mut Module) -> Result<String, AllocError> {
     module.collect(alloc, &[])?;
     shown_with_start(alloc, module)
-}
-
-fn left_with_start(alloc: Global, parts: &[&[u8]]) -> Result<String, ParseFault> {
-    let mut module = read(alloc, parts)?;
-    let told = collected_with_start(alloc, &mut module);
-    drop(module);
-    Ok(told?)
 }
 
 /// Two imported functions, and the start function, which calls the second.
@@ -320,9 +310,11 @@ const CALLING: &[&[u8]] = &[
 
 #[test]
 fn an_import_is_kept_with_its_function(rt: HostRuntime) -> Result<(), ParseFault> {
-    assert_told(
+    assert_worked(
         &rt,
-        left_with_start(rt.alloc(), CALLING),
+        rt.alloc(),
+        &Work::CollectWithStart,
+        CALLING,
         "x. .xx       .x Some(FuncId(2))",
     )
 }
@@ -335,26 +327,21 @@ pub fn collect_from(module: &mut Module, alloc: Global, id: FuncId) -> Result<()
     }
 }
 
-/// What is left with one function as the root, and of that without roots.
-fn collected_twice(alloc: Global, module: &mut Module, id: FuncId) -> Result<String, AllocError> {
-    collect_from(module, alloc, id)?;
+/// What is left with function 1 as the root, and of that without roots.
+pub fn collected_twice(alloc: Global, module: &mut Module) -> Result<String, AllocError> {
+    collect_from(module, alloc, FuncId(1))?;
     let first = shown(alloc, module)?;
     let second = collected(alloc, module)?;
     format!(in alloc; "{first}, {second}")
 }
 
-fn left_from(alloc: Global, parts: &[&[u8]], id: FuncId) -> Result<String, ParseFault> {
-    let mut module = read(alloc, parts)?;
-    let told = collected_twice(alloc, &mut module, id);
-    drop(module);
-    Ok(told?)
-}
-
 #[test]
 fn a_root_is_kept(rt: HostRuntime) -> Result<(), ParseFault> {
-    assert_told(
+    assert_worked(
         &rt,
-        left_from(rt.alloc(), &[TYPES, BOTH, EMPTY], FuncId(1)),
+        rt.alloc(),
+        &Work::CollectTwice,
+        &[TYPES, BOTH, EMPTY],
         ".x .x        , .. ..        ",
     )
 }

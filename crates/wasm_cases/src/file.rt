@@ -1,4 +1,5 @@
 use crate::compare::{assert_bytes, assert_case, assert_told, debugged};
+use crate::inputs::joined;
 use std::alloc::{AllocError, Global};
 use std::process::Abort;
 use values::{Seq, Text};
@@ -7,8 +8,6 @@ use wasm_file::{
     Custom, Parts, lists_feature, read_frames, read_names, read_parts, read_producers,
     write_custom, write_section,
 };
-
-const HEAD: &[u8] = b"\0asm\x01\0\0\0";
 
 /// Types () -> () and (i32) -> (i64): 11 bytes.
 const TYPES: &[u8] = b"\x01\x09\x02\x60\0\0\x60\x01\x7f\x01\x7e";
@@ -69,14 +68,6 @@ const WHOLE: &[&[u8]] = &[
     b"\x0b\x11\x03\0\x41\0\x0b\x02hi\x01\0\x02\x01\x41\x08\x0b\x01!",
     CUSTOM,
 ];
-
-fn joined(alloc: Global, parts: &[&[u8]]) -> Result<Vec<u8>, AllocError> {
-    let mut bytes = Vec::from_slice(alloc, HEAD)?;
-    for part in parts {
-        bytes.extend_from_slice(part)?;
-    }
-    Ok(bytes)
-}
 
 fn read(alloc: Global, parts: &[&[u8]]) -> Result<Parts, ReadFault> {
     read_parts(alloc, &joined(alloc, parts)?)
@@ -451,16 +442,14 @@ fn custom_written(alloc: Global, custom: Custom) -> Result<Vec<u8>, AllocError> 
     let mut content = Vec::new(alloc);
     let done = write_custom(&mut content, &custom);
     drop(custom);
-    done?;
-    Ok(content)
+    done.and(Ok(content))
 }
 
 /// The same, behind its id and its length.
 fn section_written(alloc: Global, custom: Custom) -> Result<Vec<u8>, AllocError> {
     let content = custom_written(alloc, custom)?;
     let mut out = Vec::new(alloc);
-    write_section(&mut out, 0, &content)?;
-    Ok(out)
+    write_section(&mut out, 0, &content).and(Ok(out))
 }
 
 #[test]

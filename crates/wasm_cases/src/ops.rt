@@ -20,19 +20,12 @@ const COUNTS: Counts = Counts {
     locals: 0,
 };
 
-fn push_all(out: &mut Seq<u32>, numbers: &[u32]) -> Result<(), AllocError> {
-    for number in numbers {
+/// Appends the list at a place of these, nothing behind the last.
+fn fill(out: &mut Seq<u32>, lists: &[&[u32]], place: usize) -> Result<(), AllocError> {
+    for number in lists.get(place).copied().unwrap_or(&[]) {
         out.push(*number)?;
     }
     Ok(())
-}
-
-/// Appends the list at a place of these, nothing behind the last.
-fn fill(out: &mut Seq<u32>, lists: &[&[u32]], place: usize) -> Result<(), AllocError> {
-    match lists.get(place) {
-        Some(numbers) => push_all(out, numbers),
-        None => Ok(()),
-    }
 }
 
 /// Nothing has a number.
@@ -71,11 +64,7 @@ fn fill_all(out: &mut Numbering, lists: &[&[u32]]) -> Result<(), AllocError> {
 /// The numbers of types, functions, tables, memories, globals, tags, element and data segments.
 fn numbering(alloc: Global, lists: &[&[u32]]) -> Result<Numbering, AllocError> {
     let mut out = no_numbers(alloc);
-    if let Err(fault) = fill_all(&mut out, lists) {
-        drop(out);
-        return Err(fault);
-    }
-    Ok(out)
+    fill_all(&mut out, lists).and(Ok(out))
 }
 
 /// Each place has itself as its number.
@@ -95,8 +84,7 @@ fn entry_of(alloc: Global, ops: &[u8]) -> Result<Vec<u8>, AllocError> {
     let mut entry = Vec::new(alloc);
     push_number(&mut entry, ops.len() as u64 + 1)?;
     entry.push(0)?;
-    entry.extend_from_slice(ops)?;
-    Ok(entry)
+    entry.extend_from_slice(ops).and(Ok(entry))
 }
 
 /// The body of these operators, which end with 0B.
@@ -115,8 +103,7 @@ fn written(alloc: Global, body: &Body) -> Result<Vec<u8>, AllocError> {
     let mut out = Vec::new(alloc);
     let done = write_code(&mut out, alloc, &numbers, body);
     drop(numbers);
-    done?;
-    Ok(out)
+    done.and(Ok(out))
 }
 
 /// These operators behind their length are written.
@@ -375,8 +362,7 @@ fn nested(alloc: Global, depth: u32) -> Result<Vec<u8>, AllocError> {
     let mut ops = Vec::new(alloc);
     repeat(&mut ops, depth, b"\x02\x40")?;
     repeat(&mut ops, depth, b"\x0b")?;
-    repeat(&mut ops, 1, b"\x0b")?;
-    Ok(ops)
+    repeat(&mut ops, 1, b"\x0b").and(Ok(ops))
 }
 
 fn op_count(alloc: Global, ops: &[u8]) -> Result<usize, ReadFault> {
@@ -462,8 +448,7 @@ fn renumbered(alloc: Global, body: &Body) -> Result<Vec<u8>, AllocError> {
     let mut out = Vec::new(alloc);
     let done = write_expression(&mut out, &numbers, body.ops.as_slice());
     drop(numbers);
-    done?;
-    Ok(out)
+    done.and(Ok(out))
 }
 
 /// Operators, written with other numbers.
