@@ -14,6 +14,15 @@ fn push_parameters(steps: &mut Vec<Step>, count: u32) -> Result<(), AllocError> 
     Ok(())
 }
 
+/// Appends the call, and a step that passes its result on.
+fn push_call(steps: &mut Vec<Step>, call: Step, has_result: bool) -> Result<(), AllocError> {
+    steps.push(call)?;
+    if has_result {
+        steps.push(Step::Unchanged)?;
+    }
+    Ok(())
+}
+
 /// Passes each of `count` parameters on to a call, and its result back.
 fn passing(
     alloc: Global,
@@ -23,11 +32,7 @@ fn passing(
 ) -> Result<Vec<Step>, AllocError> {
     let mut steps = Vec::new(alloc);
     push_parameters(&mut steps, count)?;
-    steps.push(call)?;
-    if has_result {
-        steps.push(Step::Unchanged)?;
-    }
-    Ok(steps)
+    push_call(&mut steps, call, has_result).and(Ok(steps))
 }
 
 /// The function of these steps, whose parameters want these names.

@@ -4,6 +4,11 @@ use std::fmt::Debug;
 use std::process::Abort;
 use values::Duplicate;
 
+/// It holds in this case.
+pub fn assert_case<H: Abort, C: Debug>(rt: &H, holds: bool, case: &C) {
+    assert!(rt; holds, "{case:?}");
+}
+
 /// The text is this one.
 pub fn assert_told<H: Abort, E: Drop>(
     rt: &H,
@@ -11,13 +16,8 @@ pub fn assert_told<H: Abort, E: Drop>(
     want: &str,
 ) -> Result<(), E> {
     let told = told?;
-    assert_eq!(rt; told.as_str(), want);
+    assert_case(rt, told.as_str() == want, &(told.as_str(), want));
     Ok(())
-}
-
-/// It holds in this case.
-pub fn assert_case<H: Abort>(rt: &H, holds: bool, case: &str) {
-    assert!(rt; holds, "at {case}");
 }
 
 /// A copy, which is equal.
@@ -29,19 +29,6 @@ pub fn copied<H: Abort, T: Duplicate + PartialEq>(
     let again = value.copy(alloc)?;
     assert!(rt; again == *value);
     Ok(again)
-}
-
-/// A value and its copy.
-pub fn with_copy<H: Abort, T: Duplicate + PartialEq>(
-    rt: &H,
-    alloc: Global,
-    value: T,
-) -> Result<Vec<T>, AllocError> {
-    let again = copied(rt, alloc, &value)?;
-    let mut both = Vec::new(alloc);
-    both.push(value)?;
-    both.push(again)?;
-    Ok(both)
 }
 
 /// A value as `{:?}` prints it.

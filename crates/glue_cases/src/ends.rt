@@ -51,10 +51,9 @@ fn planned(
 }
 
 fn two_files(alloc: Global) -> Result<Vec<PlannedFile>, AllocError> {
-    let mut files = Vec::new(alloc);
-    files.push(planned(alloc, "out.js", b"x;\n", true)?)?;
-    files.push(planned(alloc, "out_bg.wasm", b"\0\xabs", false)?)?;
-    Ok(files)
+    let text = planned(alloc, "out.js", b"x;\n", true)?;
+    let module = planned(alloc, "out_bg.wasm", b"\0\xabs", false)?;
+    Ok(Vec::from_array(alloc, [text, module])?)
 }
 
 /// Whether the sink takes the files; none where memory runs out.

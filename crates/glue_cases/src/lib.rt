@@ -1,4 +1,5 @@
-//! Tests of the crates from `glue_scope` to `glue_lower`: texts and files that were worked out by hand.
+//! Tests of the crates from `glue_scope` to `cli_support`: texts and files that were worked out by hand, what is answered for
+//! settings and inputs, and the lengths of the files.
 #![tactic(auto)]
 
 #[cfg(test)]
@@ -19,3 +20,5 @@ mod lower;
 mod scope;
 #[cfg(test)]
 mod shared;
+#[cfg(test)]
+mod support;

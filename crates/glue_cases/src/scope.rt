@@ -1,5 +1,5 @@
-use crate::compare::{assert_case, assert_told, copied, with_copy};
-use crate::inputs::printed;
+use crate::compare::{assert_case, assert_told, copied};
+use crate::inputs::{printed, texts};
 use glue_scope::{
     IdentScope, Item, Names, NoteKind, Role, Thing, Word, is_computed_key, is_valid_ident,
     js_string_literal, key_text, print, property_words, punct_text, regex_text, to_valid_ident,
@@ -194,8 +194,7 @@ fn prints_notes(rt: HostRuntime) -> Result<(), AllocError> {
 
 /// An assignment in a namespace.
 fn assigning(alloc: Global) -> Result<Role, AllocError> {
-    let mut path = Seq::new(alloc);
-    path.push(Text::from_str(alloc, "geo")?)?;
+    let path = texts(alloc, &["geo"])?;
     let name = Text::from_str(alloc, "f")?;
     Ok(Role::Assign(path, Thing::Adapter(3), name))
 }
@@ -210,6 +209,12 @@ fn assignment(alloc: Global) -> Result<Item, AllocError> {
         role: assigning(alloc)?,
         words,
     })
+}
+
+/// An item and its copy.
+fn with_copy<H: Abort>(rt: &H, alloc: Global, item: Item) -> Result<Vec<Item>, AllocError> {
+    let again = copied(rt, alloc, &item)?;
+    Ok(Vec::from_array(alloc, [item, again])?)
 }
 
 #[test]

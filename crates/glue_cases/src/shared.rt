@@ -2,7 +2,7 @@ use crate::compare::{assert_case, assert_told, shown};
 use crate::inputs::{CONFIG, settings};
 use glue_shared::{
     Adapter, AdapterId, AdapterKind, EncodeInto, Instruction, Lowered, NonstandardWitSection,
-    Settings, Target, WasmBindgenAux, is_fixed_name, is_host_name, live_count, roots,
+    Target, WasmBindgenAux, is_fixed_name, is_host_name, live_count, roots,
 };
 use std::alloc::{AllocError, Global};
 use std::process::Abort;
@@ -24,41 +24,51 @@ const NAMES: &[(&str, bool, bool, bool)] = &[
     ("", false, false, false),
 ];
 
-/// Which of the names a target has.
-fn assert_hosts<H: Abort>(rt: &H, deno: &Settings, emscripten: &Settings, aux: &WasmBindgenAux) {
+/// Whether a target has the name.
+fn has_host(
+    alloc: Global,
+    target: Target,
+    aux: &WasmBindgenAux,
+    name: &str,
+) -> Result<bool, AllocError> {
+    let settings = settings(alloc, target, EncodeInto::Test)?;
+    Ok(is_host_name(name, &settings, aux))
+}
+
+/// Which of the names the targets have.
+fn assert_hosts<H: Abort>(rt: &H, alloc: Global, aux: &WasmBindgenAux) -> Result<(), AllocError> {
     for (name, on_deno, on_emscripten, _) in NAMES {
-        assert_case(rt, is_host_name(name, deno, aux) == *on_deno, name);
-        assert!(rt;
-            is_host_name(name, emscripten, aux) == *on_emscripten,
-            "{name}"
-        );
+        let is_of_deno = has_host(alloc, Target::Deno, aux, name)?;
+        let is_of_emscripten = has_host(alloc, Target::Emscripten, aux, name)?;
+        assert_case(rt, is_of_deno == *on_deno, name);
+        assert_case(rt, is_of_emscripten == *on_emscripten, name);
     }
+    Ok(())
 }
 
 #[test]
 fn names_are_told_from_hosts(rt: HostRuntime) -> Result<(), AllocError> {
-    let deno = settings(rt.alloc(), Target::Deno, EncodeInto::Test)?;
-    let emscripten = settings(rt.alloc(), Target::Emscripten, EncodeInto::Test)?;
     let aux = WasmBindgenAux::empty(rt.alloc());
-    assert_hosts(&rt, &deno, &emscripten, &aux);
+    let done = assert_hosts(&rt, rt.alloc(), &aux);
     drop(aux);
-    Ok(())
+    done
 }
 
 /// Which of the names helpers or texts may bind in the module.
-fn assert_fixed<H: Abort>(rt: &H, settings: &Settings, module: &Module) {
+fn assert_fixed<H: Abort>(rt: &H, alloc: Global, module: &Module) -> Result<(), AllocError> {
+    let settings = settings(alloc, Target::Deno, EncodeInto::Test)?;
     for (name, _, _, fixed) in NAMES {
-        assert_case(rt, is_fixed_name(name, settings, module) == *fixed, name);
+        assert_case(rt, is_fixed_name(name, &settings, module) == *fixed, name);
     }
+    Ok(())
 }
 
 #[test]
 fn names_are_told_from_fixed_ones(rt: HostRuntime) -> Result<(), ParseFault> {
-    let settings = settings(rt.alloc(), Target::Deno, EncodeInto::Test)?;
     let module = Module::parse(rt.alloc(), b"\0asm\x01\0\0\0", &CONFIG)?;
-    assert_fixed(&rt, &settings, &module);
+    let done = assert_fixed(&rt, rt.alloc(), &module);
     drop(module);
-    Ok(())
+    Ok(done?)
 }
 
 #[test]
@@ -115,11 +125,10 @@ fn with_store(alloc: Global) -> WasmBindgenAux {
 
 /// That module with the adapter and the store.
 fn lowered(alloc: Global) -> Result<Lowered, ParseFault> {
-    let wit = section(alloc)?;
     let module = Module::parse(alloc, ONE_IMPORT, &CONFIG)?;
     Ok(Lowered {
         module,
-        wit,
+        wit: section(alloc)?,
         aux: with_store(alloc),
         is_read: true,
     })

@@ -1,4 +1,4 @@
-use crate::compare::{assert_told, debugged};
+use crate::compare::{assert_told, shown};
 use cli_support::{Bindgen, Fault, JsonLowering, Output, SetFault};
 use glue_ends::PlannedFile;
 use std::alloc::{AllocError, Global};
@@ -53,7 +53,7 @@ fn made(alloc: Global, deno: bool, name: &str, bytes: &[u8]) -> Result<Output, F
 /// The fault of that, nothing without one.
 fn fault_told(alloc: Global, deno: bool, name: &str, bytes: &[u8]) -> Result<String, AllocError> {
     match made(alloc, deno, name, bytes).err() {
-        Some(fault) => debugged(alloc, fault),
+        Some(fault) => shown(alloc, fault),
         None => Ok(String::new(alloc)),
     }
 }
@@ -96,18 +96,6 @@ fn an_input_is_wanted(rt: HostRuntime) {
     assert!(rt; fault == Some(Fault::NoInput));
 }
 
-/// How many items there are, whether the module's start function is run by them, whether there is a text, how many
-/// imports the module has, and how long the two files are.
-fn output_told(alloc: Global, output: &Output) -> Result<String, EmitFault> {
-    let files = output.files(alloc)?;
-    let lengths = lengths_told(alloc, files.as_slice())?;
-    let items = output.items().len();
-    let has_start = output.start().is_some();
-    let has_text = output.js().len() > 0;
-    let imports = output.wasm().imports().len();
-    Ok(format!(in alloc; "{items} {has_start} {has_text} {imports}{lengths}")?)
-}
-
 fn length_told(alloc: Global, file: &PlannedFile) -> Result<String, AllocError> {
     format!(in alloc; " {}", file.bytes.len())
 }
@@ -118,6 +106,25 @@ fn lengths_told(alloc: Global, files: &[PlannedFile]) -> Result<String, AllocErr
         out.push_str(&length_told(alloc, file)?)?;
     }
     Ok(out)
+}
+
+/// How long the two files are.
+fn files_told(alloc: Global, output: &Output) -> Result<String, EmitFault> {
+    let files = output.files(alloc)?;
+    let told = lengths_told(alloc, files.as_slice());
+    drop(files);
+    Ok(told?)
+}
+
+/// How many items there are, whether the module's start function is run by them, whether there is a text, how many
+/// imports the module has, and how long the two files are.
+fn output_told(alloc: Global, output: &Output) -> Result<String, EmitFault> {
+    let items = output.items().len();
+    let has_start = output.start().is_some();
+    let has_text = output.js().len() > 0;
+    let imports = output.wasm().imports().len();
+    let lengths = files_told(alloc, output)?;
+    Ok(format!(in alloc; "{items} {has_start} {has_text} {imports}{lengths}")?)
 }
 
 #[test]
