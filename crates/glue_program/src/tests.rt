@@ -33,6 +33,12 @@ fn words_of(alloc: Global, texts: &[&str]) -> Result<Vec<String>, AllocError> {
     Ok(words)
 }
 
+// These bytes, of which the read with this number fails.
+fn source_of(alloc: Global, bytes: &[u8], read_fails: u64) -> Result<MemSource, AllocError> {
+    let fails = [read_fails].to_vec(alloc)?;
+    Ok(MemSource::new(bytes.to_vec(alloc)?, 100, fails))
+}
+
 // The status of a run with these words on these bytes, where the read with this number fails.
 fn status_of(
     alloc: Global,
@@ -42,7 +48,7 @@ fn status_of(
     sink: &mut MemSink,
 ) -> Result<u8, AllocError> {
     let words = words_of(alloc, texts)?;
-    let mut source = MemSource::new(bytes.to_vec(alloc)?, 100, [read_fails].to_vec(alloc)?);
+    let mut source = source_of(alloc, bytes, read_fails)?;
     let Ran { status, output } = run(alloc, words.as_slice(), &mut source, sink);
     drop(output);
     Ok(status)
@@ -149,12 +155,16 @@ const REFUSED: &[(&str, &str)] = &[
     ),
 ];
 
+// Whether a run on a module with these digits ends with 1 and writes the line.
+fn is_refused(alloc: Global, digits: &str, line: &str) -> Result<bool, AllocError> {
+    let bytes = bytes_of(alloc, digits)?;
+    comes_to(alloc, bytes.as_slice(), 0, 0, 1, line.as_bytes())
+}
+
 #[test]
 fn each_fault_has_its_line(rt: HostRuntime) -> Result<(), Fail> {
-    let alloc = rt.alloc();
     for (digits, line) in REFUSED {
-        let bytes = bytes_of(alloc, digits)?;
-        assert!(rt; comes_to(alloc, bytes.as_slice(), 0, 0, 1, line.as_bytes())?);
+        assert!(rt; is_refused(rt.alloc(), digits, line)?);
     }
     Ok(())
 }
@@ -180,13 +190,23 @@ fn module_file(alloc: Global, count: u64, before: &str, after: &str) -> Result<S
     format!(in alloc; "file out_bg.wasm hex {count}\n0061736d01000000{before}{PRODUCERS}{after}\n")
 }
 
+// Whether the files of a module with these digits begin with that one.
+fn becomes(
+    alloc: Global,
+    digits: &str,
+    count: u64,
+    before: &str,
+    after: &str,
+) -> Result<bool, AllocError> {
+    let bytes = bytes_of(alloc, digits)?;
+    let want = module_file(alloc, count, before, after)?;
+    begins_with(alloc, bytes.as_slice(), want.as_bytes())
+}
+
 #[test]
 fn what_nothing_reaches_is_dropped(rt: HostRuntime) -> Result<(), Fail> {
-    let alloc = rt.alloc();
     for (digits, count, before, after) in UNREACHED {
-        let bytes = bytes_of(alloc, digits)?;
-        let want = module_file(alloc, *count, before, after)?;
-        assert!(rt; begins_with(alloc, bytes.as_slice(), want.as_bytes())?);
+        assert!(rt; becomes(rt.alloc(), digits, *count, before, after)?);
     }
     Ok(())
 }
