@@ -17,3 +17,21 @@ returns-clause-cause g c = memory c.args.settings _
 
 pub returns-clause-lower : goal.returns-clause-lower
 returns-clause-lower g c = λ e. cc
+
+pub returns-in-Ok-clause-lower : goal.returns-in-Ok-clause-lower
+returns-in-Ok-clause-lower g c = λ e. absurd (c.collect_and_make.ensures.later e)
+
+pub returns-in-Ok-clause-later : goal.returns-in-Ok-clause-later
+returns-in-Ok-clause-later g c = c.in-Ok.ensures.later
+
+pub returns-in-Err-Failed-clause-made : goal.returns-in-Err-Failed-clause-made
+returns-in-Err-Failed-clause-made g c = tt
+
+pub returns-in-Err-Failed-clause-lower : goal.returns-in-Err-Failed-clause-lower
+returns-in-Err-Failed-clause-lower g c = λ e. c.in-Err-Failed.ensures.failed (cc)
+
+pub returns-in-Err-Failed-clause-later : goal.returns-in-Err-Failed-clause-later
+returns-in-Err-Failed-clause-later g c = c.in-Err-Failed.ensures.later
+
+pub returns-clause-made : goal.returns-clause-made
+returns-clause-made g c = tt
