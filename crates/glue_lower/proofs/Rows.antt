@@ -1,8 +1,7 @@
 -- Which rows the names have.
 use Rattle.std.proofs.Common.{◌≡◌, ℕ, List, true, false, None, codes, refl}
-use Rattle.std.specs.Prelude.{bytes_eq, Option}
+use Rattle.std.specs.Prelude.{bytes_eq}
 use Rattle.serde_json.specs.Data.{Data}
-use Rattle.glue_shared.specs.declared.adapter.Instruction.{Instruction}
 use Rattle.glue_shared.specs.declared.adapter.Instruction.TheVariants.{ArgGet, Int32ToWasm, CallExport, CallAdapter}
 use Rattle.glue_lower.specs.Thin.{row, numbered, bare, signed}
 
