@@ -47,7 +47,7 @@ pub enum SetFault {
 }
 
 /// What is set for the next call, and its input.
-#[derive(Debug, Drop)]
+#[derive(Drop)]
 pub struct Bindgen {
     target: Target,
     externref: bool,

@@ -14,7 +14,7 @@ use values::{Seq, Text};
 use wasm_core::{EmitFault, Module};
 
 /// What a call made: the items of the glue file, their text, and the module that goes with it.
-#[derive(Debug, Drop)]
+#[derive(Drop)]
 pub struct Output {
     settings: Settings,
     items: Seq<Item>,

@@ -2,7 +2,7 @@
 use values::{Seq, Text};
 
 /// A step of an adapter, with what its ids name.
-#[derive(Debug, Drop)]
+#[derive(Drop)]
 pub enum Step {
     /// Pushes the parameter at this place, counted from 0.
     Parameter(u32),

@@ -107,6 +107,7 @@ impl Source for MemSource {
         ensures bytes { ReadConsumes (Some self.old.left) (Some self.new.left) result buf.new }
         ensures later { self.old.faults ≤ self.new.faults }
         ensures failed { OnErr result (Rose self.old.faults self.new.faults) }
+        ensures kept { IfOk result (λ _. self.new.faults ≡ self.old.faults) }
 
         // It fails exactly at the listed calls, and gives at most a piece.
         ensures calls { self.new.calls ≡ next self.old.calls }
@@ -169,6 +170,7 @@ impl Sink for MemSink {
         ensures prefix { AppendsPrefix (Some self.old.taken) (Some self.new.taken) bytes.now }
         ensures later { self.old.faults ≤ self.new.faults }
         ensures failed { result ≡ Err WriteFault.Failed → Rose self.old.faults self.new.faults }
+        ensures kept { OnOk result (self.new.faults ≡ self.old.faults) }
 
         // It takes nothing at a refusal, and fails exactly at the listed calls.
         ensures nothing { OnErr result (self.new.taken ≡ self.old.taken) }

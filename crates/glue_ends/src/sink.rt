@@ -44,5 +44,6 @@ pub trait Sink {
         ensures ok { OnOk result (Appends (taken self.old) (taken self.new) bytes.now) }
         ensures prefix { AppendsPrefix (taken self.old) (taken self.new) bytes.now }
         ensures later { faults self.old ≤ faults self.new }
-        ensures failed { result ≡ Err WriteFault.Failed → Rose (faults self.old) (faults self.new) };
+        ensures failed { result ≡ Err WriteFault.Failed → Rose (faults self.old) (faults self.new) }
+        ensures kept { OnOk result (faults self.new ≡ faults self.old) };
 }

@@ -3,7 +3,7 @@ use glue_scope::Word;
 use values::{Boxed, Seq, Text};
 
 /// An expression.
-#[derive(Debug, Drop)]
+#[derive(Drop)]
 pub enum Expr {
     /// A name of the function's scope.
     Local(Text),
@@ -14,7 +14,7 @@ pub enum Expr {
 }
 
 /// A statement.
-#[derive(Debug, Drop)]
+#[derive(Drop)]
 pub enum Stmt {
     /// `const name = e;`
     Let(Text, Expr),
@@ -27,7 +27,7 @@ pub enum Stmt {
 }
 
 /// A function without its name.
-#[derive(Debug, Drop)]
+#[derive(Drop)]
 pub struct JsFunction {
     /// The parameters, in order.
     pub params: Seq<Text>,

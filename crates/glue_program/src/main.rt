@@ -10,17 +10,10 @@
 #[cfg(test)]
 mod tests;
 
-use cli_support::{ReadEnd, WriteEnd};
-use glue_run::{Ran, run};
+use glue_run::run_process;
 use std::io;
 use std::process::ExitCode;
 
 fn main(rt: HostRuntime) -> io::Result<ExitCode> {
-    let alloc = rt.alloc();
-    let words: Vec<String> = std::env::args(&rt)?.skip(1).collect(alloc)?;
-    let mut source = ReadEnd::new(rt.reader());
-    let mut sink = WriteEnd::new(io::writer(&rt));
-    let Ran { status, output } = run(alloc, words.as_slice(), &mut source, &mut sink);
-    drop(output);
-    Ok(ExitCode::from(status))
+    run_process(&rt)
 }

@@ -1,5 +1,5 @@
 -- What a run of some bytes comes to.
-use Rattle.std.specs.Prelude.{Bool, true, false, ◌≡◌, ◌≤◌, ◌⊎◌, IsSome, ℕ, List, [], ◌∷◌, ◌++◌, codes, Option, Some, None, Result, Ok, Err}
+use Rattle.std.specs.Prelude.{Bool, true, false, ◌≡◌, ◌≤◌, ◌⊎◌, IsSome, ℕ, List, [], ◌++◌, codes, Option, Some, None, Result, Ok, Err}
 use Rattle.std.specs.Io.KnownBytes.{Appends, Keeps}
 use Rattle.wasm_core.specs.Emission.{too_large}
 use Rattle.glue_ends.specs.Causes.{Rose, AppendsPrefix}

@@ -1,5 +1,5 @@
 -- What a run did, by its status.
-use Rattle.std.specs.Prelude.{◌≡◌, ◌≤◌, length, Some, None, ℕ, List, [], ◌∷◌, codes, Option, map, String, string_bytes}
+use Rattle.std.specs.Prelude.{◌≡◌, ◌≤◌, length, Some, ℕ, List, [], ◌∷◌, codes, Option, map, String, string_bytes}
 use Rattle.std.specs.declared.alloc.Global.{Global}
 use Rattle.glue_ends.specs.Causes.{Rose}
 use Rattle.glue_ends.specs.Taking.{IsWhole}

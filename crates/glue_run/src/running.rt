@@ -24,7 +24,7 @@ pub const LIMIT: usize = 268_435_456;
 pub const PIECE: usize = 65_536;
 
 /// How a run ended: its status, and the output where one was made.
-#[derive(Debug, Drop)]
+#[derive(Drop)]
 pub struct Ran {
     pub status: u8,
     pub output: Option<Output>,

@@ -18,7 +18,7 @@ impl Model for AdapterId {
 }
 
 /// The element of a vector that passes through memory.
-#[derive(Clone, Copy, Debug)]
+#[derive(Clone, Copy)]
 pub enum VectorKind {
     I8,
     U8,
@@ -32,7 +32,7 @@ pub enum VectorKind {
 }
 
 /// The type of an argument or a result on the side of the caller.
-#[derive(Debug, Drop)]
+#[derive(Drop)]
 pub enum AdapterType {
     I32,
     S32,
@@ -53,7 +53,7 @@ pub enum AdapterType {
 }
 
 /// One step of an adapter's code, over a stack of values.
-#[derive(Debug, Drop)]
+#[derive(Drop)]
 pub enum Instruction {
     ArgGet(u32),
     Int32ToWasm,
@@ -91,7 +91,7 @@ pub enum Instruction {
 }
 
 /// How an imported function is called.
-#[derive(Clone, Copy, Debug)]
+#[derive(Clone, Copy)]
 pub enum AdapterJsImportKind {
     Normal,
     Method,
@@ -99,14 +99,14 @@ pub enum AdapterJsImportKind {
 }
 
 /// What an adapter does: code, or a call of an import.
-#[derive(Debug, Drop)]
+#[derive(Drop)]
 pub enum AdapterKind {
     Local(Seq<Instruction>),
     Import(AdapterJsImportKind),
 }
 
 /// A function between the two sides.
-#[derive(Debug, Drop)]
+#[derive(Drop)]
 pub struct Adapter {
     pub args: Seq<AdapterType>,
     pub results: Seq<AdapterType>,
@@ -114,7 +114,7 @@ pub struct Adapter {
 }
 
 /// The adapters of a module, and which imports and exports they stand for.
-#[derive(Debug, Drop)]
+#[derive(Drop)]
 pub struct NonstandardWitSection {
     pub adapters: Map<AdapterId, Adapter>,
     /// Each import with the adapter that defines it.

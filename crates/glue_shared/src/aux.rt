@@ -5,7 +5,7 @@ use values::{Map, Seq, Text};
 use wasm_core::{FuncId, GlobalId, TableId, TagId};
 
 /// What an accessor or a method of a class is.
-#[derive(Clone, Copy, Debug)]
+#[derive(Clone, Copy)]
 pub enum AuxExportedMethodKind {
     Method,
     Getter,
@@ -13,7 +13,7 @@ pub enum AuxExportedMethodKind {
 }
 
 /// What an export is.
-#[derive(Clone, Copy, Debug)]
+#[derive(Clone, Copy)]
 pub enum AuxExportKind {
     Function,
     /// A function that is given `this` as its first argument.
@@ -23,7 +23,7 @@ pub enum AuxExportKind {
 }
 
 /// How a method takes its object.
-#[derive(Clone, Copy, Debug)]
+#[derive(Clone, Copy)]
 pub enum AuxReceiverKind {
     None,
     Borrowed,
@@ -31,7 +31,7 @@ pub enum AuxReceiverKind {
 }
 
 /// A function, constructor, method or accessor that is published.
-#[derive(Debug, Drop)]
+#[derive(Drop)]
 pub struct AuxExport {
     pub adapter: AdapterId,
     pub kind: AuxExportKind,
@@ -52,7 +52,7 @@ pub struct AuxExport {
 }
 
 /// A class.
-#[derive(Debug, Drop)]
+#[derive(Drop)]
 pub struct AuxStruct {
     pub name: Text,
     pub namespace: Seq<Text>,
@@ -66,7 +66,7 @@ pub struct AuxStruct {
 }
 
 /// An enum of numbers: each variant with its number and its comment.
-#[derive(Debug, Drop)]
+#[derive(Drop)]
 pub struct AuxEnum {
     pub name: Text,
     pub namespace: Seq<Text>,
@@ -77,7 +77,7 @@ pub struct AuxEnum {
 }
 
 /// An enum of texts.
-#[derive(Debug, Drop)]
+#[derive(Drop)]
 pub struct AuxStringEnum {
     pub name: Text,
     pub variants: Seq<Text>,
@@ -87,14 +87,14 @@ pub struct AuxStringEnum {
 }
 
 /// One of the types of a union.
-#[derive(Debug, Drop)]
+#[derive(Drop)]
 pub enum AuxDynamicUnionVariant {
     Literal(Text),
     Typed(AdapterType),
 }
 
 /// A union of types.
-#[derive(Debug, Drop)]
+#[derive(Drop)]
 pub struct AuxDynamicUnion {
     pub name: Text,
     pub variants: Seq<AuxDynamicUnionVariant>,
@@ -104,14 +104,14 @@ pub struct AuxDynamicUnion {
 }
 
 /// A slot of the module's statics.
-#[derive(Debug, Drop)]
+#[derive(Drop)]
 pub enum StaticSlot {
     Null,
     Text(Text),
 }
 
 /// All that a description says beside its adapters.
-#[derive(Debug, Drop)]
+#[derive(Drop)]
 pub struct WasmBindgenAux {
     pub exports: Seq<AuxExport>,
     pub imports: Seq<(AdapterId, AuxImport)>,

@@ -9,14 +9,14 @@ use values::{Map, Seq};
 use wasm_core::Module;
 
 /// What is described of a module.
-#[derive(Debug, Drop)]
+#[derive(Drop)]
 pub struct Description {
     pub wit: NonstandardWitSection,
     pub aux: WasmBindgenAux,
 }
 
 /// A module with its description, as a lowering gives them.
-#[derive(Debug, Drop)]
+#[derive(Drop)]
 pub struct Lowered {
     pub module: Module,
     pub wit: NonstandardWitSection,

@@ -32,14 +32,14 @@ pub enum JsImportName {
 }
 
 /// A name, and the properties that are read from it in order.
-#[derive(Debug, Drop)]
+#[derive(Drop)]
 pub struct JsImport {
     pub name: JsImportName,
     pub fields: Seq<Text>,
 }
 
 /// An import that is a value, or a property of one.
-#[derive(Debug, Drop)]
+#[derive(Drop)]
 pub enum AuxValue {
     Bare(JsImport),
     Getter(JsImport, Text),
@@ -49,7 +49,7 @@ pub enum AuxValue {
 }
 
 /// An operation that the glue file carries out itself.
-#[derive(Clone, Copy, Debug)]
+#[derive(Clone, Copy)]
 pub enum Intrinsic {
     Add,
     BigIntGetAsI64,
@@ -107,7 +107,7 @@ pub enum Intrinsic {
 }
 
 /// What an import evaluates.
-#[derive(Debug, Drop)]
+#[derive(Drop)]
 pub enum AuxImport {
     Value(AuxValue),
     ValueWithThis(JsImport, Text),

@@ -3,7 +3,7 @@ use std::alloc::{AllocError, Global};
 use values::{Duplicate, Text};
 
 /// What the files are made for.
-#[derive(Debug, Drop)]
+#[derive(Drop)]
 pub enum Target {
     /// A bundler. `browser_only` changes no text.
     Bundler { browser_only: bool },
@@ -29,7 +29,7 @@ pub enum EncodeInto {
 }
 
 /// The settings of a call.
-#[derive(Debug, Drop)]
+#[derive(Drop)]
 pub struct Settings {
     /// What the names of the files begin with.
     pub stem: Text,

@@ -18,7 +18,7 @@ use wasm_ops::{FuncId, FuncType};
 pub const LONGEST: usize = 268_435_456;
 
 /// A module. An id is a place in a list and stays valid: what is dropped leaves its place empty.
-#[derive(Debug, Drop)]
+#[derive(Drop)]
 pub struct Module {
     pub(crate) types: Vec<Option<FuncType>>,
     pub(crate) funcs: Vec<Option<Func>>,

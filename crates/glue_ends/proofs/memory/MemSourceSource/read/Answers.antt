@@ -10,6 +10,7 @@ returns-then-next_fails c = rw (← c.self.view_is) record {
   bytes = refl;
   later = c.next_fails.ensures.later;
   failed = c.next_fails.ensures.rose c.if-next_fails.true;
+  kept = tt;
   calls = c.next_fails.ensures.made;
   fails = ap (λ v. v.items) c.next_fails.ensures.same;
   listed = (λ _. c.next_fails.ensures.listed.0 c.if-next_fails.true, λ _. refl);
