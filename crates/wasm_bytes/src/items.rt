@@ -34,7 +34,8 @@ pub fn read_name(reader: &mut Reader<'_>, alloc: Global) -> Result<Text, ReadFau
 /// An index below the number of its kind (WebAssembly core specification, 5.5.1).
 #[tactic(auto, unfolding(crate::specs::Items::index))]
 pub fn read_index(reader: &mut Reader<'_>, count: u64) -> Result<u32, ReadFault>
-    ensures { Gives result reader.new (index count reader.old) }
+    ensures value { Gives result reader.new (index count reader.old) }
+    ensures sure { IfErr result (λ e. e ≢ OutOfMemory) }
 {
     let place = reader.place();
     let found = reader.number32()?;
@@ -48,7 +49,8 @@ pub fn read_index(reader: &mut Reader<'_>, count: u64) -> Result<u32, ReadFault>
 /// One byte of this value.
 #[tactic(auto, unfolding(crate::specs::Items::exactly))]
 pub fn read_exactly(reader: &mut Reader<'_>, wanted: u8) -> Result<u8, ReadFault>
-    ensures { Gives result reader.new (exactly wanted reader.old) }
+    ensures value { Gives result reader.new (exactly wanted reader.old) }
+    ensures sure { IfErr result (λ e. e ≢ OutOfMemory) }
 {
     let place = reader.place();
     let found = reader.byte()?;

@@ -67,7 +67,8 @@ impl<'a> Reader<'a> {
 
     /// The next byte, which stays to be read.
     pub fn peek(&self) -> Result<u8, ReadFault>
-        ensures { Decodes result (value_of (byte self.now)) }
+        ensures value { Decodes result (value_of (byte self.now)) }
+        ensures sure { IfErr result (λ e. e ≢ OutOfMemory) }
     {
         match self.bytes {
             [] => Err(ReadFault::Parse { place: self.place }),
@@ -91,7 +92,8 @@ impl<'a> Reader<'a> {
 
     /// The next bytes, so many, to be read by themselves.
     pub fn frame(&mut self, len: usize) -> Result<Reader<'a>, ReadFault>
-        ensures { Gives result self.new (frame len self.old) }
+        ensures value { Gives result self.new (frame len self.old) }
+        ensures sure { IfErr result (λ e. e ≢ OutOfMemory) }
     {
         if self.bytes.len() < len {
             return Err(ReadFault::Parse { place: self.end() });
@@ -168,7 +170,8 @@ impl<'a> Reader<'a> {
     /// A number of 64 bits.
     #[tactic(auto, unfolding(crate::specs::Numbers::number64))]
     pub fn number64(&mut self) -> Result<u64, ReadFault>
-        ensures { Gives result self.new (number64 self.old) }
+        ensures value { Gives result self.new (number64 self.old) }
+        ensures sure { IfErr result (λ e. e ≢ OutOfMemory) }
     {
         let start = self.place;
         self.unsigned(start, 9, 2)
@@ -181,6 +184,7 @@ impl<'a> Reader<'a> {
         requires fits { room * 128 ^ more ≤ 2 ^ 63 }
         ensures value { Gives result self.new (signed_from start more room self.old) }
         ensures bound { IfOk result (IsWithin (room * 128 ^ more)) }
+        ensures sure { IfErr result (λ e. e ≢ OutOfMemory) }
     {
         let byte = self.byte()?;
         if more == 0 {
@@ -199,7 +203,8 @@ impl<'a> Reader<'a> {
     /// A signed number of 32 bits.
     #[tactic(auto, unfolding(crate::specs::Signed::signed32))]
     pub fn signed32(&mut self) -> Result<i32, ReadFault>
-        ensures { Gives result self.new (signed32 self.old) }
+        ensures value { Gives result self.new (signed32 self.old) }
+        ensures sure { IfErr result (λ e. e ≢ OutOfMemory) }
     {
         let start = self.place;
         Ok(self.signed(start, 4, 8)? as i32)
@@ -210,6 +215,7 @@ impl<'a> Reader<'a> {
     pub fn signed33(&mut self) -> Result<i64, ReadFault>
         ensures value { Gives result self.new (signed33 self.old) }
         ensures bound { IfOk result (IsWithin (2 ^ 32)) }
+        ensures sure { IfErr result (λ e. e ≢ OutOfMemory) }
     {
         let start = self.place;
         self.signed(start, 4, 16)
@@ -218,7 +224,8 @@ impl<'a> Reader<'a> {
     /// A signed number of 64 bits.
     #[tactic(auto, unfolding(crate::specs::Signed::signed64))]
     pub fn signed64(&mut self) -> Result<i64, ReadFault>
-        ensures { Gives result self.new (signed64 self.old) }
+        ensures value { Gives result self.new (signed64 self.old) }
+        ensures sure { IfErr result (λ e. e ≢ OutOfMemory) }
     {
         let start = self.place;
         self.signed(start, 9, 1)
