@@ -11,9 +11,8 @@
 mod tests;
 
 use glue_run::run_process;
-use std::io;
 use std::process::ExitCode;
 
-fn main(rt: HostRuntime) -> io::Result<ExitCode> {
+fn main(rt: HostRuntime) -> ExitCode {
     run_process(&rt)
 }
