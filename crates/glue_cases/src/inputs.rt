@@ -1,4 +1,8 @@
 //! Words that are printed, names, and settings.
+ghost use Rattle.std.specs.Prelude.{◌≡◌, [], ◌∷◌, codes, map, true, false, string_bytes, IfOk};
+ghost use Rattle.glue_scope.specs.Words.{printed as printed_items};
+ghost use Rattle.glue_scope.specs.declared.item.Role.TheVariants.{Body};
+
 use glue_scope::{Item, Role, Word, print};
 use glue_shared::{EncodeInto, Settings, Target};
 use std::alloc::{AllocError, Global};
@@ -13,7 +17,9 @@ pub const CONFIG: ParseConfig = ParseConfig {
 };
 
 /// The words, printed.
-pub fn printed(alloc: Global, words: Seq<Word>) -> Result<String, AllocError> {
+pub fn printed(alloc: Global, words: Seq<Word>) -> Result<String, AllocError>
+    ensures { IfOk result (λ text. string_bytes text ≡ printed_items (record { role = Body; words = words } ∷ [])) }
+{
     let item = Item {
         role: Role::Body,
         words,
@@ -23,7 +29,10 @@ pub fn printed(alloc: Global, words: Seq<Word>) -> Result<String, AllocError> {
     text
 }
 
-pub fn texts(alloc: Global, names: &[&str]) -> Result<Seq<Text>, AllocError> {
+/// These texts.
+pub fn texts(alloc: Global, names: &[&str]) -> Result<Seq<Text>, AllocError>
+    ensures { IfOk result (λ seq. seq ≡ map (λ name. name.now) names.now) }
+{
     let mut seq = Seq::new(alloc);
     for name in names {
         seq.push(Text::from_str(alloc, name)?)?;
@@ -36,7 +45,9 @@ pub fn settings(
     alloc: Global,
     target: Target,
     encode_into: EncodeInto,
-) -> Result<Settings, AllocError> {
+) -> Result<Settings, AllocError>
+    ensures { IfOk result (λ s. s ≡ record { stem = codes "out"; target = target; debug = false; typescript = false; omit_imports = false; export_wasm = false; externref = false; multi_value = false; encode_into = encode_into; omit_default_module_path = true; ts_typed_array_buffers = false; split_linked_modules = false; js_string_builtins = false; reset_state = false; force_abort = false }) }
+{
     Ok(Settings {
         stem: Text::from_str(alloc, "out")?,
         target,

@@ -10,8 +10,7 @@ mod compare;
 mod ends;
 #[cfg(test)]
 mod heap;
-#[cfg(test)]
-mod inputs;
+pub mod inputs;
 #[cfg(test)]
 mod layout;
 #[cfg(test)]

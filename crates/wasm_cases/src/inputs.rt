@@ -1,4 +1,8 @@
 //! Files of a few sections.
+ghost use Rattle.std.specs.Prelude.{◌≡◌, ◌++◌, true, false, Ok, IfOk, OnOk};
+ghost use Rattle.std.specs.List.{flat_map};
+ghost use Rattle.wasm_core.specs.Parsing.{module_of};
+ghost use Rattle.wasm_file.specs.Frames.{preamble_bytes};
 
 use std::alloc::{AllocError, Global};
 use wasm_core::{Module, ParseConfig, ParseFault};
@@ -9,10 +13,13 @@ pub const CONFIG: ParseConfig = ParseConfig {
     producers: true,
 };
 
+/// The magic number and the version (WebAssembly core specification, 5.5.16).
 pub const HEAD: &[u8] = b"\0asm\x01\0\0\0";
 
 /// Appends each part.
-pub fn extend(bytes: &mut Vec<u8>, parts: &[&[u8]]) -> Result<(), AllocError> {
+pub fn extend(bytes: &mut Vec<u8>, parts: &[&[u8]]) -> Result<(), AllocError>
+    ensures { OnOk result (bytes.new.items ≡ bytes.old.items ++ flat_map (λ part. part.now) parts.now) }
+{
     for part in parts {
         bytes.extend_from_slice(part)?;
     }
@@ -20,21 +27,24 @@ pub fn extend(bytes: &mut Vec<u8>, parts: &[&[u8]]) -> Result<(), AllocError> {
 }
 
 /// A file of these sections.
-pub fn joined(alloc: Global, parts: &[&[u8]]) -> Result<Vec<u8>, AllocError> {
+pub fn joined(alloc: Global, parts: &[&[u8]]) -> Result<Vec<u8>, AllocError>
+    ensures { IfOk result (λ bytes. bytes.items ≡ preamble_bytes ++ flat_map (λ part. part.now) parts.now) }
+{
     let mut bytes = Vec::from_slice(alloc, HEAD)?;
     extend(&mut bytes, parts).and(Ok(bytes))
 }
 
 /// A file of the first sections and, behind them, the others.
-pub fn joined_behind(
-    alloc: Global,
-    ahead: &[&[u8]],
-    parts: &[&[u8]],
-) -> Result<Vec<u8>, AllocError> {
+pub fn joined_behind(alloc: Global, ahead: &[&[u8]], parts: &[&[u8]]) -> Result<Vec<u8>, AllocError>
+    ensures { IfOk result (λ bytes. bytes.items ≡ (preamble_bytes ++ flat_map (λ part. part.now) ahead.now) ++ flat_map (λ part. part.now) parts.now) }
+{
     let mut bytes = joined(alloc, ahead)?;
     extend(&mut bytes, parts).and(Ok(bytes))
 }
 
-pub fn read(alloc: Global, parts: &[&[u8]]) -> Result<Module, ParseFault> {
+/// The module of these sections.
+pub fn read(alloc: Global, parts: &[&[u8]]) -> Result<Module, ParseFault>
+    ensures { IfOk result (λ m. module_of (record { keep_debug = false; names = true; producers = true }) (preamble_bytes ++ flat_map (λ part. part.now) parts.now) ≡ Ok m) }
+{
     Module::parse(alloc, &joined(alloc, parts)?, &CONFIG)
 }

@@ -14,8 +14,7 @@ mod containers;
 mod edit;
 #[cfg(test)]
 mod file;
-#[cfg(test)]
-mod inputs;
+pub mod inputs;
 #[cfg(test)]
 mod module;
 #[cfg(test)]
