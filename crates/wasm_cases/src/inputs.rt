@@ -1,7 +1,8 @@
 //! Files of a few sections.
-ghost use Rattle.std.specs.Prelude.{◌≡◌, ◌++◌, true, false, Ok, IfOk, OnOk};
+ghost use Rattle.std.specs.Prelude.{◌≡◌, ◌≢◌, ◌++◌, true, false, Ok, Err, IfOk, IfErr, OnOk};
 ghost use Rattle.std.specs.List.{flat_map};
 ghost use Rattle.wasm_core.specs.Parsing.{module_of};
+ghost use Rattle.wasm_core.specs.declared.faults.ParseFault.TheVariants.{OutOfMemory};
 ghost use Rattle.wasm_file.specs.Frames.{preamble_bytes};
 
 use std::alloc::{AllocError, Global};
@@ -42,9 +43,10 @@ pub fn joined_behind(alloc: Global, ahead: &[&[u8]], parts: &[&[u8]]) -> Result<
     extend(&mut bytes, parts).and(Ok(bytes))
 }
 
-/// The module of these sections.
+/// The module of these sections, or the place of its first fault.
 pub fn read(alloc: Global, parts: &[&[u8]]) -> Result<Module, ParseFault>
-    ensures { IfOk result (λ m. module_of (record { keep_debug = false; names = true; producers = true }) (preamble_bytes ++ flat_map (λ part. part.now) parts.now) ≡ Ok m) }
+    ensures ok { IfOk result (λ m. module_of (record { keep_debug = false; names = true; producers = true }) (preamble_bytes ++ flat_map (λ part. part.now) parts.now) ≡ Ok m) }
+    ensures err { IfErr result (λ e. e ≢ OutOfMemory → module_of (record { keep_debug = false; names = true; producers = true }) (preamble_bytes ++ flat_map (λ part. part.now) parts.now) ≡ Err e) }
 {
     Module::parse(alloc, &joined(alloc, parts)?, &CONFIG)
 }
