@@ -409,6 +409,10 @@ fn code_and_data(rt: HostRuntime) {
             (&[TYPES, FUNCTION, DROPS_ELEM], 30),
             (&[b"\x0c\x01\x01"], 11),
             (&[b"\x0c\x01\x01", b"\x0b\x01\0"], 13),
+            // A data count of 10,000,000 and no segments, one of 10,000,001, and the greatest number.
+            (&[b"\x0c\x04\x80\xad\xe2\x04"], 14),
+            (&[b"\x0c\x04\x81\xad\xe2\x04"], 10),
+            (&[b"\x0c\x05\xff\xff\xff\xff\x0f"], 10),
             // The flags 3, no memory, not that memory, fewer bytes than are told.
             (&[b"\x0b\x02\x01\x03"], 11),
             (&[b"\x0b\x06\x01\0\x41\0\x0b\0"], 11),

@@ -140,6 +140,74 @@ fn the_empty_module_gets_its_producers(rt: HostRuntime) -> Result<(), ParseFault
     assert_edited(&rt, rt.alloc(), &Edit::ProcessTwice, &[], &[PRODUCERS])
 }
 
+/// This program among the tools, of another version and of its own.
+const OTHER: &[u8] = b"\x0cwasm-bindgen\x010";
+
+const OWN: &[u8] = b"\x0cwasm-bindgen\x070.2.130";
+
+/// A field of other tools.
+const RUST_ALONE: &[u8] = b"\x08language\x01\x04Rust\x011";
+
+/// Modules of producers, and how they are written with this program's version. Several sections are joined.
+const PROCESSED: &[(&[&[u8]], &[&[u8]])] = &[
+    // Two entries of the name in one field.
+    (
+        &[
+            b"\x00\x3f\x09producers\x01\x0cprocessed-by\x04\x01a\x011",
+            OTHER,
+            b"\x01b\x012",
+            OTHER,
+        ],
+        &[
+            b"\x00\x45\x09producers\x01\x0cprocessed-by\x04\x01a\x011",
+            OWN,
+            b"\x01b\x012",
+            OTHER,
+        ],
+    ),
+    // Two fields that have the entry.
+    (
+        &[
+            b"\x00\x56\x09producers\x03\x0cprocessed-by\x01",
+            OTHER,
+            RUST_ALONE,
+            b"\x0cprocessed-by\x01",
+            OTHER,
+        ],
+        &[
+            b"\x00\x5c\x09producers\x03\x0cprocessed-by\x01",
+            OWN,
+            RUST_ALONE,
+            b"\x0cprocessed-by\x01",
+            OTHER,
+        ],
+    ),
+    // Two fields, of which the second has the entry.
+    (
+        &[
+            b"\x00\x1d\x09producers\x01\x0cprocessed-by\x01\x01a\x011",
+            b"\x00\x28\x09producers\x01\x0cprocessed-by\x01",
+            OTHER,
+        ],
+        &[
+            b"\x00\x4f\x09producers\x02\x0cprocessed-by\x02\x01a\x011",
+            OWN,
+            b"\x0cprocessed-by\x01",
+            OTHER,
+        ],
+    ),
+];
+
+#[test]
+fn the_first_of_several_fields_and_entries_gets_the_version(
+    rt: HostRuntime,
+) -> Result<(), ParseFault> {
+    for (given, want) in PROCESSED {
+        assert_edited(&rt, rt.alloc(), &Edit::ProcessTwice, given, want)?;
+    }
+    Ok(())
+}
+
 const RENAMED: &[u8] = b"\x02\x13\x01\x0b./out_bg.js\x03log\x00\x01";
 
 const WORKED: &[&[u8]] = &[TYPES, RENAMED, FUNCTION, ADD, CODE, PRODUCERS];

@@ -1,6 +1,6 @@
 -- What the editing calls make of a module.
-use Rattle.std.specs.Prelude.{ℕ, Bool, false, not, ◌==◌, ◌&&◌, length, List, [], ◌∷◌, ◌++◌, map, codes, Option, Some, None, slice_get, slice_set, if◌then◌else◌}
-use Rattle.std.specs.List.{list_any, filter, find, position_from}
+use Rattle.std.specs.Prelude.{◌≡◌, ℕ, ◌≤◌, Bool, false, not, ◌==◌, ◌&&◌, length, List, [], ◌∷◌, ◌++◌, codes, Option, Some, None, slice_get, slice_set, if◌then◌else◌}
+use Rattle.std.specs.List.{filter, find, position_from}
 use Rattle.std.specs.Option.{IsSomeAnd}
 use Rattle.std.specs.Cmp.Lexicographic.{pointwise}
 use Rattle.wasm_file.specs.declared.entries.Custom.{Custom}
@@ -20,29 +20,36 @@ use Rattle.wasm_core.specs.declared.types.ImportKind.{ImportKind}
 use Rattle.wasm_core.specs.declared.types.ImportKind.TheVariants as kinds
 use Rattle.wasm_core.specs.Contents.{Contents, IsLive}
 
--- an entry of that name with the version, another as it is
-abbrev pub updated : List ℕ → List ℕ → ProducerValue → ProducerValue
-updated name version v = if is_same_text v.name name then record v { version = version } else v
+-- the greatest number of places of a list
+abbrev pub most_places : ℕ
+most_places = 4294967295
 
--- an entry of that name gets the version; without one it is added last
+-- a list takes no further entry
+abbrev pub IsFull : {A : Type 0} → List A → Type 0
+IsFull xs = most_places ≤ length xs
+
+-- the first entry that passes a test is changed, the others are as they are; without one a new entry is added last
+unfoldable pub first_changed : {A : Type 0} → (A → Bool) → (A → A) → A → List A → List A
+first_changed test change new [] = new ∷ []
+first_changed test change new (x ∷ xs) = if test x then change x ∷ xs else x ∷ first_changed test change new xs
+
+-- the first entry of that name gets the version; without one it is added last
 unfoldable pub with_version : List ℕ → List ℕ → List ProducerValue → List ProducerValue
-with_version name version values = map (updated name version) values
-    ++ (if list_any (λ v. is_same_text v.name name) values then [] else record { name = name; version = version } ∷ [])
-
--- a field of that name with the entry, another as it is
-abbrev pub updated_field : List ℕ → List ℕ → List ℕ → ProducerField → ProducerField
-updated_field field name version f = if is_same_text f.name field then record f { values = with_version name version f.values } else f
+with_version name version =
+    first_changed (λ v. is_same_text v.name name) (λ v. record v { version = version })
+    (record { name = name; version = version })
 
 -- a field with this entry alone
 abbrev pub new_field : List ℕ → List ℕ → List ℕ → ProducerField
 new_field field name version = record { name = field; values = record { name = name; version = version } ∷ [] }
 
--- the field gets the entry; without the field it is added last
+-- the first field of that name gets the entry; without one the field is added last
 unfoldable pub with_field : List ℕ → List ℕ → List ℕ → List ProducerField → List ProducerField
-with_field field name version fields = map (updated_field field name version) fields
-    ++ (if list_any (λ f. is_same_text f.name field) fields then [] else new_field field name version ∷ [])
+with_field field name version =
+    first_changed (λ f. is_same_text f.name field) (λ f. record f { values = with_version name version f.values })
+    (new_field field name version)
 
--- one tool more in the field of what processed the module
+-- the tool with its version in the first field `processed-by`
 unfoldable pub with_processed_by : List ℕ → List ℕ → Contents → Contents
 with_processed_by name version m = record m { producers = with_field (codes "processed-by") name version m.producers }
 
@@ -141,6 +148,10 @@ is_alike a b = pointwise is_same_type a.params b.params && pointwise is_same_typ
 abbrev pub is_entry_alike : FuncType → Option FuncType → Bool
 is_entry_alike ty (Some found) = is_alike found ty
 is_entry_alike ty None = false
+
+-- no type of the module is alike: a function of this type adds it
+abbrev pub IsNewType : FuncType → Contents → Type 0
+IsNewType ty m = position_from (is_entry_alike ty) 0 m.types ≡ None
 
 -- a function of the module's own, of the type at a place
 abbrev pub new_func : ℕ → List ℕ → Body → Func

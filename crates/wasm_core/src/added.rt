@@ -1,8 +1,8 @@
 //! Adding a function.
 
-ghost use Rattle.std.specs.Prelude.{◌≡◌, ◌++◌, ◌∷◌, [], Some, length, IfOk, OnOk, OnErr};
+ghost use Rattle.std.specs.Prelude.{◌≡◌, ◌≤◌, ◌++◌, ◌∷◌, [], Some, Err, alloc_error, length, IfOk, OnOk, OnErr};
 ghost use Rattle.std.specs.List.{position_from};
-ghost use Rattle.wasm_core.specs.Edits.{is_alike, is_entry_alike, new_func, with_func};
+ghost use Rattle.wasm_core.specs.Edits.{IsFull, IsNewType, most_places, is_alike, is_entry_alike, new_func, with_func};
 
 use crate::module::Module;
 use crate::types::Func;
@@ -12,7 +12,8 @@ use wasm_ops::{Body, FuncId, FuncType, TypeId};
 
 impl Module {
     /// Adds a function with this name and body, the last one. Its type is the first that is alike; without one the type is
-    /// added last. Without memory, or where 4,294,967,295 places are taken, nothing is changed.
+    /// added last. Without memory nothing is changed; there is none where 4,294,967,295 places of functions are taken,
+    /// or as many of types and the type is to be added.
     #[tactic(auto, unfolding(crate::specs::Edits::with_func))]
     pub fn add_func(
         &mut self,
@@ -24,6 +25,8 @@ impl Module {
         ensures place { IfOk result (λ id. id.0 ≡ length self.old.funcs) }
         ensures ok { OnOk result (self.new ≡ with_func ty name.now body self.old) }
         ensures err { OnErr result (self.new ≡ self.old) }
+        ensures full { IsFull self.old.funcs → result ≡ Err alloc_error }
+        ensures full_types { IsFull self.old.types → IsNewType ty self.old → result ≡ Err alloc_error }
     {
         let name = Text::from_str(alloc, name)?;
         match type_place(&self.types, &ty) {
@@ -37,6 +40,8 @@ impl Module {
         ensures place { IfOk result (λ id. id.0 ≡ length self.old.funcs) }
         ensures ok { OnOk result (self.new ≡ record self.old { funcs = self.old.funcs ++ Some (new_func ty name body) ∷ [] }) }
         ensures err { OnErr result (self.new ≡ self.old) }
+        ensures full { IsFull self.old.funcs → result ≡ Err alloc_error }
+        ensures far_type { most_places ≤ ty → result ≡ Err alloc_error }
     {
         let place = self.funcs.len();
         if place >= u32::MAX as usize || ty >= u32::MAX as usize {
@@ -61,6 +66,8 @@ impl Module {
         ensures place { IfOk result (λ id. id.0 ≡ length self.old.funcs) }
         ensures ok { OnOk result (self.new ≡ record self.old { types = self.old.types ++ Some ty ∷ []; funcs = self.old.funcs ++ Some (new_func (length self.old.types) name body) ∷ [] }) }
         ensures err { OnErr result (self.new ≡ self.old) }
+        ensures full { IsFull self.old.funcs → result ≡ Err alloc_error }
+        ensures full_types { IsFull self.old.types → result ≡ Err alloc_error }
     {
         let before = self.funcs.len();
         let place = self.types.len();

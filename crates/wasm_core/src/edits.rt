@@ -1,9 +1,10 @@
 //! Editing a module.
 
-ghost use Rattle.std.specs.Prelude.{◌≡◌, Some, not, length, IfOk, OnOk, OnErr};
+ghost use Rattle.std.specs.Prelude.{◌≡◌, Some, Err, alloc_error, not, length, IfOk, OnOk, OnErr};
 ghost use Rattle.std.specs.List.{list_any, filter, find};
 ghost use Rattle.std.specs.Option.{option_copied};
 ghost use Rattle.wasm_core.specs.Contents.{IsLive};
+ghost use Rattle.wasm_core.specs.Edits.{IsFull};
 ghost use Rattle.wasm_core.specs.Edits.{IsLiveItem, IsImportedTag, is_named, without_custom, with_import, own_tag, with_export, without_export, with_func_name, without_start, localized, told_feature};
 
 use crate::assemble::name_func;
@@ -38,7 +39,8 @@ impl Module {
         Ok(())
     }
 
-    /// Adds an export, the last one. Without memory, or where 4,294,967,295 places are taken, nothing is changed.
+    /// Adds an export, the last one. Without memory nothing is changed; there is none where 4,294,967,295 places of
+    /// exports are taken.
     #[tactic(auto, unfolding(crate::specs::Edits::with_export))]
     pub fn add_export(
         &mut self,
@@ -50,6 +52,7 @@ impl Module {
         ensures place { IfOk result (λ id. id.0 ≡ length self.old.exports) }
         ensures ok { OnOk result (self.new ≡ with_export name.now item self.old) }
         ensures err { OnErr result (self.new ≡ self.old) }
+        ensures full { IsFull self.old.exports → result ≡ Err alloc_error }
     {
         let place = self.exports.len();
         if place >= u32::MAX as usize {

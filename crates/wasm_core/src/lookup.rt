@@ -1,7 +1,7 @@
 //! Entries that have names.
 
 ghost use Rattle.std.specs.Prelude.{◌≡◌};
-ghost use Rattle.std.specs.List.{list_any};
+ghost use Rattle.std.specs.List.{list_any, position_from};
 ghost use Rattle.wasm_file.specs.Customs.{is_same_text};
 
 use wasm_file::{Custom, ProducerField, ProducerValue};
@@ -51,4 +51,16 @@ pub(crate) fn has_named<T: Named>(entries: &[T], name: &str) -> bool
         }
     }
     false
+}
+
+/// The place of the first entry that has this name, none where none has it.
+pub(crate) fn place_named<T: Named>(entries: &[T], name: &str) -> Option<usize>
+    ensures { result ≡ position_from (λ x. is_same_text (T.name x) name.now) 0 entries.now }
+{
+    for (place, entry) in entries.iter().enumerate() {
+        if entry.name() == name {
+            return Some(place);
+        }
+    }
+    None
 }

@@ -1,17 +1,18 @@
 //! The producers section: which tools made a module (WebAssembly tool conventions, producers section).
 
-ghost use Rattle.std.specs.Prelude.{◌≡◌, map, IfOk, OnOk, OnErr};
-ghost use Rattle.wasm_core.specs.Edits.{updated, updated_field, new_field, with_version, with_field, with_processed_by};
+ghost use Rattle.std.specs.Prelude.{◌≡◌, IfOk, OnOk, OnErr};
+ghost use Rattle.wasm_core.specs.Edits.{new_field, with_version, with_field, with_processed_by};
 
-use crate::lookup::has_named;
+use crate::lookup::place_named;
 use crate::module::Module;
 use std::alloc::{AllocError, Global};
-use values::{Duplicate, Seq, Text};
+use values::{Seq, Text};
 use wasm_file::{ProducerField, ProducerValue};
 
 impl Module {
-    /// Adds a tool to the field `processed-by` of the producers section, or gives an entry of that name the version.
-    /// Without memory nothing is changed.
+    /// Adds a tool to the field `processed-by` of the producers section, or gives the first entry of that name the
+    /// version. Of several fields `processed-by` the first is changed; without one it is added last. Without memory
+    /// nothing is changed.
     #[tactic(auto, unfolding(crate::specs::Edits::with_processed_by))]
     pub fn add_processed_by(
         &mut self,
@@ -22,8 +23,7 @@ impl Module {
         ensures ok { OnOk result (self.new ≡ with_processed_by name.now version.now self.old) }
         ensures err { OnErr result (self.new ≡ self.old) }
     {
-        self.producers = set_field(alloc, &self.producers, "processed-by", name, version)?;
-        Ok(())
+        set_field(alloc, &mut self.producers, "processed-by", name, version)
     }
 }
 
@@ -36,41 +36,18 @@ fn new_value(alloc: Global, name: &str, version: &str) -> Result<ProducerValue, 
     Ok(ProducerValue { name, version })
 }
 
-/// A copy, which has the version where it has the name.
-fn updated(
-    alloc: Global,
-    value: &ProducerValue,
-    name: &str,
-    version: &str,
-) -> Result<ProducerValue, AllocError>
-    ensures { IfOk result (λ v. v ≡ updated name.now version.now value.now) }
+/// Copies.
+fn copy_values(alloc: Global, values: &[ProducerValue]) -> Result<Vec<ProducerValue>, AllocError>
+    ensures { IfOk result (λ v. v.items ≡ values.now) }
 {
-    let version = if value.name.as_str() == name {
-        version
-    } else {
-        value.version.as_str()
-    };
-    new_value(alloc, value.name.as_str(), version)
-}
-
-/// Copies, of which those of the name have the version.
-fn update_values(
-    alloc: Global,
-    values: &[ProducerValue],
-    name: &str,
-    version: &str,
-) -> Result<Seq<ProducerValue>, AllocError>
-    ensures { IfOk result (λ xs. xs ≡ map (updated name.now version.now) values.now) }
-{
-    let mut copies = Seq::new(alloc);
+    let mut copies = Vec::new(alloc);
     for value in values {
-        copies.push(updated(alloc, value, name, version)?)?;
+        copies.push(new_value(alloc, value.name.as_str(), value.version.as_str())?)?;
     }
     Ok(copies)
 }
 
-/// Copies, of which one of the name has the version; without one it is added last.
-#[tactic(auto, unfolding(crate::specs::Edits::with_version))]
+/// Copies, of which the first of the name has the version; without one it is added last.
 fn set_version(
     alloc: Global,
     values: &[ProducerValue],
@@ -79,60 +56,12 @@ fn set_version(
 ) -> Result<Seq<ProducerValue>, AllocError>
     ensures { IfOk result (λ xs. xs ≡ with_version name.now version.now values.now) }
 {
-    let mut copies = update_values(alloc, values, name, version)?;
-    if !has_named(values, name) {
-        copies.push(new_value(alloc, name, version)?)?;
+    let mut copies = copy_values(alloc, values)?;
+    match place_named(values, name) {
+        Some(place) => copies[place].version = Text::from_str(alloc, version)?,
+        None => copies.push(new_value(alloc, name, version)?)?,
     }
-    Ok(copies)
-}
-
-/// A copy, which has the entry where it is the field.
-fn update_field(
-    alloc: Global,
-    field: &ProducerField,
-    wanted: &str,
-    name: &str,
-    version: &str,
-) -> Result<ProducerField, AllocError>
-    ensures { IfOk result (λ f. f ≡ updated_field wanted.now name.now version.now field.now) }
-{
-    let values = if field.name.as_str() == wanted {
-        set_version(alloc, field.values.as_slice(), name, version)?
-    } else {
-        copy_values(alloc, field.values.as_slice())?
-    };
-    Ok(ProducerField {
-        name: field.name.copy(alloc)?,
-        values,
-    })
-}
-
-/// Copies.
-fn copy_values(alloc: Global, values: &[ProducerValue]) -> Result<Seq<ProducerValue>, AllocError>
-    ensures { IfOk result (λ xs. xs ≡ values.now) }
-{
-    let mut copies = Seq::new(alloc);
-    for value in values {
-        copies.push(new_value(alloc, value.name.as_str(), value.version.as_str())?)?;
-    }
-    Ok(copies)
-}
-
-/// Copies, of which the field has the entry.
-fn update_fields(
-    alloc: Global,
-    fields: &[ProducerField],
-    wanted: &str,
-    name: &str,
-    version: &str,
-) -> Result<Vec<ProducerField>, AllocError>
-    ensures { IfOk result (λ v. v.items ≡ map (updated_field wanted.now name.now version.now) fields.now) }
-{
-    let mut copies = Vec::new(alloc);
-    for field in fields {
-        copies.push(update_field(alloc, field, wanted, name, version)?)?;
-    }
-    Ok(copies)
+    Ok(Seq::from_vec(copies))
 }
 
 /// The field with this entry alone.
@@ -152,20 +81,23 @@ fn new_field(
     })
 }
 
-/// Copies, of which the field has the entry; without the field it is added last.
-#[tactic(auto, unfolding(crate::specs::Edits::with_field))]
+/// The first field of that name gets the entry; without one the field is added last. Without memory nothing is changed.
 fn set_field(
     alloc: Global,
-    fields: &[ProducerField],
+    fields: &mut Vec<ProducerField>,
     field: &str,
     name: &str,
     version: &str,
-) -> Result<Vec<ProducerField>, AllocError>
-    ensures { IfOk result (λ v. v.items ≡ with_field field.now name.now version.now fields.now) }
+) -> Result<(), AllocError>
+    ensures ok { OnOk result (fields.new.items ≡ with_field field.now name.now version.now fields.old.items) }
+    ensures err { OnErr result (fields.new.items ≡ fields.old.items) }
 {
-    let mut copies = update_fields(alloc, fields, field, name, version)?;
-    if !has_named(fields, field) {
-        copies.push(new_field(alloc, field, name, version)?)?;
+    match place_named(fields, field) {
+        Some(place) => {
+            let found = &mut fields[place];
+            found.values = set_version(alloc, found.values.as_slice(), name, version)?;
+        }
+        None => fields.push(new_field(alloc, field, name, version)?)?,
     }
-    Ok(copies)
+    Ok(())
 }

@@ -1,7 +1,7 @@
 -- What the editing calls make of a module is one.
-use Rattle.std.proofs.Common.{◌≡◌, ℕ, Bool, true, false, cond, List, [], ◌∷◌, ◌++◌, map, set, Option, Some, None, refl, arith, inl, inr}
+use Rattle.std.proofs.Common.{◌≡◌, ℕ, Bool, true, List, [], ◌∷◌, ◌++◌, set, Option, Some, None, refl, arith, inl, inr}
 use Rattle.std.specs.Prelude.{not, is_some, codes, slice_get}
-use Rattle.std.specs.List.{AllByRecursion, filter, list_any}
+use Rattle.std.specs.List.{AllByRecursion, filter}
 use Rattle.std.specs.Char.{encode_utf8}
 use Rattle.std.specs.Str.{is_utf8, chars}
 use Rattle.std.proofs.lemmas.Bool.{cases_Bool}
@@ -17,11 +17,11 @@ use Rattle.wasm_file_laws.specs.CustomFits.{FitsValue, FitsField, FitsFields}
 use Rattle.wasm_file_laws.specs.FileFits.{FitsName}
 use Rattle.wasm_reach.specs.declared.things.Thing.TheVariants as things
 use Rattle.wasm_core.specs.Contents.{Contents, IsEntry}
-use Rattle.wasm_core.specs.Edits.{updated, with_version, updated_field, new_field, with_field, with_processed_by, is_named, without_custom, IsLiveItem, with_export, without_export, without_start}
+use Rattle.wasm_core.specs.Edits.{first_changed, with_version, new_field, with_field, with_processed_by, is_named, without_custom, IsLiveItem, with_export, without_export, without_start}
 use Rattle.wasm_core.specs.Reach.{entry_of, entry_at, item_thing}
 use Rattle.wasm_core_laws.specs.ModuleFits.{Stands, AllThere, FitsExportEntry, IsStart, FitsCustomEntry, IsModule}
 use Rattle.wasm_core_laws.proofs.Carried.{export_fits, start_fits, type_of_alike, Extends, FitIn, fit_in, alike_same, alike_extends, links_same, still_linked}
-use Rattle.wasm_core_laws.proofs.Everywhere.{all_mapped, all_passing}
+use Rattle.wasm_core_laws.proofs.Everywhere.{all_passing}
 use Rattle.wasm_core_laws.proofs.Entries.{there_weaker, there_set, there_push}
 
 -- ---- exports, the start function, custom sections and producers
@@ -91,37 +91,35 @@ without_custom_is_module m name h = rest_changed m m.exports m.start (filter (λ
 
 -- ---- producers
 
--- with one more, where the test fails
-all_added : {A : Type 0} (P : A → Type 0) (b : Bool) (x : A) (xs : List A) → P x → AllByRecursion P xs → AllByRecursion P (xs ++ cond b [] (x ∷ []))
-all_added P true x [] h all = tt
-all_added P false x [] h all = (h, tt)
-all_added P b x (y ∷ xs) h all = (all.0, all_added P b x xs h all.1)
+-- with the first that passes a test changed, or one more
+first_changed_all : {A : Type 0} (P : A → Type 0) (test : A → Bool) (change : A → A) (new : A) → P new
+    → ((x : A) → P x → P (change x)) → (xs : List A) → AllByRecursion P xs
+    → AllByRecursion P (first_changed test change new xs)
+unfolding first_changed
+first_changed_all P test change new h f [] all = (h, tt)
+first_changed_all P test change new h f (x ∷ xs) all = elim (cases_Bool (test x)) [
+  | inl e ↦ rw e (f x all.0, all.1)
+  | inr e ↦ rw e (all.0, first_changed_all P test change new h f xs all.1)
+]
 
 module _ (name version : List ℕ) (n : FitsName name) (v : FitsName version) where
   -- a name and a version that are texts make a value
   value_fits : FitsValue (record { name = name; version = version })
   value_fits = record { name_fits = n; version_fits = v }
 
-  updated_fits : (x : ProducerValue) → FitsValue x → FitsValue (updated name version x)
-  updated_fits x h = elim (cases_Bool (is_same_text x.name name)) [
-    | inl e ↦ rw e (record { name_fits = h.name_fits; version_fits = v })
-    | inr e ↦ rw e h
-  ]
-
   versions_fit : (xs : List ProducerValue) → AllByRecursion FitsValue xs → AllByRecursion FitsValue (with_version name version xs)
   unfolding with_version
-  versions_fit xs all = all_added FitsValue (list_any (λ x. is_same_text x.name name) xs) (record { name = name; version = version }) (map (updated name version) xs) value_fits (all_mapped FitsValue FitsValue (updated name version) updated_fits xs all)
-
-  field_fits : (field : List ℕ) (f : ProducerField) → FitsField f → FitsField (updated_field field name version f)
-  field_fits field f h = elim (cases_Bool (is_same_text f.name field)) [
-    | inl e ↦ rw e (record { name_fits = h.name_fits; values_fit = versions_fit f.values h.values_fit })
-    | inr e ↦ rw e h
-  ]
+  versions_fit = first_changed_all FitsValue (λ x. is_same_text x.name name) (λ x. record x { version = version })
+      (record { name = name; version = version }) value_fits
+      (λ x h. record { name_fits = h.name_fits; version_fits = v })
 
   fields_fit : (field : List ℕ) (fs : List ProducerField) → FitsName field → FitsFields fs → FitsFields (with_field field name version fs)
   unfolding with_field
-  fields_fit field fs fits all = all_added FitsField (list_any (λ f. is_same_text f.name field) fs) (new_field field name version) (map (updated_field field name version) fs)
-      (record { name_fits = fits; values_fit = (value_fits, tt) }) (all_mapped FitsField FitsField (updated_field field name version) (field_fits field) fs all)
+  fields_fit field fs fits all =
+      first_changed_all FitsField (λ f. is_same_text f.name field)
+      (λ f. record f { values = with_version name version f.values })
+      (new_field field name version) (record { name_fits = fits; values_fit = (value_fits, tt) })
+      (λ f h. record { name_fits = h.name_fits; values_fit = versions_fit f.values h.values_fit }) fs all
 
 -- this name of a field is a text
 processed_by_fits : FitsName (codes "processed-by")

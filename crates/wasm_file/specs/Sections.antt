@@ -91,10 +91,10 @@ elem_section p = do
   xs ← listed most (elem (counts_of p))
   pure (record p { elems = xs })
 
--- how many data segments there will be
+-- how many data segments there will be, no more than entries of a kind are allowed
 unfoldable pub data_count_section : Parts → Input → Result (Parts × Input) ℕ
 data_count_section p = do
-  n ← number32
+  n ← allowed (λ n. nat_le n most) number32
   pure (record p { data_count = Some n })
 
 -- the body of a function of this type

@@ -267,11 +267,12 @@ impl Lists {
         )
     }
 
+    /// The number of data segments, which is at most the greatest number of entries of a kind.
     #[tactic(auto, unfolding(crate::specs::Sections::data_count_section))]
     fn read_data_count(&mut self, reader: &mut Reader<'_>) -> Result<(), ReadFault>
         ensures { GivesState result self.new reader.new (data_count_section self.old reader.old) }
     {
-        self.parts.data_count = Some(reader.number32()?);
+        self.parts.data_count = Some(read_count(reader, MOST)?);
         Ok(())
     }
 

@@ -123,9 +123,12 @@ pub start_again : (q : Parts) (func : FuncId) → FitsFuncId (counts_of q) func 
 unfolding content start_section
 start_again q func fits plain = reads_whole (reads_end (λ (f : FuncId). record q { start = Some f }) (reads_allowed (λ f. is_plain (type_at q f)) (func_id_again (counts_of q) func fits) plain))
 
-pub data_count_again : (q : Parts) (n : ℕ) → n < 2 ^ 32 → ReadsWhole (content 12 q) (number_bytes n) (record q { data_count = Some n })
+pub data_count_again : (q : Parts) (n : ℕ) → n ≤ most
+    → ReadsWhole (content 12 q) (number_bytes n) (record q { data_count = Some n })
 unfolding content data_count_section
-data_count_again q n few = reads_whole (reads_end (λ (m : ℕ). record q { data_count = Some m }) (number32_again n few))
+data_count_again q n few =
+    reads_whole (reads_end (λ (m : ℕ). record q { data_count = Some m })
+    (reads_allowed (λ m. leb m most) (number32_again n (omega arith)) (le-leb n most few)))
 
 pub customs_again : (q : Parts) (c : Custom) → FitsCustom c → ReadsWhole (content 0 q) (custom_bytes c) (record q { customs = q.customs ++ c ∷ [] })
 unfolding content custom_section

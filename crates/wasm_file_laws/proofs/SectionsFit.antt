@@ -317,7 +317,7 @@ elem_section_found rank p lt h = finds_bind (finds_listed most (elem_found (coun
 
 data_count_section_found : (rank : ℕ) (p : Parts) → rank < 11 → IsSoFar rank p → Finds (data_count_section p) (IsSoFar 11)
 unfolding data_count_section
-data_count_section_found rank p lt h = finds_bind finds_number32 (λ n _.
+data_count_section_found rank p lt h = finds_bind (finds_allowed (λ n. leb n most) finds_number32) (λ n _.
     let q : Parts = record p { data_count = Some n } in
     let none : or_zero p.data_count ≡ 0 = ap or_zero (h.ahead.data_count lt) in
     let more : or_zero p.data_count ≤ n = omega (arith, none) in
