@@ -9,9 +9,10 @@ use Rattle.std.specs.Cmp.Lexicographic.{slice_cmp, nat_list_cmp_total}
 use Rattle.std.specs.FinSet as set
 use Rattle.std.proofs.lemmas.Bool.{cases_lt}
 use Rattle.values.specs.Lists.{IsIn, AreDistinct}
-use Rattle.glue_scope.specs.Ident.{is_ident, to_ident}
-use Rattle.glue_scope.specs.Scope.{Bound, numbered, IsFirstFree, IsLeastFree, AreDrawn, with_names}
-use Rattle.glue_scope.proofs.Idents.{made_ident, made_text, numbered_ident, numbered_text}
+use Rattle.glue_words.specs.Ident.{is_ident, to_ident}
+use Rattle.glue_scope.specs.Scope.{Bound, IsFirstFree, IsLeastFree, AreDrawn, with_names}
+use Rattle.glue_words.specs.Ident.{numbered}
+use Rattle.glue_words.proofs.Idents.{made_ident, made_text, numbered_ident, numbered_text}
 use Rattle.glue_scope.proofs.Scopes.{same_text}
 
 free_taken : (b : Bool) → b ≡ false → b ≡ true → ⊥

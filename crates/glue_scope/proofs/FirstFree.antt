@@ -8,7 +8,8 @@ use Rattle.std.specs.Ordering.{nat_cmp, eq_by_cmp}
 use Rattle.std.specs.Cmp.Lexicographic.{slice_cmp, nat_list_cmp_total}
 use Rattle.std.specs.Fmt.{decimal}
 use Rattle.std.specs.FinSet as set
-use Rattle.glue_scope.specs.Scope.{Bound, numbered, IsLeastFree, IsFirstFree}
+use Rattle.glue_scope.specs.Scope.{Bound, IsLeastFree, IsFirstFree}
+use Rattle.glue_words.specs.Ident.{numbered}
 use Rattle.glue_scope.proofs.Scopes.{same_text}
 
 apart_by : (b : Bool) (P : Type 0) → (b ≡ true → P) → (P → ⊥) → b ≡ false

@@ -8,7 +8,8 @@ use Rattle.std.specs.Cmp.Lexicographic.{slice_cmp, nat_list_cmp_total}
 use Rattle.std.specs.FinMap as finite
 use Rattle.std.specs.FinSet as set
 use Rattle.glue_scope.specs.Scope.{Numbers, Bound}
-use Rattle.glue_scope.specs.Scope.{key_set, numbered, IsFirstFree, IsLeastFree, IsKept, KeepsTaken}
+use Rattle.glue_scope.specs.Scope.{key_set, IsFirstFree, IsLeastFree, IsKept, KeepsTaken}
+use Rattle.glue_words.specs.Ident.{numbered}
 use Rattle.glue_scope.proofs.KeySets.{contains-key_set, key_set-insert}
 
 pub same_text : (x y : List ℕ) → eq_by_cmp (slice_cmp nat_cmp) x y ≡ true → x ≡ y

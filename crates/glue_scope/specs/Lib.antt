@@ -1,11 +1,2 @@
-pub mod Functions
-pub mod Ident
-pub mod Limits
-pub mod Linking
-pub mod Literal
-pub mod Names
 pub mod Properties
 pub mod Scope
-pub mod Spacing
-pub mod Tables
-pub mod Words

@@ -1,13 +1,12 @@
 -- Scopes of names: sets of bound names, and the names that are drawn from them.
-use Rattle.std.specs.Prelude.{◌≡◌, ℕ, ◌<◌, ◌≤◌, true, false, ◌⊎◌, List, [], ◌∷◌, ◌++◌, Some, map, String}
-use Rattle.std.specs.Fmt.{decimal}
+use Rattle.std.specs.Prelude.{◌≡◌, ℕ, ◌<◌, ◌≤◌, true, false, ◌⊎◌, List, [], ◌∷◌, Some, map, String}
 use Rattle.std.specs.FinMap as finite
 use Rattle.std.specs.FinSet as set
 use Rattle.std.specs.Global.{Global}
 use Rattle.std.specs.String.{string_bytes}
 use Rattle.std.specs.Ordering.{nat_cmp}
 use Rattle.std.specs.Cmp.Lexicographic.{slice_cmp}
-use Rattle.glue_scope.specs.Ident.{to_ident}
+use Rattle.glue_words.specs.Ident.{to_ident, numbered}
 
 -- a set of names, each by its bytes
 abbrev pub Bound : Type 0
@@ -20,10 +19,6 @@ Numbers = finite.FinMap (slice_cmp nat_cmp) ℕ
 -- the map that the entries of a tree are
 abbrev pub number_map : List (String Global × ℕ) → Numbers
 number_map entries = finite.from_entries (map (λ e. (string_bytes e.0, e.1)) entries)
-
--- a name followed by a number
-abbrev pub numbered : List ℕ → ℕ → List ℕ
-numbered name n = name ++ decimal n
 
 -- n is the least number from `start` up at which the name with the number is free
 pub record IsLeastFree (bound : Bound) (name : List ℕ) (start n : ℕ) : Type 0 where

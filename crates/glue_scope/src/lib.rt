@@ -1,28 +1,18 @@
-//! The words and items of a glue file, its text, and the names that are bound in it.
+//! Names that are bound once, and the words that access a property.
 //!
-//! A glue file is a list of items, and an item is a list of words with a role. `print` joins their texts. A scope draws names that
-//! are new. `specs/Linking.antt` says what it means that items are linked: each name is declared once, and the words of the text are
-//! read again as what they are. The proofs show that drawn names are new, distinct and identifiers, that a string literal is read
-//! back as its text, and when words stand apart by their kinds.
+//! A scope draws names that are new: `IdentScope`, behind the trait `Names`. The proofs show that drawn names are new, distinct and
+//! identifiers. `property_words` gives the words that access a property.
 //!
-//! It stands on `values`, and on the tables of Unicode in `unicode_ident`.
+//! It stands on `values` and on the words of `glue_words`, which it hands on.
 #![tactic(auto)]
 
-mod ident;
-mod item;
-mod literal;
 mod names;
 mod number_map;
-mod printing;
 mod property;
-mod tables;
-mod word;
 
-pub use ident::{is_valid_ident, to_valid_ident};
-pub use item::{Item, Role, Thing};
-pub use literal::js_string_literal;
+pub use glue_words::{
+    Item, NoteKind, Role, Thing, Word, is_computed_key, is_valid_ident, js_string_literal,
+    key_text, print, punct_text, regex_text, to_valid_ident,
+};
 pub use names::{IdentScope, Names};
-pub use printing::print;
-pub use property::{is_computed_key, property_words};
-pub use tables::{key_text, punct_text, regex_text};
-pub use word::{NoteKind, Word};
+pub use property::property_words;

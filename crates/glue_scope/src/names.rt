@@ -3,11 +3,12 @@ ghost use Rattle.std.specs.Prelude.{◌≡◌, ◌<◌, ◌^◌, ◌+◌, ◌-�
 ghost use Rattle.std.specs.FinMap as finite;
 ghost use Rattle.std.specs.FinSet as set;
 ghost use Rattle.std.specs.String.{string_bytes};
-ghost use Rattle.glue_scope.specs.Ident.{is_ident, to_ident};
-ghost use Rattle.glue_scope.specs.Scope.{Bound, IsFirstFree, IsKept, IsLeastFree, KeepsTaken, key_set, numbered};
+ghost use Rattle.glue_words.specs.Ident.{is_ident, to_ident};
+ghost use Rattle.glue_scope.specs.Scope.{Bound, IsFirstFree, IsKept, IsLeastFree, KeepsTaken, key_set};
+ghost use Rattle.glue_words.specs.Ident.{numbered};
 
-use crate::ident::to_valid_ident;
 use crate::number_map::NumberMap;
+use glue_words::to_valid_ident;
 use std::alloc::{AllocError, Global};
 use std::marker::Model;
 

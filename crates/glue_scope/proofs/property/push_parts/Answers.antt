@@ -5,8 +5,8 @@ use Rattle.std.specs.Str.Iter.{split_text, split_has_more, split_pattern}
 use Rattle.std.proofs.lemmas.List.{flat_map_more, map_push}
 use Rattle.std.proofs.lemmas.Iterator.Splits.{YieldsList-from_str_split}
 use Rattle.std.proofs.lemmas.Iterator.Consumers.{YieldsList-end}
-use Rattle.glue_scope.specs.declared.word.Word.{Word}
-use Rattle.glue_scope.specs.Limits.{is_computed}
+use Rattle.glue_words.specs.declared.word.Word.{Word}
+use Rattle.glue_words.specs.Limits.{is_computed}
 use Rattle.glue_scope.specs.Properties.{segment_words, property_parts}
 use Rattle.glue_scope.proofs.property.push_parts.Goals as goal
 

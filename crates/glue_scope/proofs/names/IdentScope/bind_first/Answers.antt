@@ -4,9 +4,9 @@ use Rattle.std.specs.FinMap as finite
 use Rattle.std.specs.FinSet as set
 use Rattle.std.specs.String.{string_bytes}
 use Rattle.std.proofs.lemmas.Result.{IfOk-weaker}
-use Rattle.glue_scope.specs.Ident.{is_ident}
+use Rattle.glue_words.specs.Ident.{is_ident}
 use Rattle.glue_scope.specs.Scope.{key_set}
-use Rattle.glue_scope.proofs.Idents.{numbered_ident}
+use Rattle.glue_words.proofs.Idents.{numbered_ident}
 use Rattle.glue_scope.proofs.KeySets.{key_set-insert}
 use Rattle.glue_scope.proofs.Scopes.{not_contained, contained, key_set-numbered, first_plain, first_numbered}
 use Rattle.glue_scope.proofs.names.IdentScope.bind_first.Goals as goal

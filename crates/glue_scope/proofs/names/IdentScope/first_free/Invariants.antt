@@ -1,6 +1,7 @@
 use Rattle.std.proofs.Common.{◌≡◌, ℕ, ◌<◌, ◌≤◌, true}
 use Rattle.std.specs.FinSet as set
-use Rattle.glue_scope.specs.Scope.{numbered, key_set}
+use Rattle.glue_scope.specs.Scope.{key_set}
+use Rattle.glue_words.specs.Ident.{numbered}
 use Rattle.glue_scope.proofs.names.IdentScope.first_free.Given as goal
 
 -- each number passed is taken
