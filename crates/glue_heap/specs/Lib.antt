@@ -1,5 +1,0 @@
-pub mod Value
-pub mod Term
-pub mod TreeMeaning
-pub mod Plainly
-pub mod Spelling

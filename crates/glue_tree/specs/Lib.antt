@@ -1,0 +1,7 @@
+pub mod FixedWords
+pub mod Leaves
+pub mod Plainly
+pub mod Spelling
+pub mod Term
+pub mod TreeMeaning
+pub mod Value
