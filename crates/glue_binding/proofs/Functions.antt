@@ -1,44 +1,37 @@
 -- What is bound is the adapter's function.
-use Rattle.std.proofs.Common.{◌≡◌, ℕ, List, [], ◌∷◌, length, true, false, true≢false, inl, inr, refl, sym, ap, ◌∙◌, subst, arith}
+use Rattle.std.proofs.Common.{◌≡◌, ℕ, List, [], length, ap, ◌∙◌, subst, arith}
 use Rattle.std.specs.FinSet as set
-use Rattle.std.specs.List.{list_all}
-use Rattle.std.proofs.lemmas.Bool.{and_parts}
 use Rattle.values.specs.Lists.{IsIn, IsAway}
 use Rattle.glue_scope.specs.Scope.{Bound, AreDrawn, with_names}
-use lib.Utf8.{encode}
-use Rattle.std.specs.Prelude.{◌&&◌, not}
-use Rattle.std.proofs.lemmas.Str.{chars-encodes}
-use Rattle.glue_scope.specs.Ident.{is_ident, is_reserved, has_ident_form}
-use Rattle.glue_heap.specs.Plainly.{plain_stmts}
-use Rattle.glue_heap.specs.TreeMeaning.{locals_of, tree_meaning}
-use Rattle.glue_heap.specs.Spelling.{function_words}
-use Rattle.glue_heap.specs.declared.tree.JsFunction.{JsFunction}
-use Rattle.glue_binding.specs.Spelling.{tree_of, temporaries, outer_names}
+use Rattle.glue_tree.specs.Plainly.{plain_stmts}
+use Rattle.glue_tree.specs.TreeMeaning.{locals_of, tree_meaning}
+use Rattle.glue_tree.specs.Spelling.{function_words}
+use Rattle.glue_tree.specs.declared.tree.JsFunction.{JsFunction}
+use Rattle.glue_binding.specs.Spelling.{tree_of, temporaries}
+use Rattle.glue_binding.specs.Outer.{outer_names}
 use Rattle.glue_binding.specs.Binding.{outer_scope, IsBoundFunction}
-use Rattle.glue_binding.specs.declared.step.Step.{Step}
-use Rattle.glue_scope.proofs.Drawn.{with_names_there, length-drawn, drawn_new, drawn_distinct, drawn_idents, drawn-append}
+use Rattle.glue_steps.specs.declared.step.Step.{Step}
+use Rattle.glue_scope.proofs.Drawn.{with_names_there, length-drawn, drawn_new, drawn_distinct, drawn-append}
 use Rattle.glue_binding.proofs.Runs.{whole}
 
-empty_is_none : is_ident [] ≡ false
-unfolding is_ident encode
-empty_is_none = ap (λ cs. not (is_reserved []) && has_ident_form cs) (chars-encodes [] refl)
-
--- no name of identifiers is empty
-idents_are_named : (names : List (List ℕ)) → list_all is_ident names ≡ true → IsAway [] names
-idents_are_named [] h k = k
-idents_are_named (x ∷ names) h (inl e) = true≢false (sym (and_parts (is_ident x) (list_all is_ident names) h).0 ∙ ap is_ident (sym e) ∙ empty_is_none)
-idents_are_named (x ∷ names) h (inr k) = idents_are_named names (and_parts (is_ident x) (list_all is_ident names) h).1 k
-
-pub bound_function : (steps : List Step) (wanted others temps : List (List ℕ)) (f : JsFunction) (b reserved after : Bound) → b ≡ set.empty → reserved ≡ with_names b (outer_names steps) → AreDrawn reserved wanted f.params → after ≡ with_names reserved f.params → others ≡ temporaries steps → AreDrawn after others temps → plain_stmts f.tree ≡ tree_of steps f.params temps → f.words ≡ function_words f.params (plain_stmts f.tree) → (f.ts_sig ≡ []) × (f.ts_doc ≡ []) × (f.js_doc ≡ []) → IsBoundFunction steps wanted f
+pub bound_function : (steps : List Step) (wanted others temps : List (List ℕ)) (f : JsFunction)
+    (b reserved after : Bound) → b ≡ set.empty → reserved ≡ with_names b (outer_names steps)
+    → AreDrawn reserved wanted f.params → after ≡ with_names reserved f.params → others ≡ temporaries steps
+    → AreDrawn after others temps → plain_stmts f.tree ≡ tree_of steps f.params temps
+    → f.words ≡ function_words f.params (plain_stmts f.tree) → (f.ts_sig ≡ []) × (f.ts_doc ≡ []) × (f.js_doc ≡ [])
+    → IsBoundFunction steps wanted f
 bound_function steps wanted others temps f b reserved after e r dp a o dt tree words untyped =
     let start : reserved ≡ outer_scope steps = r ∙ ap (λ (s : Bound). with_names s (outer_names steps)) e in
-    let first : AreDrawn (outer_scope steps) wanted f.params = subst (λ (s : Bound). AreDrawn s wanted f.params) start dp in
+    let first : AreDrawn (outer_scope steps) wanted f.params = subst
+    (λ (s : Bound). AreDrawn s wanted f.params) start dp in
     let second : AreDrawn (with_names (outer_scope steps) f.params) (temporaries steps) temps =
     subst (λ (s : Bound). AreDrawn s (temporaries steps) temps) (a ∙ ap (λ (s : Bound). with_names s f.params) start)
     (subst (λ (ws : List (List ℕ)). AreDrawn after ws temps) o dt) in
     let apart : (x : List ℕ) → IsIn x temps → IsAway x f.params = λ x k i.
-    drawn_new (with_names (outer_scope steps) f.params) (temporaries steps) temps x second k (with_names_there (outer_scope steps) f.params x i) in
-    let enough : length temps ≡ length (temporaries steps) = length-drawn (with_names (outer_scope steps) f.params) (temporaries steps) temps second in
+    drawn_new (with_names (outer_scope steps) f.params) (temporaries steps) temps x second k
+    (with_names_there (outer_scope steps) f.params x i) in
+    let enough : length temps ≡ length (temporaries steps) = length-drawn (with_names (outer_scope steps) f.params)
+    (temporaries steps) temps second in
     record {
       temps = temps;
       count = length-drawn (outer_scope steps) wanted f.params first;
@@ -46,11 +39,9 @@ bound_function steps wanted others temps f b reserved after e r dp a o dt tree w
       tree = tree;
       words = words;
       untyped = untyped;
-      meaning = λ args answers n.
-          ap (λ l. tree_meaning l (locals_of f.params args) answers) tree
-          ∙ whole steps f.params temps args answers (drawn_distinct (outer_scope steps) wanted f.params first)
+      meaning = λ thing_of knows args answers.
+          ap (λ l. tree_meaning thing_of l (locals_of f.params args) answers) tree
+          ∙ whole steps f.params temps (drawn_distinct (outer_scope steps) wanted f.params first)
           (drawn_distinct (with_names (outer_scope steps) f.params) (temporaries steps) temps second)
-          (idents_are_named f.params (drawn_idents (outer_scope steps) wanted f.params first))
-          (idents_are_named temps (drawn_idents (with_names (outer_scope steps) f.params) (temporaries steps) temps second))
-          apart (omega (arith, enough)) n;
+          apart (omega (arith, enough)) thing_of knows args answers;
     }

@@ -1,5 +1,12 @@
 mod Drawing
+mod Each
+pub mod Fits
 mod Functions
+pub mod Linked
+pub mod Outer
+pub mod Outside
 pub mod Passing
+mod Plain
+mod Rowwise
 mod Runs
 mod Stacks

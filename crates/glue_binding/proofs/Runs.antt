@@ -1,24 +1,77 @@
 -- The statements do what the steps do.
-use Rattle.std.proofs.Common.{◌≡◌, ℕ, zero, suc, ◌≤◌, List, [], ◌∷◌, length, map, Option, Bool, true, false, inl, inr, refl, sym, ap, ◌∙◌, subst, arith}
-use Rattle.std.specs.Prelude.{nat_eq, if◌then◌else◌}
+use Rattle.std.proofs.Common.{◌≡◌, ℕ, zero, suc, ◌≤◌, List, [], ◌∷◌, ◌++◌, length, map, Option, Some, None, Bool, true, false, inl, inr, refl, sym, ap, ◌∙◌, subst, arith, append_assoc}
+use Rattle.std.specs.Prelude.{nat_eq, if◌then◌else◌, codes}
 use Rattle.std.specs.Bool.{Decides}
 use Rattle.std.specs.Cmp.Lexicographic.{pointwise}
 use Rattle.std.proofs.lemmas.Slice.Eq.{bytes_eq-Decides}
 use Rattle.values.specs.Lists.{IsIn, IsAway, AreDistinct}
-use Rattle.glue_heap.specs.Value.{OfExport, Value, Undefined, Entry, Calls, CallsAdapter, Answer, Ran, Went, Threw, Ended, Act, goes_on, step}
-use Rattle.glue_heap.specs.Plainly.{lines_of}
-use Rattle.glue_heap.specs.TreeMeaning.{Locals, value_in, locals_of, values_of, runs, tree_meaning}
-use Rattle.glue_binding.specs.Stack.{top, below, item_at, operands, without}
-use Rattle.glue_binding.specs.AdapterMeaning.{means, adapter_meaning}
-use Rattle.glue_binding.specs.Spelling.{locals, lines_from, tree_of, temporaries}
-use Rattle.glue_binding.specs.declared.step.Step.{Step}
-use Rattle.glue_binding.specs.declared.step.Step.TheVariants.{Parameter, Unchanged, CallExport, CallImport}
+use Rattle.glue_tree.specs.Value.{Thing, Helper, OfExport, Value, Undefined, Null, Entry, Calls, CallsAdapter, Answer, Ran, Went, Threw, Ended, Act, goes_on, step, and_then_cleans, is_true, unsigned}
+use Rattle.glue_tree.specs.Term.{Line, Fail, Lines, NoLines, AndLine}
+use Rattle.glue_tree.specs.TreeMeaning.{Locals, locals_of, value_in, if_true, value_of, values_of, unless_left, and_always, runs, tree_meaning}
+use Rattle.glue_steps.specs.Stack.{top, below, item_at, operands, without}
+use Rattle.glue_steps.specs.AdapterMeaning.{Left, gives_back, throws_if, act, cleans, after_act, newest, means, seen, adapter_meaning}
+use Rattle.glue_steps.specs.declared.step.Step.{Step}
+use Rattle.glue_steps.specs.declared.step.Step.TheVariants.{Parameter, Unchanged, CallExport, CallImport, ToUnsigned, TakeIndex, IndexFromBorrow, UnwrapResult}
+use Rattle.glue_binding.specs.Spelling.{Plain, Missing, Local, Unsigned, term_of, plain_value, terms, helper_call, gives_back_line, pieces_of, cleaned_by, nested, tree_of, wanted_from, counted, temporaries}
+use Rattle.glue_binding.specs.Binding.{KnowsHelpers}
+use Rattle.glue_binding.proofs.Each.{Each, each_item, each_top, each_below, each_without}
+
+-- ---- laws of runs, each by the three ways that a run can come to
 
 -- a step of both runs, and then the rest
-one_step : {A B : Type 0} (ran : Ran A) (f : A → Act (Option Value)) (g : A → B) (next : B → Act (Option Value)) → ((a : A) (trace : List Entry) (answers : List Answer) → f a trace answers ≡ next (g a) trace answers) → goes_on ran f ≡ goes_on (goes_on ran (λ a. Went (g a))) next
+one_step : {A : Type 0} (ran : Ran A) (f : A → Act (Option Value)) (g : A → Act Left)
+    (next : List Value → List (Act Value) → Act (Option Value))
+    → ((a : A) (trace : List Entry) (answers : List Answer) → f a trace answers ≡ after_act (g a trace answers) [] next)
+    → goes_on ran f ≡ after_act (goes_on ran g) [] next
 one_step (Went a trace answers) f g next h = h a trace answers
 one_step (Threw v trace answers) f g next h = refl
 one_step (Ended trace) f g next h = refl
+
+nothing_after : (ran : Ran (Option Value)) → unless_left ran (Went None) ≡ ran
+nothing_after (Went None trace answers) = refl
+nothing_after (Went (Some v) trace answers) = refl
+nothing_after (Threw v trace answers) = refl
+nothing_after (Ended trace) = refl
+
+left_by : (ran : Ran Value) (next : Act (Option Value))
+    → unless_left (goes_on ran (λ v. Went None)) next ≡ goes_on ran (λ v. next)
+left_by (Went v trace answers) next = refl
+left_by (Threw v trace answers) next = refl
+left_by (Ended trace) next = refl
+
+-- `finally` is the cleanup
+finally : (ran : Ran (Option Value)) (last : Act (Option Value)) (cleanup : Act Value)
+    → ((trace : List Entry) (answers : List Answer) → last trace answers
+    ≡ goes_on (cleanup trace answers) (λ v. Went None)) → and_always ran last ≡ and_then_cleans ran cleanup
+finally (Went o trace answers) last cleanup h = ap (λ r. unless_left r (Went o)) (h trace answers)
+    ∙ left_by (cleanup trace answers) (Went o)
+finally (Threw v trace answers) last cleanup h = ap (λ r. unless_left r (Threw v)) (h trace answers)
+    ∙ left_by (cleanup trace answers) (Threw v)
+finally (Ended trace) last cleanup h = refl
+
+-- the oldest cleanup goes last
+cleans_last : (cleanups : List (Act Value)) (c : Act Value) (ran : Ran (Option Value))
+    → cleans (cleanups ++ c ∷ []) ran ≡ and_then_cleans (cleans cleanups ran) c
+cleans_last [] c ran = refl
+cleans_last (d ∷ cleanups) c ran = cleans_last cleanups c (and_then_cleans ran d)
+
+act_last : (ran : Ran Left) (cleanups : List (Act Value)) (c : Act Value)
+    (next : List Value → List (Act Value) → Act (Option Value))
+    → ((stack : List Value) (ds : List (Act Value)) (trace : List Entry) (answers : List Answer)
+    → next stack (ds ++ c ∷ []) trace answers ≡ and_then_cleans (next stack ds trace answers) c)
+    → after_act ran (cleanups ++ c ∷ []) next ≡ and_then_cleans (after_act ran cleanups next) c
+act_last (Went left trace answers) cleanups c next h =
+    ap (λ ds. next left.0 ds trace answers) (sym (append_assoc left.1 cleanups (c ∷ [])))
+    ∙ h left.0 (left.1 ++ cleanups) trace answers
+act_last (Threw v trace answers) cleanups c next h = cleans_last cleanups c (Threw v trace answers)
+act_last (Ended trace) cleanups c next h = refl
+
+means_last : (steps : List Step) (args stack : List Value) (cleanups : List (Act Value)) (c : Act Value)
+    (trace : List Entry) (answers : List Answer) → means steps args stack (cleanups ++ c ∷ []) trace answers
+    ≡ and_then_cleans (means steps args stack cleanups trace answers) c
+means_last [] args stack cleanups c trace answers = cleans_last cleanups c (Went (newest stack) trace answers)
+means_last (s ∷ steps) args stack cleanups c trace answers =
+    act_last (act s args stack trace answers) cleanups c (means steps args) (λ left ds. means_last steps args left ds c)
 
 -- ---- locals
 
@@ -29,177 +82,307 @@ not_same true d h = absurd (h (d.0 refl))
 hit : (x : List ℕ) (v : Value) (env : Locals) → value_in ((x, v) ∷ env) x ≡ v
 hit x v env = ap (λ b. if b then v else value_in env x) ((bytes_eq-Decides x x).1 refl)
 
-miss : (x y : List ℕ) (v : Value) (env : Locals) → (y ≡ x → ⊥) → value_in ((x, v) ∷ env) y ≡ value_in env y
-miss x y v env h = ap (λ b. if b then v else value_in env y) (not_same (pointwise nat_eq y x) (bytes_eq-Decides y x) h)
-
--- a new local leaves the others as they are
-keep : (names : List (List ℕ)) (x : List ℕ) (v : Value) (env : Locals) → IsAway x names → map (value_in ((x, v) ∷ env)) names ≡ map (value_in env) names
-keep [] x v env h = refl
-keep (y ∷ names) x v env h =
-    ap (λ w. w ∷ map (value_in ((x, v) ∷ env)) names) (miss x y v env (λ e. h (inl (sym e))))
-    ∙ ap (λ ws. value_in env y ∷ ws) (keep names x v env (λ k. h (inr k)))
-
-pushed : (names : List (List ℕ)) (x : List ℕ) (v : Value) (env : Locals) → IsAway x names → map (value_in ((x, v) ∷ env)) (x ∷ names) ≡ v ∷ map (value_in env) names
-pushed names x v env h =
-    ap (λ w. w ∷ map (value_in ((x, v) ∷ env)) names) (hit x v env) ∙ ap (λ ws. v ∷ ws) (keep names x v env h)
-
--- ---- operands: the values of a stack are the stack of the values
-
-module _ (f : List ℕ → Value) (empty : f [] ≡ Undefined) where
-  top_is : (stack : List (List ℕ)) → f (top [] stack) ≡ top Undefined (map f stack)
-  top_is [] = empty
-  top_is (x ∷ stack) = refl
-
-  below_is : (stack : List (List ℕ)) → map f (below stack) ≡ below (map f stack)
-  below_is [] = refl
-  below_is (x ∷ stack) = refl
-
-  top_again : (stack : List (List ℕ)) → map f (top [] stack ∷ below stack) ≡ top Undefined (map f stack) ∷ below (map f stack)
-  top_again [] = ap (λ v. v ∷ []) empty
-  top_again (x ∷ stack) = refl
-
-  without_is : (n : ℕ) (stack : List (List ℕ)) → map f (without n stack) ≡ without n (map f stack)
-  without_is zero stack = refl
-  without_is (suc n) [] = without_is n []
-  without_is (suc n) (x ∷ stack) = without_is n stack
-
-  item_is : (xs : List (List ℕ)) (n : ℕ) → f (item_at [] xs n) ≡ item_at Undefined (map f xs) n
-  item_is [] n = empty
-  item_is (x ∷ xs) zero = refl
-  item_is (x ∷ xs) (suc n) = item_is xs n
-
-  operands_are : (n : ℕ) (stack taken : List (List ℕ)) → map f (operands [] n stack taken) ≡ operands Undefined n (map f stack) (map f taken)
-  operands_are zero stack taken = refl
-  operands_are (suc n) [] taken =
-      operands_are n [] ([] ∷ taken) ∙ ap (λ v. operands Undefined n [] (v ∷ map f taken)) empty
-  operands_are (suc n) (x ∷ stack) taken = operands_are n stack (x ∷ taken)
-
-values_are : (names : List (List ℕ)) (env : Locals) (trace : List Entry) (answers : List Answer) → values_of (locals names) env trace answers ≡ Went (map (value_in env) names) trace answers
-values_are [] env trace answers = refl
-values_are (x ∷ names) env trace answers = rw (values_are names env trace answers)
+miss : (x y : List ℕ) (v : Value) (env : Locals) → (x ≡ y → ⊥) → value_in ((x, v) ∷ env) y ≡ value_in env y
+miss x y v env h = ap (λ b. if b then v else value_in env y)
+    (not_same (pointwise nat_eq y x) (bytes_eq-Decides y x) (λ e. h (sym e)))
 
 -- ---- names
 
--- the names to come are distinct, none of them is empty, and none is a parameter or an operand
-record IsFresh (names params stack : List (List ℕ)) : Type 0 where
+-- an operand doesn't speak of a name
+abbrev Avoids : List ℕ → Plain → Type 0
+Avoids x Missing = Unit {0}
+Avoids x (Local y) = x ≡ y → ⊥
+Avoids x (Unsigned p) = Avoids x p
+
+-- the names to come are distinct, and no parameter and no operand speaks of one
+record IsFresh (names : List (List ℕ)) (params stack : List Plain) : Type 0 where
   pub distinct : AreDistinct names
-  pub named : IsAway [] names
-  pub from_params : (x : List ℕ) → IsIn x names → IsAway x params
-  pub from_stack : (x : List ℕ) → IsIn x names → IsAway x stack
+  pub from_params : (x : List ℕ) → IsIn x names → Each (Avoids x) params
+  pub from_stack : (x : List ℕ) → IsIn x names → Each (Avoids x) stack
 
-away_top : (x : List ℕ) (stack : List (List ℕ)) → (x ≡ [] → ⊥) → IsAway x stack → x ≡ top [] stack → ⊥
-away_top x [] n h = n
-away_top x (y ∷ stack) n h = λ e. h (inl e)
-
-away_below : (x : List ℕ) (stack : List (List ℕ)) → IsAway x stack → IsAway x (below stack)
-away_below x [] h k = k
-away_below x (y ∷ stack) h k = h (inr k)
-
-away_without : (n : ℕ) (x : List ℕ) (stack : List (List ℕ)) → IsAway x stack → IsAway x (without n stack)
-away_without zero x stack h = h
-away_without (suc n) x stack h = away_without n x (below stack) (away_below x stack h)
-
-away_item : (n : ℕ) (x : List ℕ) (xs : List (List ℕ)) → (x ≡ [] → ⊥) → IsAway x xs → x ≡ item_at [] xs n → ⊥
-away_item n x [] e h = e
-away_item zero x (y ∷ xs) e h = λ s. h (inl s)
-away_item (suc n) x (y ∷ xs) e h = away_item n x xs e (λ k. h (inr k))
-
-away_more : (x y : List ℕ) (ys : List (List ℕ)) → (x ≡ y → ⊥) → IsAway x ys → IsAway x (y ∷ ys)
-away_more x y ys e h (inl s) = e s
-away_more x y ys e h (inr k) = h k
-
-not_empty : (x : List ℕ) (names : List (List ℕ)) → IsAway [] names → IsIn x names → x ≡ [] → ⊥
-not_empty x names h k e = h (subst (λ (y : List ℕ). IsIn y names) e k)
-
-fresh_item : (n : ℕ) (names params stack : List (List ℕ)) → IsFresh names params stack → IsFresh names params (item_at [] params n ∷ stack)
-fresh_item n names params stack f = record {
+fresh_item : (n : ℕ) {names : List (List ℕ)} {params stack : List Plain} → IsFresh names params stack
+    → IsFresh names params (item_at Missing params n ∷ stack)
+fresh_item n {names} {params} {stack} f = record {
   distinct = f.distinct;
-  named = f.named;
   from_params = f.from_params;
-  from_stack = λ x k. away_more x (item_at [] params n) stack (away_item n x params (not_empty x names f.named k) (f.from_params x k)) (f.from_stack x k);
+  from_stack = λ x k. (each_item (Avoids x) Missing tt params n (f.from_params x k), f.from_stack x k);
 }
 
-fresh_top : (names params stack : List (List ℕ)) → IsFresh names params stack → IsFresh names params (top [] stack ∷ below stack)
-fresh_top names params stack f = record {
+-- the newest operand is changed, and speaks of no other name
+fresh_top : (g : Plain → Plain) → ((x : List ℕ) (p : Plain) → Avoids x p → Avoids x (g p))
+    → {names : List (List ℕ)} {params stack : List Plain} → IsFresh names params stack
+    → IsFresh names params (g (top Missing stack) ∷ below stack)
+fresh_top g h {names} {params} {stack} f = record {
   distinct = f.distinct;
-  named = f.named;
   from_params = f.from_params;
-  from_stack = λ x k. away_more x (top [] stack) (below stack) (away_top x stack (not_empty x names f.named k) (f.from_stack x k)) (away_below x stack (f.from_stack x k));
+  from_stack = λ x k. (
+    h x (top Missing stack) (each_top (Avoids x) Missing tt stack (f.from_stack x k)),
+    each_below
+        (Avoids x) Missing tt stack (f.from_stack x k),
+  );
 }
 
-fresh_without : (n : ℕ) (names params stack : List (List ℕ)) → IsFresh names params stack → IsFresh names params (without n stack)
-fresh_without n names params stack f = record {
+fresh_without : (n : ℕ) {names : List (List ℕ)} {params stack : List Plain} → IsFresh names params stack
+    → IsFresh names params (without n stack)
+fresh_without n {names} {params} {stack} f = record {
   distinct = f.distinct;
-  named = f.named;
   from_params = f.from_params;
-  from_stack = λ x k. away_without n x stack (f.from_stack x k);
+  from_stack = λ x k. each_without (Avoids x) Missing tt n stack (f.from_stack x k);
 }
 
 -- the first name is taken
-fresh_push : (y : List ℕ) (names params stack : List (List ℕ)) → IsFresh (y ∷ names) params stack → IsFresh names params (y ∷ stack)
-fresh_push y names params stack f = record {
+fresh_push : {y : List ℕ} {names : List (List ℕ)} {params stack : List Plain} → IsFresh (y ∷ names) params stack
+    → IsFresh names params (Local y ∷ stack)
+fresh_push {y} {names} {params} {stack} f = record {
   distinct = f.distinct.1;
-  named = λ k. f.named (inr k);
   from_params = λ x k. f.from_params x (inr k);
-  from_stack = λ x k. away_more x y stack (λ e. f.distinct.0 (subst (λ (z : List ℕ). IsIn z names) e k)) (f.from_stack x (inr k));
+  from_stack = λ x k. (λ e. f.distinct.0 (subst (λ (z : List ℕ). IsIn z names) e k), f.from_stack x (inr k));
 }
+
+-- ---- operands: the values of a stack are the stack of the values
+
+keep_one : (p : Plain) (x : List ℕ) (v : Value) (env : Locals) → Avoids x p
+    → plain_value ((x, v) ∷ env) p ≡ plain_value env p
+keep_one Missing x v env h = refl
+keep_one (Local y) x v env h = miss x y v env h
+keep_one (Unsigned p) x v env h = ap unsigned (keep_one p x v env h)
+
+-- a new local leaves the others as they are
+keep : (stack : List Plain) (x : List ℕ) (v : Value) (env : Locals) → Each (Avoids x) stack
+    → map (plain_value ((x, v) ∷ env)) stack ≡ map (plain_value env) stack
+keep [] x v env h = refl
+keep (p ∷ stack) x v env h =
+    ap (λ w. w ∷ map (plain_value ((x, v) ∷ env)) stack) (keep_one p x v env h.0)
+    ∙ ap (λ ws. plain_value env p ∷ ws) (keep stack x v env h.1)
+
+pushed : (stack : List Plain) (x : List ℕ) (v : Value) (env : Locals) → Each (Avoids x) stack
+    → map (plain_value ((x, v) ∷ env)) (Local x ∷ stack) ≡ v ∷ map (plain_value env) stack
+pushed stack x v env h =
+    ap (λ w. w ∷ map (plain_value ((x, v) ∷ env)) stack) (hit x v env) ∙ ap (λ ws. v ∷ ws) (keep stack x v env h)
+
+module _ (env : Locals) where
+  top_is : (stack : List Plain) → plain_value env (top Missing stack) ≡ top Null (map (plain_value env) stack)
+  top_is [] = refl
+  top_is (p ∷ stack) = refl
+
+  below_is : (stack : List Plain) → map (plain_value env) (below stack) ≡ below (map (plain_value env) stack)
+  below_is [] = refl
+  below_is (p ∷ stack) = refl
+
+  -- the newest operand is changed alike on both sides
+  changed : (g : Plain → Plain) (h : Value → Value) → ((p : Plain) → plain_value env (g p) ≡ h (plain_value env p))
+      → (stack : List Plain) → map (plain_value env) (g (top Missing stack) ∷ below stack)
+      ≡ h (top Null (map (plain_value env) stack)) ∷ below (map (plain_value env) stack)
+  changed g h e [] = ap (λ v. v ∷ []) (e Missing)
+  changed g h e (p ∷ stack) = ap (λ v. v ∷ map (plain_value env) stack) (e p)
+
+  without_is : (n : ℕ) (stack : List Plain) → map (plain_value env) (without n stack)
+      ≡ without n (map (plain_value env) stack)
+  without_is zero stack = refl
+  without_is (suc n) [] = without_is n []
+  without_is (suc n) (p ∷ stack) = without_is n stack
+
+  item_is : (xs : List Plain) (n : ℕ) → plain_value env (item_at Missing xs n)
+      ≡ item_at Null (map (plain_value env) xs) n
+  item_is [] n = refl
+  item_is (p ∷ xs) zero = refl
+  item_is (p ∷ xs) (suc n) = item_is xs n
+
+  operands_are : (n : ℕ) (stack taken : List Plain) → map (plain_value env) (operands Missing n stack taken)
+      ≡ operands Null n (map (plain_value env) stack) (map (plain_value env) taken)
+  operands_are zero stack taken = refl
+  operands_are (suc n) [] taken = operands_are n [] (Missing ∷ taken)
+  operands_are (suc n) (p ∷ stack) taken = operands_are n stack (p ∷ taken)
 
 -- ---- the law
 
--- the run of a rest whose newest operand is a new local
-bound : (steps : List Step) (params stack : List (List ℕ)) (x : List ℕ) (v : Value) (env : Locals) (ss : List Value) → map (value_in env) stack ≡ ss → IsAway x params → IsAway x stack → (trace : List Entry) (answers : List Answer) → means steps (map (value_in ((x, v) ∷ env)) params) (map (value_in ((x, v) ∷ env)) (x ∷ stack)) trace answers ≡ means steps (map (value_in env) params) (v ∷ ss) trace answers
-bound steps params stack x v env ss e hp hs trace answers =
-    ap (λ l. means steps l (map (value_in ((x, v) ∷ env)) (x ∷ stack)) trace answers) (keep params x v env hp)
-    ∙ ap (λ l. means steps (map (value_in env) params) l trace answers) (pushed stack x v env hs ∙ ap (λ l. v ∷ l) e)
+module _ (thing_of : List ℕ → Thing) where
+  value_is : (p : Plain) (env : Locals) (trace : List Entry) (answers : List Answer)
+      → value_of thing_of (term_of p) env trace answers ≡ Went (plain_value env p) trace answers
+  value_is Missing env trace answers = refl
+  value_is (Local x) env trace answers = refl
+  value_is (Unsigned p) env trace answers = rw (value_is p env trace answers) refl
 
-same : (steps : List Step) (params stack names : List (List ℕ)) (env : Locals) → IsFresh names params stack → value_in env [] ≡ Undefined → length (temporaries steps) ≤ length names → (trace : List Entry) (answers : List Answer) → runs (lines_of (lines_from steps params stack names)) env trace answers ≡ means steps (map (value_in env) params) (map (value_in env) stack) trace answers
-same [] params [] names env f u le trace answers = refl
-same [] params (x ∷ stack) names env f u le trace answers = refl
-same (Parameter n ∷ steps) params stack names env f u le trace answers =
-    same steps params (item_at [] params n ∷ stack) names env (fresh_item n names params stack f) u le trace answers
-    ∙ ap (λ v. means steps (map (value_in env) params) (v ∷ map (value_in env) stack) trace answers) (item_is (value_in env) u params n)
-same (Unchanged ∷ steps) params stack names env f u le trace answers =
-    same steps params (top [] stack ∷ below stack) names env (fresh_top names params stack f) u le trace answers
-    ∙ ap (λ s. means steps (map (value_in env) params) s trace answers) (top_again (value_in env) u stack)
-same (CallExport name n true ∷ steps) params stack [] env f u le trace answers = absurd (omega (arith, le))
-same (CallExport name n true ∷ steps) params stack (x ∷ names) env f u le trace answers =
-    rw (values_are (operands [] n stack []) env trace answers, operands_are (value_in env) u n stack [])
-    (one_step (step (Calls (OfExport name) (operands Undefined n (map (value_in env) stack) [])) trace answers) _ (λ v. v ∷ without n (map (value_in env) stack)) (means steps (map (value_in env) params)) (λ v trace answers.
-    same steps params (x ∷ without n stack) names ((x, v) ∷ env) (fresh_push x names params (without n stack) (fresh_without n (x ∷ names) params stack f)) (miss x [] v env (λ e. f.named (inl e)) ∙ u) (omega (arith, le)) trace answers
-    ∙ bound steps params (without n stack) x v env (without n (map (value_in env) stack)) (without_is (value_in env) u n stack) (f.from_params x (inl refl)) (away_without n x stack (f.from_stack x (inl refl))) trace answers))
-same (CallExport name n false ∷ steps) params stack names env f u le trace answers =
-    rw (values_are (operands [] n stack []) env trace answers, operands_are (value_in env) u n stack [])
-    (one_step (step (Calls (OfExport name) (operands Undefined n (map (value_in env) stack) [])) trace answers) _ (λ v. without n (map (value_in env) stack)) (means steps (map (value_in env) params)) (λ v trace answers.
-    same steps params (without n stack) names env (fresh_without n names params stack f) u le trace answers
-    ∙ ap (λ s. means steps (map (value_in env) params) s trace answers) (without_is (value_in env) u n stack)))
-same (CallImport adapter n true global fields ∷ steps) params stack [] env f u le trace answers = absurd (omega (arith, le))
-same (CallImport adapter n true global fields ∷ steps) params stack (x ∷ names) env f u le trace answers =
-    rw (values_are (operands [] n stack []) env trace answers, operands_are (value_in env) u n stack [])
-    (one_step (step (CallsAdapter adapter (operands Undefined n (map (value_in env) stack) [])) trace answers) _ (λ v. v ∷ without n (map (value_in env) stack)) (means steps (map (value_in env) params)) (λ v trace answers.
-    same steps params (x ∷ without n stack) names ((x, v) ∷ env) (fresh_push x names params (without n stack) (fresh_without n (x ∷ names) params stack f)) (miss x [] v env (λ e. f.named (inl e)) ∙ u) (omega (arith, le)) trace answers
-    ∙ bound steps params (without n stack) x v env (without n (map (value_in env) stack)) (without_is (value_in env) u n stack) (f.from_params x (inl refl)) (away_without n x stack (f.from_stack x (inl refl))) trace answers))
-same (CallImport adapter n false global fields ∷ steps) params stack names env f u le trace answers =
-    rw (values_are (operands [] n stack []) env trace answers, operands_are (value_in env) u n stack [])
-    (one_step (step (CallsAdapter adapter (operands Undefined n (map (value_in env) stack) [])) trace answers) _ (λ v. without n (map (value_in env) stack)) (means steps (map (value_in env) params)) (λ v trace answers.
-    same steps params (without n stack) names env (fresh_without n names params stack f) u le trace answers
-    ∙ ap (λ s. means steps (map (value_in env) params) s trace answers) (without_is (value_in env) u n stack)))
+  values_are : (ps : List Plain) (env : Locals) (trace : List Entry) (answers : List Answer)
+      → values_of thing_of (terms ps) env trace answers ≡ Went (map (plain_value env) ps) trace answers
+  values_are [] env trace answers = refl
+  values_are (p ∷ ps) env trace answers = rw (value_is p env trace answers, values_are ps env trace answers)
+
+  -- the call of a helper is one step
+  helper_is : (key : List ℕ) (p : Plain) (env : Locals) → thing_of key ≡ Helper key
+      → (trace : List Entry) (answers : List Answer) → value_of thing_of (helper_call key p) env trace answers
+      ≡ step (Calls (Helper key) (plain_value env p ∷ [])) trace answers
+  helper_is key p env e trace answers = rw (value_is p env trace answers, e)
+
+  gives_back_is : (env : Locals) → thing_of (codes "heap") ≡ Helper (codes "heap")
+      → thing_of (codes "stack_pointer") ≡ Helper (codes "stack_pointer") → (trace : List Entry) (answers : List Answer)
+      → runs thing_of (AndLine gives_back_line NoLines) env trace answers
+      ≡ goes_on (gives_back trace answers) (λ v. Went None)
+  gives_back_is env h k trace answers = rw (h, k)
+
+  -- the run of a rest whose newest operand is a new local
+  bound : (steps : List Step) (params stack : List Plain) (x : List ℕ) (v : Value) (env : Locals) (ss : List Value)
+      → map (plain_value env) stack ≡ ss → Each (Avoids x) params → Each (Avoids x) stack
+      → (trace : List Entry) (answers : List Answer) → means steps (map (plain_value ((x, v) ∷ env)) params)
+      (map (plain_value ((x, v) ∷ env)) (Local x ∷ stack)) [] trace answers
+      ≡ means steps (map (plain_value env) params) (v ∷ ss) [] trace answers
+  bound steps params stack x v env ss e hp hs trace answers =
+      ap (λ l. means steps l (map (plain_value ((x, v) ∷ env)) (Local x ∷ stack)) [] trace answers)
+      (keep params x v env hp)
+      ∙ ap (λ l. means steps (map (plain_value env) params) l [] trace answers)
+      (pushed stack x v env hs ∙ ap (λ l. v ∷ l) e)
+
+  -- a cleanup and a rest mean the `try` and `finally` of both
+  cleaned_is : (steps : List Step) (last : Line) (rest : Lines) (cleanup : Act Value) (env : Locals)
+      (args ss : List Value) → ((trace : List Entry) (answers : List Answer)
+      → runs thing_of (AndLine last NoLines) env trace answers ≡ goes_on (cleanup trace answers) (λ v. Went None))
+      → (trace : List Entry) (answers : List Answer) → runs thing_of rest env trace answers
+      ≡ means steps args ss [] trace answers → runs thing_of (cleaned_by last rest) env trace answers
+      ≡ means steps args ss (cleanup ∷ []) trace answers
+  cleaned_is steps last rest cleanup env args ss h trace answers e =
+      nothing_after (and_always (runs thing_of rest env trace answers) (runs thing_of (AndLine last NoLines) env))
+      ∙ finally (runs thing_of rest env trace answers) (runs thing_of (AndLine last NoLines) env) cleanup h
+      ∙ ap (λ r. and_then_cleans r cleanup) e
+      ∙ sym (means_last steps args ss [] cleanup trace answers)
+
+  thrown : (ran : Ran Value) (rest : Act (Option Value)) (next : List Value → List (Act Value) → Act (Option Value))
+      → unless_left (goes_on ran Threw) rest ≡ after_act (goes_on ran Threw) [] next
+  thrown (Went v trace answers) rest next = refl
+  thrown (Threw v trace answers) rest next = refl
+  thrown (Ended trace) rest next = refl
+
+  -- a flag that is true throws what the object table gives
+  unwrapping : (b : Bool) (p : Plain) (env : Locals) (y : Value) → plain_value env p ≡ y
+      → thing_of (codes "takeObject") ≡ Helper (codes "takeObject")
+      → (rest : Act (Option Value)) (ss : List Value) (next : List Value → List (Act Value) → Act (Option Value))
+      → ((trace : List Entry) (answers : List Answer) → rest trace answers ≡ next ss [] trace answers)
+      → (trace : List Entry) (answers : List Answer) → unless_left
+      (if_true b (runs thing_of (AndLine (Fail (helper_call (codes "takeObject") p)) NoLines) env trace answers)
+      (Went None trace answers)) rest ≡ after_act (throws_if b y ss trace answers) [] next
+  unwrapping false p env y e k rest ss next h trace answers = h trace answers
+  unwrapping true p env y e k rest ss next h trace answers =
+      rw (helper_is (codes "takeObject") p env k trace answers, e)
+      (thrown (step (Calls (Helper (codes "takeObject")) (y ∷ [])) trace answers) rest next)
+
+  same : (steps : List Step) (params stack : List Plain) (names : List (List ℕ)) (env : Locals) (count : ℕ)
+      → KnowsHelpers steps thing_of → IsFresh names params stack → length (wanted_from count steps) ≤ length names
+      → (trace : List Entry) (answers : List Answer) → runs thing_of
+      (nested (pieces_of steps params stack names) NoLines) env trace answers
+      ≡ means steps (map (plain_value env) params) (map (plain_value env) stack) [] trace answers
+  same [] params [] names env count k f le trace answers = refl
+  same [] params (p ∷ stack) names env count k f le trace answers = rw (value_is p env trace answers)
+  same (Parameter n ∷ steps) params stack names env count k f le trace answers =
+      same steps params (item_at Missing params n ∷ stack) names env count k (fresh_item n f) le trace answers
+      ∙ ap (λ v. means steps (map (plain_value env) params) (v ∷ map (plain_value env) stack) [] trace answers)
+      (item_is env params n)
+  same (Unchanged ∷ steps) params stack names env count k f le trace answers =
+      same steps params (top Missing stack ∷ below stack) names env count k
+      (fresh_top (λ p. p) (λ x p a. a) f) le trace answers
+      ∙ ap (λ s. means steps (map (plain_value env) params) s [] trace answers)
+      (changed env (λ p. p) (λ v. v) (λ p. refl) stack)
+  same (CallExport name n true ∷ steps) params stack [] env count k f le trace answers = absurd (omega (arith, le))
+  same (CallExport name n true ∷ steps) params stack (x ∷ names) env count k f le trace answers =
+      rw (values_are (operands Missing n stack []) env trace answers, operands_are env n stack [])
+      (one_step (step (Calls (OfExport name) (operands Null n (map (plain_value env) stack) [])) trace answers) _ _ _
+      (λ v trace answers.
+      same steps params (Local x ∷ without n stack) names ((x, v) ∷ env) count k (fresh_push (fresh_without n f))
+      (omega (arith, le)) trace answers
+      ∙ bound steps params (without n stack) x v env _ (without_is env n stack) (f.from_params x (inl refl))
+      ((fresh_without n f).from_stack x (inl refl)) trace answers))
+  same (CallExport name n false ∷ steps) params stack names env count k f le trace answers =
+      rw (values_are (operands Missing n stack []) env trace answers, operands_are env n stack [])
+      (one_step (step (Calls (OfExport name) (operands Null n (map (plain_value env) stack) [])) trace answers) _ _ _
+      (λ v trace answers.
+      same steps params (without n stack) names env count k (fresh_without n f) le trace answers
+      ∙ ap (λ s. means steps (map (plain_value env) params) s [] trace answers) (without_is env n stack)))
+  same (CallImport adapter n true global fields ∷ steps) params stack [] env count k f le trace answers = absurd
+      (omega (arith, le))
+  same (CallImport adapter n true global fields ∷ steps) params stack (x ∷ names) env count k f le trace answers =
+      rw (values_are (operands Missing n stack []) env trace answers, operands_are env n stack [])
+      (one_step (step (CallsAdapter adapter (operands Null n (map (plain_value env) stack) [])) trace answers) _ _ _
+      (λ v trace answers.
+      same steps params (Local x ∷ without n stack) names ((x, v) ∷ env) count k (fresh_push (fresh_without n f))
+      (omega (arith, le)) trace answers
+      ∙ bound steps params (without n stack) x v env _ (without_is env n stack) (f.from_params x (inl refl))
+      ((fresh_without n f).from_stack x (inl refl)) trace answers))
+  same (CallImport adapter n false global fields ∷ steps) params stack names env count k f le trace answers =
+      rw (values_are (operands Missing n stack []) env trace answers, operands_are env n stack [])
+      (one_step (step (CallsAdapter adapter (operands Null n (map (plain_value env) stack) [])) trace answers) _ _ _
+      (λ v trace answers.
+      same steps params (without n stack) names env count k (fresh_without n f) le trace answers
+      ∙ ap (λ s. means steps (map (plain_value env) params) s [] trace answers) (without_is env n stack)))
+  same (ToUnsigned ∷ steps) params stack names env count k f le trace answers =
+      same steps params (Unsigned (top Missing stack) ∷ below stack) names env count k
+      (fresh_top Unsigned (λ x p a. a) f) le trace answers
+      ∙ ap (λ s. means steps (map (plain_value env) params) s [] trace answers)
+      (changed env Unsigned unsigned (λ p. refl) stack)
+  same (TakeIndex ∷ steps) params stack [] env count k f le trace answers = absurd (omega (arith, le))
+  same (TakeIndex ∷ steps) params stack (x ∷ names) env count k f le trace answers =
+      rw (
+        helper_is (codes "takeObject") (top Missing stack) env
+            (k (codes "takeObject") (inl refl)) trace answers,
+        top_is env stack,
+      )
+      (one_step (step (Calls (Helper (codes "takeObject"))
+      (top Null (map (plain_value env) stack) ∷ [])) trace answers) _ _ _ (λ v trace answers.
+      same steps params (Local x ∷ below stack) names ((x, v) ∷ env) (counted TakeIndex count)
+      (λ key at. k key (inr at)) (fresh_push (fresh_without 1 f)) (omega (arith, le)) trace answers
+      ∙ bound steps params (below stack) x v env _ (below_is env stack) (f.from_params x (inl refl))
+      ((fresh_without 1 f).from_stack x (inl refl)) trace answers))
+  same (IndexFromBorrow ∷ steps) params stack [] env count k f le trace answers = absurd (omega (arith, le))
+  same (IndexFromBorrow ∷ steps) params stack (x ∷ names) env count k f le trace answers =
+      rw (
+        helper_is (codes "addBorrowedObject") (top Missing stack) env
+            (k (codes "addBorrowedObject") (inl refl)) trace answers,
+        top_is env stack,
+      )
+      (one_step (step (Calls (Helper (codes "addBorrowedObject"))
+      (top Null (map (plain_value env) stack) ∷ [])) trace answers) _ _ _ (λ v trace answers.
+      cleaned_is steps gives_back_line (nested (pieces_of steps params
+      (Local x ∷ below stack) names) NoLines) gives_back ((x, v) ∷ env) _ _
+      (gives_back_is ((x, v) ∷ env) (k (codes "heap") (inr (inl refl)))
+      (k (codes "stack_pointer") (inr (inr (inl refl))))) trace answers
+      (same steps params (Local x ∷ below stack) names ((x, v) ∷ env) (counted IndexFromBorrow count)
+      (λ key at. k key (inr (inr (inr at)))) (fresh_push (fresh_without 1 f)) (omega (arith, le)) trace answers
+      ∙ bound steps params (below stack) x v env _ (below_is env stack) (f.from_params x (inl refl))
+      ((fresh_without 1 f).from_stack x (inl refl)) trace answers)))
+  same (UnwrapResult ∷ steps) params stack names env count k f le trace answers =
+      rw (value_is (top Missing stack) env trace answers, top_is env stack)
+      (unwrapping (is_true (top Null (map (plain_value env) stack))) (top Missing (below stack)) env _
+      (top_is env (below stack) ∙ ap (top Null) (below_is env stack)) (k (codes "takeObject") (inl refl)) _ _
+      (means steps (map (plain_value env) params))
+      (λ trace answers. same steps params (below (below stack)) names env count (λ key at. k key (inr at))
+      (fresh_without 2 f) le trace answers
+      ∙ ap (λ s. means steps (map (plain_value env) params) s [] trace answers) (without_is env 2 stack)) trace answers)
 
 -- ---- the whole function
 
-start_is : (params : List (List ℕ)) (args : List Value) → AreDistinct params → length args ≡ length params → map (value_in (locals_of params args)) params ≡ args
-start_is [] [] d e = refl
-start_is [] (v ∷ args) d e = absurd (omega (arith, e))
-start_is (x ∷ params) [] d e = absurd (omega (arith, e))
-start_is (x ∷ params) (v ∷ args) d e =
-    pushed params x v (locals_of params args) d.0
-    ∙ ap (λ vs. v ∷ vs) (start_is params args d.1 (omega (arith, e)))
+avoids_locals : (x : List ℕ) (names : List (List ℕ)) → IsAway x names → Each (Avoids x) (map Local names)
+avoids_locals x [] h = tt
+avoids_locals x (y ∷ names) h = (λ e. h (inl e), avoids_locals x names (λ k. h (inr k)))
 
-start_empty : (params : List (List ℕ)) (args : List Value) → IsAway [] params → value_in (locals_of params args) [] ≡ Undefined
-start_empty [] args h = refl
-start_empty (x ∷ params) [] h = miss x [] Undefined (locals_of params []) (λ e. h (inl e)) ∙ start_empty params [] (λ k. h (inr k))
-start_empty (x ∷ params) (v ∷ args) h = miss x [] v (locals_of params args) (λ e. h (inl e)) ∙ start_empty params args (λ k. h (inr k))
+-- the parameters have the arguments that they see
+start_is : (params : List (List ℕ)) (args : List Value) → AreDistinct params
+    → map (plain_value (locals_of params args)) (map Local params) ≡ seen (length params) args
+start_is [] args d = refl
+start_is (x ∷ params) [] d =
+    pushed (map Local params) x Undefined (locals_of params []) (avoids_locals x params d.0)
+    ∙ ap (λ vs. Undefined ∷ vs) (start_is params [] d.1)
+start_is (x ∷ params) (v ∷ args) d =
+    pushed (map Local params) x v (locals_of params args) (avoids_locals x params d.0)
+    ∙ ap (λ vs. v ∷ vs) (start_is params args d.1)
 
-pub whole : (steps : List Step) (params temps : List (List ℕ)) (args : List Value) (answers : List Answer) → AreDistinct params → AreDistinct temps → IsAway [] params → IsAway [] temps → ((x : List ℕ) → IsIn x temps → IsAway x params) → length (temporaries steps) ≤ length temps → length args ≡ length params → tree_meaning (tree_of steps params temps) (locals_of params args) answers ≡ adapter_meaning steps args answers
-whole steps params temps args answers dp dt np nt apart le e =
-    same steps params [] temps (locals_of params args) (record { distinct = dt; named = nt; from_params = apart; from_stack = λ x k i. i }) (start_empty params args np) le [] answers
-    ∙ ap (λ vs. means steps vs [] [] answers) (start_is params args dp e)
+pub whole : (steps : List Step) (params temps : List (List ℕ)) → AreDistinct params → AreDistinct temps
+    → ((x : List ℕ) → IsIn x temps → IsAway x params) → length (temporaries steps) ≤ length temps
+    → (thing_of : List ℕ → Thing) → KnowsHelpers steps thing_of → (args : List Value) (answers : List Answer)
+    → tree_meaning thing_of (tree_of steps params temps) (locals_of params args) answers
+    ≡ adapter_meaning steps (length params) args answers
+whole steps params temps dp dt apart le thing_of knows args answers =
+    same thing_of steps (map Local params) [] temps (locals_of params args) 0 knows
+    (record {
+      distinct = dt;
+      from_params = λ x k. avoids_locals x params (apart x k);
+      from_stack =
+          λ x k. tt;
+    }) le [] answers
+    ∙ ap (λ vs. means steps vs [] [] [] answers) (start_is params args dp)

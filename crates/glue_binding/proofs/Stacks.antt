@@ -1,28 +1,19 @@
--- Stacks, and lists that loops go over.
-use Rattle.std.proofs.Common.{◌≡◌, ℕ, zero, suc, ◌+◌, ◌-◌, ◌<◌, ◌≤◌, List, [], ◌∷◌, ◌++◌, length, take, drop, get_or, reverse, refl, sym, ap, ◌∙◌, arith, append_assoc}
+-- Stacks, pieces, and lists that loops go over.
+use Rattle.std.proofs.Common.{◌≡◌, ℕ, zero, suc, ◌+◌, ◌-◌, ◌<◌, ◌≤◌, List, [], ◌∷◌, ◌++◌, length, take, drop, get_or, map, reverse, refl, sym, ap, ◌∙◌, arith, append_assoc}
 use Rattle.std.specs.List.{flat_map}
-use Rattle.std.proofs.lemmas.List.{take_more, flat_map_more, reverse-append}
+use Rattle.std.proofs.lemmas.List.{take_more, flat_map_more, reverse-append, map-append}
 use Rattle.std.proofs.Math.Seq.{drop-cons}
-use Rattle.glue_binding.specs.Stack.{top, below, item_at, operands, without, stack_of}
-use Rattle.glue_heap.specs.Term.{Line}
-use Rattle.glue_binding.specs.Spelling.{row, lines_from}
-use Rattle.glue_binding.specs.declared.step.Step.{Step}
+use Rattle.glue_tree.specs.Term.{Lines, AndLine}
+use Rattle.glue_tree.specs.Plainly.{plain_stmt, plain_stmts}
+use Rattle.glue_tree.specs.declared.tree.Stmt.{Stmt}
+use Rattle.glue_steps.specs.Stack.{top, below, item_at, operands, without}
+use Rattle.glue_steps.specs.declared.step.Step.{Step}
+use Rattle.glue_binding.specs.Spelling.{Plain, Missing, Local, Piece, Ahead, Cleanup, row, pieces_of, cleaned_by, nested, wanted_by, counted, wanted_from}
+use Rattle.glue_binding.specs.Body.{newest_first, plain_operand, plain_piece, plain_pieces, behind}
+use Rattle.glue_binding.specs.declared.operand.Operand.{Operand}
+use Rattle.glue_binding.specs.declared.piece.Piece as code
 
-pub item_found : {A : Type 0} (default : A) (xs : List A) (n : ℕ) → n < length xs → get_or xs n default ≡ item_at default xs n
-item_found default [] n h = absurd (omega arith)
-item_found default (x ∷ xs) zero h = refl
-item_found default (x ∷ xs) (suc n) h = item_found default xs n (omega arith)
-
-pub item_missing : {A : Type 0} (default : A) (xs : List A) (n : ℕ) → length xs ≤ n → default ≡ item_at default xs n
-item_missing default [] n h = refl
-item_missing default (x ∷ xs) zero h = absurd (omega arith)
-item_missing default (x ∷ xs) (suc n) h = item_missing default xs n (omega arith)
-
-pub operands_next : {A : Type 0} (default : A) (k n : ℕ) (stack taken : List A) → k < n → operands default (n - (k + 1)) (below stack) (top default stack ∷ taken) ≡ operands default (n - k) stack taken
-operands_next default k n stack taken h = let e : n - k ≡ suc (n - (k + 1)) = omega arith in rw e refl
-
-pub without_next : {A : Type 0} (k n : ℕ) (stack : List A) → k < n → without (n - (k + 1)) (below stack) ≡ without (n - k) stack
-without_next k n stack h = let e : n - k ≡ suc (n - (k + 1)) = omega arith in rw e refl
+-- ---- lists
 
 pub reverse_last : {A : Type 0} (xs : List A) (x : A) → reverse (xs ++ x ∷ []) ≡ x ∷ reverse xs
 reverse_last xs x = reverse-append xs (x ∷ [])
@@ -32,37 +23,111 @@ reverse_front x xs = reverse-append (x ∷ []) xs
 
 pub reverse_twice : {A : Type 0} (xs : List A) → reverse (reverse xs) ≡ xs
 reverse_twice [] = refl
-reverse_twice (x ∷ xs) = ap reverse (reverse_front x xs) ∙ reverse_last (reverse xs) x ∙ ap (λ l. x ∷ l) (reverse_twice xs)
+reverse_twice (x ∷ xs) = ap reverse (reverse_front x xs) ∙ reverse_last (reverse xs) x
+    ∙ ap (λ l. x ∷ l) (reverse_twice xs)
 
--- one operand more is popped
-pub popped_operands : {A : Type 0} (default : A) (k n : ℕ) (stack stack' taken taken' : List A) (x : A) → k < n → stack' ≡ below stack → x ≡ top default stack → taken' ≡ taken ++ x ∷ [] → operands default (n - (k + 1)) stack' (reverse taken') ≡ operands default (n - k) stack (reverse taken)
-popped_operands default k n stack stack' taken taken' x h s e t =
-    ap (λ l. operands default (n - (k + 1)) l (reverse taken')) s
-    ∙ ap (λ l. operands default (n - (k + 1)) (below stack) l) (ap reverse t ∙ reverse_last taken x ∙ ap (λ y. y ∷ reverse taken) e)
-    ∙ operands_next default k n stack (reverse taken) h
+pub newest_first_reverse : {A : Type 0} (xs : List A) → newest_first (reverse xs) ≡ xs
+unfolding newest_first
+newest_first_reverse xs = reverse_twice xs
 
-pub stack_of_reverse : {A : Type 0} (xs : List A) → stack_of (reverse xs) ≡ xs
-unfolding stack_of
-stack_of_reverse xs = reverse_twice xs
-
-pub take_next : {A : Type 0} (xs : List A) (i : ℕ) (x : A) → i < length xs → x ≡ get_or xs i x → take (i + 1) xs ≡ take i xs ++ x ∷ []
+pub take_next : {A : Type 0} (xs : List A) (i : ℕ) (x : A) → i < length xs → x ≡ get_or xs i x
+    → take (i + 1) xs ≡ take i xs ++ x ∷ []
 take_next xs i x lt is = take_more xs i x lt ∙ ap (λ y. take i xs ++ y ∷ []) (sym is)
 
-pub drop_next : {A : Type 0} (xs : List A) (i : ℕ) (x : A) → i < length xs → x ≡ get_or xs i x → drop i xs ≡ x ∷ drop (i + 1) xs
+pub drop_next : {A : Type 0} (xs : List A) (i : ℕ) (x : A) → i < length xs → x ≡ get_or xs i x
+    → drop i xs ≡ x ∷ drop (i + 1) xs
 drop_next xs i x lt is =
     let e : suc i ≡ i + 1 = omega arith in
     drop-cons xs i x lt ∙ ap (λ y. y ∷ drop (suc i) xs) (sym is) ∙ ap (λ n. x ∷ drop n xs) e
 
 -- a loop that appends what a function gives for each item
-pub appended : {A B : Type 0} (f : A → List B) (xs : List A) (i : ℕ) (x : A) (start : List B) → i < length xs → x ≡ get_or xs i x → (start ++ flat_map f (take i xs)) ++ f x ≡ start ++ flat_map f (take (i + 1) xs)
-appended f xs i x start lt is = flat_map_more f start (take i xs) x ∙ ap (λ l. start ++ flat_map f l) (sym (take_next xs i x lt is))
+pub appended : {A B : Type 0} (f : A → List B) (xs : List A) (i : ℕ) (x : A) (start : List B) → i < length xs
+    → x ≡ get_or xs i x → (start ++ flat_map f (take i xs)) ++ f x ≡ start ++ flat_map f (take (i + 1) xs)
+appended f xs i x start lt is = flat_map_more f start (take i xs) x
+    ∙ ap (λ l. start ++ flat_map f l) (sym (take_next xs i x lt is))
+
+-- ---- operands
+
+pub param_found : (params : List (List ℕ)) (n : ℕ) → n < length params
+    → Local (get_or params n []) ≡ item_at Missing (map Local params) n
+param_found [] n h = absurd (omega arith)
+param_found (x ∷ params) zero h = refl
+param_found (x ∷ params) (suc n) h = param_found params n (omega arith)
+
+pub param_missing : (params : List (List ℕ)) (n : ℕ) → length params ≤ n
+    → Missing ≡ item_at Missing (map Local params) n
+param_missing [] n h = refl
+param_missing (x ∷ params) zero h = absurd (omega arith)
+param_missing (x ∷ params) (suc n) h = param_missing params n (omega arith)
+
+operands_next : {A : Type 0} (default : A) (k n : ℕ) (stack taken : List A) → k < n
+    → operands default (n - (k + 1)) (below stack) (top default stack ∷ taken) ≡ operands default (n - k) stack taken
+operands_next default k n stack taken h = let e : n - k ≡ suc (n - (k + 1)) = omega arith in rw e refl
+
+pub without_next : {A : Type 0} (k n : ℕ) (stack : List A) → k < n
+    → without (n - (k + 1)) (below stack) ≡ without (n - k) stack
+without_next k n stack h = let e : n - k ≡ suc (n - (k + 1)) = omega arith in rw e refl
+
+-- one operand more is popped
+pub popped_operands : (k n : ℕ) (stack stack' : List Plain) (taken taken' : List Operand) (x : Operand) → k < n
+    → stack' ≡ below stack → plain_operand x ≡ top Missing stack → taken' ≡ taken ++ x ∷ []
+    → operands Missing (n - (k + 1)) stack' (map plain_operand (reverse taken'))
+    ≡ operands Missing (n - k) stack (map plain_operand (reverse taken))
+popped_operands k n stack stack' taken taken' x h s e t =
+    ap (λ l. operands Missing (n - (k + 1)) l (map plain_operand (reverse taken'))) s
+    ∙ ap (λ l. operands Missing (n - (k + 1)) (below stack) l)
+    (ap (λ l. map plain_operand (reverse l)) t ∙ ap (map plain_operand) (reverse_last taken x)
+    ∙ ap (λ y. y ∷ map plain_operand (reverse taken)) e)
+    ∙ operands_next Missing k n stack (map plain_operand (reverse taken)) h
+
+-- ---- pieces
 
 -- one step of the loop over the steps
-pub lines_next : (steps rest : List Step) (s : Step) (params stack stack' names names' : List (List ℕ)) (old new total : List Line) → steps ≡ s ∷ rest → new ≡ old ++ (row s params stack names).lines → stack' ≡ (row s params stack names).stack → names' ≡ (row s params stack names).names → old ++ lines_from steps params stack names ≡ total → new ++ lines_from rest params stack' names' ≡ total
-lines_next steps rest s params stack stack' names names' old new total e p q n inv =
-    ap (λ l. l ++ lines_from rest params stack' names') p
-    ∙ ap (λ t. (old ++ (row s params stack names).lines) ++ lines_from rest params t names') q
-    ∙ ap (λ l. (old ++ (row s params stack names).lines) ++ lines_from rest params (row s params stack names).stack l) n
-    ∙ append_assoc old (row s params stack names).lines (lines_from rest params (row s params stack names).stack (row s params stack names).names)
-    ∙ ap (λ c. old ++ lines_from c params stack names) (sym e)
+pub pieces_next : (steps rest : List Step) (s : Step) (params stack stack' : List Plain) (names names' : List (List ℕ))
+    (old new total : List Piece) → steps ≡ s ∷ rest → new ≡ old ++ (row s params stack names).pieces
+    → stack' ≡ (row s params stack names).stack → names' ≡ (row s params stack names).names
+    → old ++ pieces_of steps params stack names ≡ total → new ++ pieces_of rest params stack' names' ≡ total
+pieces_next steps rest s params stack stack' names names' old new total e p q n inv =
+    ap (λ l. l ++ pieces_of rest params stack' names') p
+    ∙ ap (λ t. (old ++ (row s params stack names).pieces) ++ pieces_of rest params t names') q
+    ∙ ap (λ l. (old ++ (row s params stack names).pieces) ++ pieces_of rest params (row s params stack names).stack l) n
+    ∙ append_assoc old (row s params stack names).pieces
+    (pieces_of rest params (row s params stack names).stack (row s params stack names).names)
+    ∙ ap (λ c. old ++ pieces_of c params stack names) (sym e)
+    ∙ inv
+
+pub nested-append : (a b : List Piece) (rest : Lines) → nested (a ++ b) rest ≡ nested a (nested b rest)
+nested-append [] b rest = refl
+nested-append (Ahead line ∷ a) b rest = ap (AndLine line) (nested-append a b rest)
+nested-append (Cleanup line ∷ a) b rest = ap (cleaned_by line) (nested-append a b rest)
+
+-- the last piece goes in front of what stands behind it
+pub nested_last : (pieces : List code.Piece) (piece : code.Piece) (rest : Lines)
+    → nested (plain_pieces (pieces ++ piece ∷ [])) rest
+    ≡ nested (plain_pieces pieces) (nested (plain_piece piece ∷ []) rest)
+unfolding plain_pieces
+nested_last pieces piece rest = ap (λ l. nested l rest) (map-append plain_piece pieces (piece ∷ []))
+    ∙ nested-append (map plain_piece pieces) (plain_piece piece ∷ []) rest
+
+-- one statement more in front
+pub behind_more : (lines : List Stmt) (line : Stmt) → behind (lines ++ line ∷ [])
+    ≡ AndLine (plain_stmt line) (behind lines)
+unfolding behind
+behind_more lines line = ap plain_stmts (reverse_last lines line)
+
+-- two pieces that are added one after the other
+pub two_pieces : (a b c : List Piece) (x y : Piece) → b ≡ a ++ x ∷ [] → c ≡ b ++ y ∷ [] → c ≡ a ++ x ∷ y ∷ []
+two_pieces a b c x y e f = f ∙ ap (λ l. l ++ y ∷ []) e ∙ append_assoc a (x ∷ []) (y ∷ [])
+
+-- ---- temporaries
+
+-- one step of the loop over the steps
+pub wanted_next : (steps rest : List Step) (s : Step) (count count' : ℕ) (old new total : List (List ℕ))
+    → steps ≡ s ∷ rest → new ≡ old ++ wanted_by s count → count' ≡ counted s count
+    → old ++ wanted_from count steps ≡ total → new ++ wanted_from count' rest ≡ total
+wanted_next steps rest s count count' old new total e w c inv =
+    ap (λ l. l ++ wanted_from count' rest) w
+    ∙ ap (λ k. (old ++ wanted_by s count) ++ wanted_from k rest) c
+    ∙ append_assoc old (wanted_by s count) (wanted_from (counted s count) rest)
+    ∙ ap (λ l. old ++ wanted_from count l) (sym e)
     ∙ inv

@@ -1,22 +1,27 @@
 -- The function that an adapter is bound to.
 use Rattle.std.specs.Prelude.{◌≡◌, ℕ, true, List, [], ◌++◌, length}
 use Rattle.std.specs.FinSet as set
-use Rattle.std.specs.List.{list_all}
-use Rattle.values.specs.Lists.{AreDistinct, AreApart}
-use Rattle.glue_scope.specs.Ident.{is_ident}
+use Rattle.std.specs.List.{list_all, flat_map}
+use Rattle.values.specs.Lists.{IsIn, AreDistinct, AreApart}
+use Rattle.glue_words.specs.Ident.{is_ident}
 use Rattle.glue_scope.specs.Scope.{Bound, AreDrawn, with_names}
-use Rattle.glue_heap.specs.Value.{Value, Answer}
-use Rattle.glue_heap.specs.Plainly.{plain_stmts}
-use Rattle.glue_heap.specs.TreeMeaning.{locals_of, tree_meaning}
-use Rattle.glue_heap.specs.Spelling.{function_words}
-use Rattle.glue_heap.specs.declared.tree.JsFunction.{JsFunction}
-use Rattle.glue_binding.specs.AdapterMeaning.{adapter_meaning}
-use Rattle.glue_binding.specs.Spelling.{tree_of, temporaries, outer_names}
-use Rattle.glue_binding.specs.declared.step.Step.{Step}
+use Rattle.glue_tree.specs.Value.{Thing, Helper, Value, Answer}
+use Rattle.glue_tree.specs.Plainly.{plain_stmts}
+use Rattle.glue_tree.specs.TreeMeaning.{locals_of, tree_meaning}
+use Rattle.glue_tree.specs.Spelling.{function_words}
+use Rattle.glue_tree.specs.declared.tree.JsFunction.{JsFunction}
+use Rattle.glue_steps.specs.AdapterMeaning.{helpers_of, adapter_meaning}
+use Rattle.glue_steps.specs.declared.step.Step.{Step}
+use Rattle.glue_binding.specs.Spelling.{tree_of, temporaries}
+use Rattle.glue_binding.specs.Outer.{outer_names}
 
 -- the scope that the parameters and temporaries are drawn in: it holds the names from outside
 abbrev pub outer_scope : List Step → Bound
 outer_scope steps = with_names set.empty (outer_names steps)
+
+-- each helper that the steps take is what its name stands for; the name of a helper is its key
+abbrev pub KnowsHelpers : List Step → (List ℕ → Thing) → Type 0
+KnowsHelpers steps thing_of = (key : List ℕ) → IsIn key (flat_map helpers_of steps) → thing_of key ≡ Helper key
 
 -- the function of these steps, with parameters that are drawn for the wanted names
 pub record IsBoundFunction (steps : List Step) (wanted : List (List ℕ)) (f : JsFunction) : Type 0 where
@@ -30,9 +35,11 @@ pub record IsBoundFunction (steps : List Step) (wanted : List (List ℕ)) (f : J
   pub tree : plain_stmts f.tree ≡ tree_of steps f.params temps
   -- the words spell the parameters and the statements
   pub words : f.words ≡ function_words f.params (plain_stmts f.tree)
-  -- the function does what the adapter does, whatever the outside answers, throws included
-  pub meaning : (args : List Value) (answers : List Answer) → length args ≡ length f.params →
-      tree_meaning (plain_stmts f.tree) (locals_of f.params args) answers ≡ adapter_meaning steps args answers
+  -- the function does what the adapter does, with any arguments and whatever the outside answers, throws included
+  pub meaning : (thing_of : List ℕ → Thing) → KnowsHelpers steps thing_of
+      → (args : List Value) (answers : List Answer) →
+      tree_meaning thing_of (plain_stmts f.tree) (locals_of f.params args) answers
+      ≡ adapter_meaning steps (length f.params) args answers
   -- no signature and no documentation
   pub untyped : (f.ts_sig ≡ []) × (f.ts_doc ≡ []) × (f.js_doc ≡ [])
 

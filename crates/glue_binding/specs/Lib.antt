@@ -1,6 +1,4 @@
-pub mod Stack
-pub mod AdapterMeaning
 pub mod Spelling
+pub mod Outer
 pub mod Body
-pub mod Passing
 pub mod Binding

@@ -1,14 +1,45 @@
 -- The statements that the steps of an adapter are spelled by.
-use Rattle.std.specs.Prelude.{ℕ, Bool, true, false, List, [], ◌∷◌, ◌++◌, map, Option, Some, None, codes}
+use Rattle.std.specs.Prelude.{ℕ, ◌+◌, pos, Bool, true, false, List, [], ◌∷◌, ◌++◌, map, Option, Some, None, codes}
 use Rattle.std.specs.List.{flat_map}
-use Rattle.glue_scope.specs.declared.word.Word.{Word}
-use Rattle.glue_scope.specs.declared.word.Word.TheVariants as w
-use Rattle.glue_heap.specs.Term.{Term, Var, Export, Apply, Terms, Line, Bind, Run, Leave, Inner, Lines}
-use Rattle.glue_heap.specs.Plainly.{terms_of, lines_of}
-use Rattle.glue_heap.specs.Spelling.{dot, semicolon, in_parens, parts_of, const_start}
-use Rattle.glue_binding.specs.Stack.{top, below, item_at, operands, without}
-use Rattle.glue_binding.specs.declared.step.Step.{Step}
-use Rattle.glue_binding.specs.declared.step.Step.TheVariants.{Parameter, Unchanged, CallExport, CallImport}
+use Rattle.glue_words.specs.declared.word.Word.{Word}
+use Rattle.glue_words.specs.declared.word.Word.TheVariants as w
+use Rattle.glue_words.specs.Ident.{numbered}
+use Rattle.glue_tree.specs.Value.{Value, Null, unsigned}
+use Rattle.glue_tree.specs.TreeMeaning.{Locals, value_in}
+use Rattle.glue_tree.specs.declared.tree.Constant.TheVariants as constant
+use Rattle.glue_tree.specs.declared.tree.UnaryOperator.TheVariants as unary
+use Rattle.glue_tree.specs.declared.tree.BinaryOperator.TheVariants as binary
+use Rattle.glue_tree.specs.Term.{Term, Lit, Const, Var, Name, Outside, Export, Index, Apply, One, Two, Terms, Line, Bind, Put, Run, When, Always, Fail, Leave, Inner, Lines, NoLines, AndLine}
+use Rattle.glue_tree.specs.Plainly.{terms_of}
+use Rattle.glue_tree.specs.Spelling.{in_parens, parts_of, const_start}
+use Rattle.glue_tree.specs.FixedWords.{dot, semicolon}
+use Rattle.glue_steps.specs.Stack.{top, below, item_at, operands, without}
+use Rattle.glue_steps.specs.declared.step.Step.{Step}
+use Rattle.glue_steps.specs.declared.step.Step.TheVariants.{Parameter, Unchanged, CallExport, CallImport, ToUnsigned, TakeIndex, IndexFromBorrow, UnwrapResult}
+
+-- ---- operands
+
+-- an operand: a text that takes no step when it is evaluated; where an operand is lacking it is `null`
+pub data Plain : Type 0 where
+  Missing : Plain
+  Local : (name : List ℕ) → Plain
+  Unsigned : Plain → Plain
+
+-- an operand as an expression: `null`, a local, `x >>> 0`
+abbrev pub term_of : Plain → Term
+term_of Missing = Const constant.Null
+term_of (Local name) = Var name
+term_of (Unsigned p) = Two binary.ShiftUnsigned (term_of p) (Lit (pos 0))
+
+-- the value of an operand
+abbrev pub plain_value : Locals → Plain → Value
+plain_value locals Missing = Null
+plain_value locals (Local name) = value_in locals name
+plain_value locals (Unsigned p) = unsigned (plain_value locals p)
+
+-- operands as expressions
+abbrev pub terms : List Plain → Terms
+terms ps = terms_of (map term_of ps)
 
 -- the first of the names to come, or the empty name
 abbrev pub first : List (List ℕ) → List ℕ
@@ -18,13 +49,15 @@ first names = top [] names
 abbrev pub later : List (List ℕ) → List (List ℕ)
 later names = below names
 
--- locals as expressions
-abbrev pub locals : List (List ℕ) → Terms
-locals names = terms_of (map Var names)
+-- ---- texts of steps
 
 -- `wasm.name(args)`
-abbrev pub export_call : (name : List ℕ) → (args : List (List ℕ)) → Term
-export_call name args = Apply (Export name) (locals args)
+abbrev pub export_call : (name : List ℕ) → (args : List Plain) → Term
+export_call name args = Apply (Export name) (terms args)
+
+-- `helper(p)`
+abbrev pub helper_call : (key : List ℕ) → Plain → Term
+helper_call key p = Apply (Name key) (terms (p ∷ []))
 
 -- `global.field.field`
 abbrev pub import_words : (global : List ℕ) → (fields : List (List ℕ)) → List Word
@@ -35,77 +68,119 @@ abbrev pub import_call_words : (global : List ℕ) → (fields : List (List ℕ)
 import_call_words global fields args = (import_words global fields ++ in_parens (parts_of args)) ++ semicolon ∷ []
 
 -- the same, or `const bound = ` before it
-abbrev pub import_line_words : (bound : Option (List ℕ)) → (global : List ℕ) → (fields : List (List ℕ)) → (args : Terms) → List Word
+abbrev pub import_line_words : (bound : Option (List ℕ)) → (global : List ℕ) → (fields : List (List ℕ)) → (args : Terms)
+    → List Word
 import_line_words None global fields args = import_call_words global fields args
 import_line_words (Some bound) global fields args = const_start bound ++ import_call_words global fields args
 
--- a row of the table of steps: its statements, the operands that it leaves, and the names that it leaves to later rows
+-- the call of an import, its answer bound to a local if there is one
+abbrev pub import_call : (adapter : ℕ) → (bound : Option (List ℕ)) → (global : List ℕ) → (fields : List (List ℕ))
+    → (args : List Plain) → Line
+import_call adapter bound global fields args = Inner adapter (terms args) bound
+    (import_line_words bound global fields (terms args))
+
+-- `heap[stack_pointer++] = undefined;`
+abbrev pub gives_back_line : Line
+gives_back_line = Put (Index (Name (codes "heap")) (One unary.Increment (Name (codes "stack_pointer")))) (Outside (codes "undefined"))
+
+-- `if (flag) { throw takeObject(handle); }`
+abbrev pub throw_line : (flag handle : Plain) → Line
+throw_line flag handle = When (term_of flag) (AndLine (Fail (helper_call (codes "takeObject") handle)) NoLines)
+
+-- ---- the table of steps
+
+-- what a step adds to the statements: a statement, or a cleanup of all that comes after
+pub data Piece : Type 0 where
+  Ahead : Line → Piece
+  Cleanup : Line → Piece
+
+-- a row of the table: its pieces, the operands that it leaves, and the names that it leaves to later rows
 pub record Row : Type 0 where
-  pub lines : List Line
-  pub stack : List (List ℕ)
+  pub pieces : List Piece
+  pub stack : List Plain
   pub names : List (List ℕ)
 
 -- a row of these
-abbrev pub made : List Line → List (List ℕ) → List (List ℕ) → Row
-made lines stack names = record { lines = lines; stack = stack; names = names }
+abbrev pub made : List Piece → List Plain → List (List ℕ) → Row
+made pieces stack names = record { pieces = pieces; stack = stack; names = names }
 
--- the table of steps; operands are locals
-abbrev pub row : Step → (params stack names : List (List ℕ)) → Row
-row (Parameter n) params stack names = made [] (item_at [] params n ∷ stack) names
-row Unchanged params stack names = made [] (top [] stack ∷ below stack) names
+-- the table of steps
+abbrev pub row : Step → (params stack : List Plain) → (names : List (List ℕ)) → Row
+row (Parameter n) params stack names = made [] (item_at Missing params n ∷ stack) names
+row Unchanged params stack names = made [] (top Missing stack ∷ below stack) names
 row (CallExport name n true) params stack names =
-    made (Bind (first names) (export_call name (operands [] n stack [])) ∷ []) (first names ∷ without n stack) (later names)
+    made (Ahead (Bind (first names) (export_call name (operands Missing n stack []))) ∷ [])
+    (Local (first names) ∷ without n stack) (later names)
 row (CallExport name n false) params stack names =
-    made (Run (export_call name (operands [] n stack [])) ∷ []) (without n stack) names
+    made (Ahead (Run (export_call name (operands Missing n stack []))) ∷ []) (without n stack) names
 row (CallImport adapter n true global fields) params stack names =
-    made
-    (Inner adapter (locals (operands [] n stack [])) (Some (first names)) (import_line_words (Some (first names)) global fields (locals (operands [] n stack []))) ∷ [])
-    (first names ∷ without n stack)
-    (later names)
+    made (Ahead (import_call adapter (Some (first names)) global fields (operands Missing n stack [])) ∷ [])
+    (Local (first names) ∷ without n stack) (later names)
 row (CallImport adapter n false global fields) params stack names =
-    made
-    (Inner adapter (locals (operands [] n stack [])) None (import_line_words None global fields (locals (operands [] n stack []))) ∷ [])
-    (without n stack)
-    names
+    made (Ahead (import_call adapter None global fields (operands Missing n stack [])) ∷ []) (without n stack) names
+row ToUnsigned params stack names = made [] (Unsigned (top Missing stack) ∷ below stack) names
+row TakeIndex params stack names =
+    made (Ahead (Bind (first names) (helper_call (codes "takeObject") (top Missing stack))) ∷ [])
+    (Local (first names) ∷ below stack) (later names)
+row IndexFromBorrow params stack names =
+    made (Ahead (Bind (first names) (helper_call (codes "addBorrowedObject") (top Missing stack)))
+    ∷ Cleanup gives_back_line ∷ [])
+    (Local (first names) ∷ below stack) (later names)
+row UnwrapResult params stack names =
+    made (Ahead (throw_line (top Missing stack) (top Missing (below stack))) ∷ []) (below (below stack)) names
 
 -- at the end the newest operand is returned, where there is one
-abbrev pub ending : List (List ℕ) → List Line
+abbrev pub ending : List Plain → List Piece
 ending [] = []
-ending (name ∷ stack) = Leave (Some (Var name)) ∷ []
+ending (p ∷ stack) = Ahead (Leave (Some (term_of p))) ∷ []
 
--- the statements of the steps
-abbrev pub lines_from : List Step → (params stack names : List (List ℕ)) → List Line
-lines_from [] params stack names = ending stack
-lines_from (s ∷ steps) params stack names =
-    (row s params stack names).lines ++ lines_from steps params (row s params stack names).stack (row s params stack names).names
+-- the pieces of the steps, with the end behind them
+abbrev pub pieces_of : List Step → (params stack : List Plain) → (names : List (List ℕ)) → List Piece
+pieces_of [] params stack names = ending stack
+pieces_of (s ∷ steps) params stack names =
+    (row s params stack names).pieces ++ pieces_of steps params (row s params stack names).stack
+    (row s params stack names).names
+
+-- `try { rest } finally { last }`
+abbrev pub cleaned_by : Line → Lines → Lines
+cleaned_by last rest = AndLine (Always rest (AndLine last NoLines)) NoLines
+
+-- the statements of pieces in front of others: a cleanup stands behind all of them
+abbrev pub nested : List Piece → Lines → Lines
+nested [] rest = rest
+nested (Ahead line ∷ pieces) rest = AndLine line (nested pieces rest)
+nested (Cleanup line ∷ pieces) rest = cleaned_by line (nested pieces rest)
 
 -- the body of an adapter's function with these parameters and temporaries
 abbrev pub tree_of : List Step → (params temps : List (List ℕ)) → Lines
-tree_of steps params temps = lines_of (lines_from steps params [] temps)
+tree_of steps params temps = nested (pieces_of steps (map Local params) [] temps) NoLines
+
+-- ---- temporaries
 
 -- the temporary of a call that has a result
 abbrev pub result_of : Bool → List (List ℕ)
 result_of true = codes "ret" ∷ []
 result_of false = []
 
--- the temporaries that a step wants
-abbrev pub wanted_by : Step → List (List ℕ)
-wanted_by (Parameter n) = []
-wanted_by Unchanged = []
-wanted_by (CallExport name n has_result) = result_of has_result
-wanted_by (CallImport adapter n has_result global fields) = result_of has_result
+-- the temporaries that a step wants: `ret` for a call, else `v` and how many steps before it have such a one
+abbrev pub wanted_by : Step → (count : ℕ) → List (List ℕ)
+wanted_by (CallExport name n has_result) count = result_of has_result
+wanted_by (CallImport adapter n has_result global fields) count = result_of has_result
+wanted_by TakeIndex count = numbered (codes "v") count ∷ []
+wanted_by IndexFromBorrow count = numbered (codes "v") count ∷ []
+wanted_by other count = []
 
--- the temporaries that the steps want
+-- how many have one after the step
+abbrev pub counted : Step → (count : ℕ) → ℕ
+counted TakeIndex count = count + 1
+counted IndexFromBorrow count = count + 1
+counted other count = count
+
+-- the temporaries that steps want, where so many before them have a numbered one
+abbrev pub wanted_from : (count : ℕ) → List Step → List (List ℕ)
+wanted_from count [] = []
+wanted_from count (s ∷ steps) = wanted_by s count ++ wanted_from (counted s count) steps
+
+-- the temporaries that the steps of an adapter want
 abbrev pub temporaries : List Step → List (List ℕ)
-temporaries steps = flat_map wanted_by steps
-
--- the names from outside the function that the words of a step use
-abbrev pub outside_of : Step → List (List ℕ)
-outside_of (Parameter n) = []
-outside_of Unchanged = []
-outside_of (CallExport name n has_result) = codes "wasm" ∷ []
-outside_of (CallImport adapter n has_result global fields) = global ∷ []
-
--- the names from outside the function that its words use
-abbrev pub outer_names : List Step → List (List ℕ)
-outer_names steps = flat_map outside_of steps
+temporaries steps = wanted_from 0 steps

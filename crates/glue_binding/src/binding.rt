@@ -3,18 +3,21 @@ ghost use Rattle.std.specs.Prelude.{◌≡◌, [], IfOk};
 ghost use Rattle.glue_binding.specs.Binding.{IsBoundFunction};
 
 use crate::body::body_of;
-use crate::draw::{draw, reserve_outer, temporaries_of};
-use crate::step::Step;
-use glue_heap::{JsFunction, function_words_of};
+use crate::draw::{draw, temporaries_of};
+use crate::seed::reserve_seed;
 use glue_scope::Names;
+use glue_steps::Step;
+use glue_tree::{JsFunction, function_words_of};
 use std::alloc::{AllocError, Global};
 use values::{Seq, Text};
 
 /// The JavaScript function of an adapter's steps, with parameters that are drawn for the wanted names.
 ///
-/// Where a step names a parameter that isn't there, or finds no operand, the empty name stands for it, whose value is `undefined`:
-/// the text is no JavaScript then. The steps of a checked adapter never come there. The only error is want of memory. Documentation
-/// and TypeScript signature are empty.
+/// Where a step names a parameter that isn't there, or finds no operand, `null` stands for it, in the text as in the
+/// meaning; the
+/// steps of a checked adapter never come there. The only error is want of memory. Documentation and TypeScript
+/// signature are
+/// empty.
 pub fn bind<N: Names>(
     alloc: Global,
     steps: &[Step],
@@ -23,7 +26,7 @@ pub fn bind<N: Names>(
     ensures function { IfOk result (λ f. IsBoundFunction steps.now wanted.now f) }
 {
     let mut scope = N::new(alloc);
-    reserve_outer(&mut scope, steps)?;
+    reserve_seed(alloc, &mut scope, steps)?;
     let params = draw(alloc, &mut scope, wanted)?;
     let others = temporaries_of(alloc, steps)?;
     let temps = draw(alloc, &mut scope, others.as_slice())?;

@@ -1,10 +1,11 @@
 //! The names of a function: its parameters and temporaries, in a scope that holds the names from outside.
-ghost use Rattle.std.specs.Prelude.{◌≡◌, ◌++◌, ◌∷◌, [], IfOk, OnOk, true, false, List, ℕ, codes};
+ghost use Rattle.std.specs.Prelude.{◌≡◌, ◌++◌, ◌∷◌, [], ◌+◌, ◌-◌, ◌^◌, ◌<◌, ◌≤◌, IfOk, OnOk, codes};
+ghost use Rattle.glue_words.specs.Ident.{numbered};
 ghost use Rattle.glue_scope.specs.Scope.{AreDrawn, with_names};
 ghost use Rattle.glue_binding.specs.Spelling as s;
 
-use crate::step::Step;
 use glue_scope::Names;
+use glue_steps::Step;
 use std::alloc::{AllocError, Global};
 use values::{Seq, Text};
 
@@ -24,34 +25,6 @@ pub fn draw<N: Names>(
     Ok(names)
 }
 
-/// Binds the names from outside that the words of a step use.
-fn reserve_of<N: Names>(scope: &mut N, step: &Step) -> Result<(), AllocError>
-    ensures bound { OnOk result (N.bound scope.new ≡ with_names (N.bound scope.old) (s.outside_of step.now)) }
-{
-    match step {
-        Step::Parameter(_) => Ok(()),
-        Step::Unchanged => Ok(()),
-        Step::CallExport { .. } => {
-            scope.reserve("wasm")?;
-            Ok(())
-        }
-        Step::CallImport { global, .. } => {
-            scope.reserve(global.as_str())?;
-            Ok(())
-        }
-    }
-}
-
-/// Binds the names from outside that the words of the steps use.
-pub fn reserve_outer<N: Names>(scope: &mut N, steps: &[Step]) -> Result<(), AllocError>
-    ensures bound { OnOk result (N.bound scope.new ≡ with_names (N.bound scope.old) (s.outer_names steps.now)) }
-{
-    for step in steps {
-        reserve_of(scope, step)?;
-    }
-    Ok(())
-}
-
 /// `ret`, for a call that has a result.
 fn push_result(alloc: Global, has_result: bool, wanted: &mut Seq<Text>) -> Result<(), AllocError>
     ensures wanted { OnOk result (wanted.new ≡ wanted.old ++ s.result_of has_result) }
@@ -62,15 +35,45 @@ fn push_result(alloc: Global, has_result: bool, wanted: &mut Seq<Text>) -> Resul
     Ok(())
 }
 
-/// The temporaries that a step wants.
-fn push_wanted(alloc: Global, step: &Step, wanted: &mut Seq<Text>) -> Result<(), AllocError>
-    ensures wanted { OnOk result (wanted.new ≡ wanted.old ++ s.wanted_by step.now) }
+/// `v` and the number.
+fn push_numbered(alloc: Global, count: usize, wanted: &mut Seq<Text>) -> Result<(), AllocError>
+    ensures wanted { OnOk result (wanted.new ≡ wanted.old ++ numbered (codes "v") count ∷ []) }
+{
+    wanted.push(Text::new(format!(in alloc; "v{count}")?))?;
+    Ok(())
+}
+
+/// The temporaries that a step wants, where so many before it have a numbered one.
+fn push_wanted(
+    alloc: Global,
+    step: &Step,
+    count: usize,
+    wanted: &mut Seq<Text>,
+) -> Result<(), AllocError>
+    ensures wanted { OnOk result (wanted.new ≡ wanted.old ++ s.wanted_by step.now count) }
 {
     match step {
-        Step::Parameter(_) => Ok(()),
-        Step::Unchanged => Ok(()),
         Step::CallExport { has_result, .. } => push_result(alloc, *has_result, wanted),
         Step::CallImport { has_result, .. } => push_result(alloc, *has_result, wanted),
+        Step::TakeIndex => push_numbered(alloc, count, wanted),
+        Step::IndexFromBorrow => push_numbered(alloc, count, wanted),
+        Step::Parameter(_) => Ok(()),
+        Step::Unchanged => Ok(()),
+        Step::ToUnsigned => Ok(()),
+        Step::UnwrapResult => Ok(()),
+    }
+}
+
+/// How many steps have a numbered temporary after this one, where so many have one before it.
+fn counted(step: &Step, count: usize) -> usize
+    requires { count < 2 ^ 64 - 1 }
+    ensures count { result ≡ s.counted step.now count }
+    ensures next { result ≤ count + 1 }
+{
+    match step {
+        Step::TakeIndex => count + 1,
+        Step::IndexFromBorrow => count + 1,
+        _ => count,
     }
 }
 
@@ -79,8 +82,10 @@ pub fn temporaries_of(alloc: Global, steps: &[Step]) -> Result<Seq<Text>, AllocE
     ensures wanted { IfOk result (λ wanted. wanted ≡ s.temporaries steps.now) }
 {
     let mut wanted = Seq::new(alloc);
+    let mut count = 0usize;
     for step in steps {
-        push_wanted(alloc, step, &mut wanted)?;
+        push_wanted(alloc, step, count, &mut wanted)?;
+        count = counted(step, count);
     }
     Ok(wanted)
 }

@@ -1,47 +1,18 @@
-//! Expressions and words of calls.
+//! Words of calls of imports.
 ghost use Rattle.std.specs.Prelude.{◌≡◌, ◌++◌, ◌∷◌, [], IfOk, OnOk, Some, None};
-ghost use Rattle.glue_heap.specs.declared.tree.Expr.TheVariants as e;
-ghost use Rattle.glue_heap.specs.Plainly.{plain_expr, plain_exprs};
-ghost use Rattle.glue_heap.specs.Spelling.{dot};
-ghost use Rattle.glue_scope.specs.declared.word.Word.TheVariants as w;
+ghost use Rattle.glue_tree.specs.Plainly.{plain_exprs};
+ghost use Rattle.glue_tree.specs.FixedWords.{dot};
+ghost use Rattle.glue_words.specs.declared.word.Word.TheVariants as w;
 ghost use Rattle.glue_binding.specs.Spelling as s;
 
-use glue_heap::{Expr, push_arguments, push_const};
-use glue_scope::Word;
+use glue_tree::{Expr, push_arguments, push_const};
+use glue_words::Word;
 use std::alloc::{AllocError, Global};
-use values::{Boxed, Duplicate, Seq, Text};
+use values::{Duplicate, Seq, Text};
 
 const DOT: u8 = 6;
 
 const SEMICOLON: u8 = 8;
-
-/// Appends a local as an expression.
-fn push_local(alloc: Global, name: &Text, exprs: &mut Seq<Expr>) -> Result<(), AllocError>
-    ensures exprs { OnOk result (exprs.new ≡ exprs.old ++ e.Local name.now ∷ []) }
-{
-    exprs.push(Expr::Local(name.copy(alloc)?))?;
-    Ok(())
-}
-
-/// Locals as expressions.
-pub fn locals(alloc: Global, names: &[Text]) -> Result<Seq<Expr>, AllocError>
-    ensures exprs { IfOk result (λ exprs. plain_exprs exprs ≡ s.locals names.now) }
-{
-    let mut exprs = Seq::new(alloc);
-    for name in names {
-        push_local(alloc, name, &mut exprs)?;
-    }
-    Ok(exprs)
-}
-
-/// `wasm.name(args)`
-pub fn export_call(alloc: Global, name: &Text, args: &[Text]) -> Result<Expr, AllocError>
-    ensures expr { IfOk result (λ e. plain_expr e ≡ s.export_call name.now args.now) }
-{
-    let f = Boxed::new(alloc, Expr::Wasm(name.copy(alloc)?))?;
-    let args = locals(alloc, args)?;
-    Ok(Expr::Call(f, args))
-}
 
 /// `.field`
 fn push_field(alloc: Global, field: &Text, words: &mut Seq<Word>) -> Result<(), AllocError>
@@ -76,7 +47,8 @@ fn push_call(
     args: &[Expr],
     words: &mut Seq<Word>,
 ) -> Result<(), AllocError>
-    ensures words { OnOk result (words.new ≡ words.old ++ s.import_call_words global.now fields.now (plain_exprs args.now)) }
+    ensures words { OnOk result (words.new ≡ words.old ++ s.import_call_words global.now fields.now
+        (plain_exprs args.now)) }
 {
     push_import(alloc, global, fields, words)?;
     push_arguments(alloc, args, words)?;
@@ -92,7 +64,8 @@ pub fn import_line(
     fields: &[Text],
     args: &[Expr],
 ) -> Result<Seq<Word>, AllocError>
-    ensures words { IfOk result (λ words. words ≡ s.import_line_words bound.now global.now fields.now (plain_exprs args.now)) }
+    ensures words { IfOk result (λ words. words ≡ s.import_line_words bound.now global.now fields.now
+        (plain_exprs args.now)) }
 {
     let mut words = Seq::new(alloc);
     if let Some(name) = bound {

@@ -1,39 +1,59 @@
-//! The stack of operands, which are locals by their names.
-ghost use Rattle.std.specs.Prelude.{◌≡◌, ◌∷◌, [], OnOk, IfOk, reverse};
-ghost use Rattle.glue_binding.specs.Stack as s;
+//! The stack of operands, and the names to come.
+ghost use Rattle.std.specs.Prelude.{◌≡◌, ◌∷◌, [], OnOk, IfOk, map, reverse};
+ghost use Rattle.glue_binding.specs.Body.{newest_first, stack_of, plain_operand};
+ghost use Rattle.glue_binding.specs.Spelling.{Missing, first, later};
+ghost use Rattle.glue_steps.specs.Stack as s;
 
+use crate::operand::Operand;
 use std::alloc::{AllocError, Global};
 use values::{Seq, Text};
 
-/// The newest operand, or the empty name where there is none.
-#[tactic(auto, unfolding(crate::specs::Stack::stack_of))]
-pub fn pop(alloc: Global, stack: &mut Seq<Text>) -> Text
-    ensures top { result ≡ s.top [] (s.stack_of stack.old) }
-    ensures below { s.stack_of stack.new ≡ s.below (s.stack_of stack.old) }
+/// The newest operand, or the one that stands for a lacking one.
+#[tactic(auto, unfolding(crate::specs::Body::stack_of))]
+pub fn pop(stack: &mut Seq<Operand>) -> Operand
+    ensures top { plain_operand result ≡ s.top Missing (stack_of stack.old) }
+    ensures below { stack_of stack.new ≡ s.below (stack_of stack.old) }
 {
     match stack.pop() {
-        Some(name) => name,
-        None => Text::new(String::new(alloc)),
+        Some(operand) => operand,
+        None => Operand::Missing,
     }
 }
 
-#[tactic(auto, unfolding(crate::specs::Stack::stack_of))]
-pub fn push(stack: &mut Seq<Text>, name: Text) -> Result<(), AllocError>
-    ensures pushed { OnOk result (s.stack_of stack.new ≡ name ∷ s.stack_of stack.old) }
+#[tactic(auto, unfolding(crate::specs::Body::stack_of))]
+pub fn push(stack: &mut Seq<Operand>, operand: Operand) -> Result<(), AllocError>
+    ensures pushed { OnOk result (stack_of stack.new ≡ plain_operand operand ∷ stack_of stack.old) }
 {
-    stack.push(name)?;
+    stack.push(operand)?;
     Ok(())
 }
 
 /// The n newest operands, the oldest of them first.
-pub fn pop_operands(alloc: Global, stack: &mut Seq<Text>, n: u32) -> Result<Seq<Text>, AllocError>
-    ensures names { IfOk result (λ names. names ≡ s.operands [] n (s.stack_of stack.old) []) }
-    ensures left { OnOk result (s.stack_of stack.new ≡ s.without n (s.stack_of stack.old)) }
+pub fn pop_operands(
+    alloc: Global,
+    stack: &mut Seq<Operand>,
+    n: u32,
+) -> Result<Vec<Operand>, AllocError>
+    ensures operands { IfOk result (λ taken. map plain_operand taken.items
+        ≡ s.operands Missing n (stack_of stack.old) []) }
+    ensures left { OnOk result (stack_of stack.new ≡ s.without n (stack_of stack.old)) }
 {
     let mut taken = Vec::new(alloc);
     for _ in 0..n {
-        taken.push(pop(alloc, stack))?;
+        taken.push(pop(stack))?;
     }
     taken.reverse();
-    Ok(Seq::from_vec(taken))
+    Ok(taken)
+}
+
+/// The next name, or the empty one where none is left.
+#[tactic(auto, unfolding(crate::specs::Body::newest_first))]
+pub fn next_name(alloc: Global, coming: &mut Seq<Text>) -> Text
+    ensures name { result ≡ first (newest_first coming.old) }
+    ensures left { newest_first coming.new ≡ later (newest_first coming.old) }
+{
+    match coming.pop() {
+        Some(name) => name,
+        None => Text::new(String::new(alloc)),
+    }
 }

@@ -1,4 +1,3 @@
 mod Doubles
 pub mod Named
 mod Passing
-mod Resolved

@@ -24,10 +24,10 @@ use Rattle.glue_shared.specs.declared.import.JsImportName.TheVariants as names
 use Rattle.glue_shared.specs.declared.adapter.Instruction.{Instruction}
 use Rattle.glue_shared.specs.declared.adapter.Instruction.TheVariants as instr
 use Rattle.glue_shared.specs.declared.description.Lowered.{Lowered}
-use Rattle.glue_binding.specs.declared.step.Step.{Step}
-use Rattle.glue_binding.specs.declared.step.Step.TheVariants.{CallExport, CallImport}
-use Rattle.glue_binding.specs.Passing.{passing, handing_on, export_steps}
-use Rattle.glue_check.specs.Resolving.{is_some_item, host_step, import_step_of, described_import, called_import, small, entry_at, own_type_of, is_number_type, typed_call, call_of, with_step, step_of, steps_of, code_steps, adapter_steps}
+use Rattle.glue_steps.specs.declared.step.Step.{Step}
+use Rattle.glue_steps.specs.declared.step.Step.TheVariants.{CallExport, CallImport}
+use Rattle.glue_steps.specs.Passing.{passing, handing_on, export_steps}
+use Rattle.glue_steps.specs.Resolving.{is_some_item, host_step, import_step_of, described_import, called_import, small, entry_at, own_type_of, is_number_type, typed_call, call_of, with_step, step_of, steps_of, code_steps, adapter_steps}
 use Rattle.glue_check.specs.Exported.{export_name, export_names}
 
 -- the name of a live entry is among those of the exports

@@ -1,8 +1,8 @@
 -- Steps that pass parameters on, taken one parameter after another.
 use Rattle.std.proofs.Common.{◌≡◌, ℕ, suc, ◌+◌, List, [], ◌∷◌, length, Bool, true, false, ap, cond}
 use Rattle.std.specs.Prelude.{Option, Some, None, ◌==◌}
-use Rattle.glue_binding.specs.declared.step.Step.{Step}
-use Rattle.glue_binding.specs.declared.step.Step.TheVariants.{Parameter, Unchanged, CallExport, CallImport}
+use Rattle.glue_steps.specs.declared.step.Step.{Step}
+use Rattle.glue_steps.specs.declared.step.Step.TheVariants.{Parameter, Unchanged, CallExport, CallImport, ToUnsigned, TakeIndex, IndexFromBorrow, UnwrapResult}
 use Rattle.glue_check.specs.Check.{call_from, parameter_rest}
 
 -- a parameter was passed: the call is that of the other steps, of which there are two less
@@ -22,6 +22,14 @@ passed_on place (Parameter i ∷ Unchanged ∷ steps) rest e =
 passed_on place (Parameter i ∷ Parameter j ∷ steps) rest e = absurd cc
 passed_on place (Parameter i ∷ CallExport name n r ∷ steps) rest e = absurd cc
 passed_on place (Parameter i ∷ CallImport a n r g fs ∷ steps) rest e = absurd cc
+passed_on place (Parameter i ∷ ToUnsigned ∷ steps) rest e = absurd cc
+passed_on place (Parameter i ∷ TakeIndex ∷ steps) rest e = absurd cc
+passed_on place (Parameter i ∷ IndexFromBorrow ∷ steps) rest e = absurd cc
+passed_on place (Parameter i ∷ UnwrapResult ∷ steps) rest e = absurd cc
 passed_on place (Unchanged ∷ steps) rest e = absurd cc
 passed_on place (CallExport name n r ∷ steps) rest e = absurd cc
 passed_on place (CallImport a n r g fs ∷ steps) rest e = absurd cc
+passed_on place (ToUnsigned ∷ steps) rest e = absurd cc
+passed_on place (TakeIndex ∷ steps) rest e = absurd cc
+passed_on place (IndexFromBorrow ∷ steps) rest e = absurd cc
+passed_on place (UnwrapResult ∷ steps) rest e = absurd cc

@@ -11,7 +11,7 @@ use Rattle.wasm_core.specs.declared.types.Memory.{Memory}
 use Rattle.wasm_core.specs.declared.types.ImportKind.{ImportKind}
 use Rattle.wasm_core.specs.declared.types.ImportKind.TheVariants as import_kinds
 use Rattle.wasm_core.specs.Contents.{Contents}
-use Rattle.glue_scope.specs.Ident.{is_ident}
+use Rattle.glue_words.specs.Ident.{is_ident}
 use Rattle.glue_shared.specs.Names.{host_names, fixed_names, live_count}
 use Rattle.glue_shared.specs.declared.adapter.Adapter as a
 use Rattle.glue_shared.specs.declared.adapter.AdapterType.{AdapterType}
@@ -31,9 +31,9 @@ use Rattle.glue_shared.specs.declared.aux.AuxExportKind.TheVariants as export_ki
 use Rattle.glue_shared.specs.declared.aux.WasmBindgenAux.{WasmBindgenAux}
 use Rattle.glue_shared.specs.declared.settings.Settings.{Settings}
 use Rattle.glue_shared.specs.declared.description.Lowered.{Lowered}
-use Rattle.glue_binding.specs.declared.step.Step.{Step}
-use Rattle.glue_binding.specs.declared.step.Step.TheVariants as steps
-use Rattle.glue_check.specs.Resolving.{entry_at, type_of, is_number_type, adapter_steps, is_some_item}
+use Rattle.glue_steps.specs.declared.step.Step.{Step}
+use Rattle.glue_steps.specs.declared.step.Step.TheVariants as steps
+use Rattle.glue_steps.specs.Resolving.{entry_at, type_of, is_number_type, adapter_steps, is_some_item}
 use Rattle.glue_check.specs.Exported.{export_names}
 
 -- ---- steps that pass parameters on

@@ -1,4 +1,3 @@
 pub mod Check
 pub mod Doubles
 pub mod Exported
-pub mod Resolving

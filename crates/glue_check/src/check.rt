@@ -4,20 +4,20 @@ ghost use Rattle.std.specs.List.{list_all, list_any, filter_map};
 ghost use Rattle.std.specs.Option.{option_copied};
 ghost use Rattle.std.specs.Ordering.{nat_cmp};
 ghost use Rattle.values.specs.Map.{look_up};
-ghost use Rattle.glue_scope.specs.Ident.{is_ident};
+ghost use Rattle.glue_words.specs.Ident.{is_ident};
 ghost use Rattle.glue_check.specs.Check.{ends_well as the_good_end, last_call as the_last_call, call_from, parameter_rest, next_way as the_next_way, passes as the_passage, is_s32 as s32_test, code_of as the_code, takes as the_takes, is_local as the_local_test, is_local_at, is_taken as the_taken_test, is_function as the_function_test, names_fit as the_fit_of_names, is_among, is_free_name as the_free_test, fits_export as the_export_test, call_of_adapter, is_fit_export as the_fit_export, is_type as the_type_test, is_import_type as the_import_type_test, is_placeholder as the_placeholder_test, is_host_path as the_path_test, fits_import as the_import_test, is_fit_import as the_fit_import, is_free_global as the_global_test, is_global_import as the_import_form, are_few as the_few_test, is_plain as the_plain_test, is_shared as shared_test, has_double, is_plain_module as the_plain_module, is_built as the_built_test};
 ghost use Rattle.glue_check.specs.Doubles.{is_met as met_test, with_name, repeats};
 ghost use Rattle.glue_check.specs.Exported.{export_name};
-ghost use Rattle.glue_check.specs.Resolving.{type_of, entry_at};
+ghost use Rattle.glue_steps.specs.Resolving.{type_of, entry_at};
 
-use crate::resolving::{adapter_steps, function_type, is_number_type};
-use glue_binding::Step;
-use glue_scope::{IdentScope, Names, is_valid_ident};
+use glue_scope::{IdentScope, Names};
 use glue_shared::{
     Adapter, AdapterId, AdapterKind, AdapterType, AuxExport, AuxExportKind, AuxImport, AuxValue,
     Instruction, JsImportName, Lowered, Settings, WasmBindgenAux, is_fixed_name, is_host_name,
     live_count,
 };
+use glue_steps::{Step, adapter_steps, function_type, is_number_type};
+use glue_words::is_valid_ident;
 use std::alloc::{AllocError, Global};
 use values::{Seq, Text};
 use wasm_core::{Export, FuncType, Import, ImportId, ImportKind, Memory, Module};

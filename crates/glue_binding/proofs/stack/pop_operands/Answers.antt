@@ -1,19 +1,24 @@
-use Rattle.std.proofs.Common.{◌≡◌, ◌-◌, ◌+◌, [], reverse, sym, ap, ◌∙◌, arith}
+use Rattle.std.proofs.Common.{◌≡◌, ◌-◌, ◌+◌, map, reverse, sym, ap, ◌∙◌, arith}
 use Rattle.glue_binding.proofs.Stacks.{popped_operands, without_next}
-use Rattle.glue_binding.specs.Stack.{operands, without, stack_of}
+use Rattle.glue_steps.specs.Stack.{operands, without}
+use Rattle.glue_binding.specs.Spelling.{Missing}
+use Rattle.glue_binding.specs.Body.{plain_operand, stack_of}
 use Rattle.glue_binding.proofs.stack.pop_operands.Goals as goal
 
 pub loop-preserved : goal.loop-preserved
 loop-preserved c = record {
-  names = popped_operands [] c.loop.counter c.args.n _ _ c.loop.taken.items c.push.new.self.items c.pop.result c.loop-test.true c.pop.ensures.below c.pop.ensures.top c.in_ok-push.ensures.items ∙ c.loop.invariant.names;
-  left = ap (without (c.args.n - (c.loop.counter + 1))) c.pop.ensures.below ∙ without_next c.loop.counter c.args.n _ c.loop-test.true ∙ c.loop.invariant.left;
+  operands = popped_operands c.loop.counter c.args.n _ _ c.loop.taken.items c.push.new.self.items c.pop.result
+      c.loop-test.true c.pop.ensures.below c.pop.ensures.top c.in_ok-push.ensures.items ∙ c.loop.invariant.operands;
+  left = ap (without (c.args.n - (c.loop.counter + 1))) c.pop.ensures.below
+      ∙ without_next c.loop.counter c.args.n _ c.loop-test.true ∙ c.loop.invariant.left;
 }
 
-pub returns-clause-names : goal.returns-clause-names
-returns-clause-names c =
+pub returns-clause-operands : goal.returns-clause-operands
+returns-clause-operands c =
     let none : c.args.n - c.loop.counter ≡ 0 = omega arith in
-    let turned : c.from_vec.result ≡ reverse c.loop.taken.items = cc in
-    turned ∙ ap (λ k. operands [] k (stack_of c.loop.stack) (reverse c.loop.taken.items)) (sym none) ∙ c.loop.invariant.names
+    ap (map plain_operand) c.reverse.ensures.items ∙ ap
+    (λ k. operands Missing k (stack_of c.loop.stack) (map plain_operand (reverse c.loop.taken.items))) (sym none)
+    ∙ c.loop.invariant.operands
 
 pub returns-clause-left : goal.returns-clause-left
 returns-clause-left c =

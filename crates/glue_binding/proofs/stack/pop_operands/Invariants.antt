@@ -1,9 +1,12 @@
-use Rattle.std.proofs.Common.{◌≡◌, ◌-◌, [], reverse}
-use Rattle.glue_binding.specs.Stack.{operands, without, stack_of}
+use Rattle.std.proofs.Common.{◌≡◌, ◌-◌, [], map, reverse}
+use Rattle.glue_steps.specs.Stack.{operands, without}
+use Rattle.glue_binding.specs.Spelling.{Missing}
+use Rattle.glue_binding.specs.Body.{plain_operand, stack_of}
 use Rattle.glue_binding.proofs.stack.pop_operands.Given as goal
 
 abbrev pub invariant-loop : goal.invariant-loop
 invariant-loop l = record {
-  names : operands [] (l.n - l.counter) (stack_of l.stack) (reverse l.taken.items) ≡ operands [] l.n (stack_of l.initial.stack) [];
+  operands : operands Missing (l.n - l.counter) (stack_of l.stack) (map plain_operand (reverse l.taken.items))
+      ≡ operands Missing l.n (stack_of l.initial.stack) [];
   left : without (l.n - l.counter) (stack_of l.stack) ≡ without l.n (stack_of l.initial.stack);
 }

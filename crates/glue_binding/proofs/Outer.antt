@@ -1,0 +1,247 @@
+-- The names from outside don't depend on the locals.
+use Rattle.std.proofs.Common.{◌≡◌, ℕ, zero, suc, List, [], ◌∷◌, ◌++◌, map, refl, ap, sym, ◌∙◌, true, false}
+use Rattle.std.proofs.lemmas.List.{append-nil}
+use Rattle.std.proofs.lemmas.List.Elements.{filter_map-append}
+use Rattle.std.specs.Prelude.{Option, None, codes}
+use Rattle.std.specs.List.{filter_map}
+use Rattle.glue_words.specs.declared.word.Word.{Word}
+use Rattle.glue_words.specs.declared.word.Word.TheVariants as w
+use Rattle.glue_words.specs.Names.{used_name, hosted_name, used_in, hosted_in}
+use Rattle.glue_tree.specs.Term.{Lines, NoLines}
+use Rattle.glue_tree.specs.Spelling.{function_words, in_parens, parts_of, listed}
+use Rattle.glue_words.specs.Words.{space}
+use Rattle.glue_tree.specs.Leaves.{leaves, leaves_of, line_leaves, lines_leaves, function_leaves}
+use Rattle.glue_tree.proofs.Names.{IsKind, Has, function_names, listed_names}
+use Rattle.glue_tree.proofs.Functions.{used_kind, hosted_kind}
+use Rattle.glue_steps.specs.Stack.{top, below, operands, without}
+use Rattle.glue_steps.specs.declared.step.Step.{Step}
+use Rattle.glue_steps.specs.declared.step.Step.TheVariants.{Parameter, Unchanged, CallExport, CallImport, ToUnsigned, TakeIndex, IndexFromBorrow, UnwrapResult}
+use Rattle.glue_binding.specs.Spelling.{Plain, Missing, Local, Unsigned, term_of, terms, first, import_words, import_call_words, Piece, Ahead, Cleanup, ending, row, pieces_of, nested, tree_of}
+use Rattle.glue_binding.specs.Outer.{outer_in, seed_words}
+
+-- operands have no names of a kind that locals have none of
+pub plain_none : (kind : Word → Option (List ℕ)) → ((name : List ℕ) → kind (w.Local name) ≡ None) → (p : Plain)
+    → filter_map kind (leaves (term_of p)) ≡ []
+plain_none kind h Missing = refl
+plain_none kind h (Local name) = rw (h name) refl
+plain_none kind h (Unsigned p) = ap (filter_map kind) (append-nil (leaves (term_of p))) ∙ plain_none kind h p
+
+pub terms_none : (kind : Word → Option (List ℕ)) → ((name : List ℕ) → kind (w.Local name) ≡ None) → (ps : List Plain)
+    → filter_map kind (leaves_of (terms ps)) ≡ []
+terms_none kind h [] = refl
+terms_none kind h (p ∷ ps) =
+    filter_map-append kind (leaves (term_of p)) (leaves_of (terms ps))
+    ∙ ap (λ (ns : List (List ℕ)). ns ++ filter_map kind (leaves_of (terms ps))) (plain_none kind h p)
+    ∙ terms_none kind h ps
+
+-- a kind of names from outside: none of a local
+pub record IsOuter (kind : Word → Option (List ℕ)) : Type 0 where
+  pub is : IsKind kind
+  pub bound : (name : List ℕ) → kind (w.LocalBind name) ≡ None
+  pub local : (name : List ℕ) → kind (w.Local name) ≡ None
+
+-- as many operands
+abbrev AreAsMany : List Plain → List Plain → Type 0
+AreAsMany [] [] = Unit {0}
+AreAsMany (p ∷ ps) (q ∷ qs) = AreAsMany ps qs
+AreAsMany ps qs = ⊥
+
+below_many : (t t' : List Plain) → AreAsMany t t' → AreAsMany (below t) (below t')
+below_many [] [] h = tt
+below_many (p ∷ t) (q ∷ t') h = h
+below_many [] (q ∷ t') h = absurd h
+below_many (p ∷ t) [] h = absurd h
+
+without_many : (n : ℕ) (t t' : List Plain) → AreAsMany t t' → AreAsMany (without n t) (without n t')
+without_many zero t t' h = h
+without_many (suc n) t t' h = without_many n (below t) (below t') (below_many t t' h)
+
+row_many : (s : Step) (p t p' t' : List Plain) (n n' : List (List ℕ)) → AreAsMany t t'
+    → AreAsMany (row s p t n).stack (row s p' t' n').stack
+row_many (Parameter i) p t p' t' n n' h = h
+row_many Unchanged p t p' t' n n' h = below_many t t' h
+row_many (CallExport name i true) p t p' t' n n' h = without_many i t t' h
+row_many (CallExport name i false) p t p' t' n n' h = without_many i t t' h
+row_many (CallImport adapter i true global fields) p t p' t' n n' h = without_many i t t' h
+row_many (CallImport adapter i false global fields) p t p' t' n n' h = without_many i t t' h
+row_many ToUnsigned p t p' t' n n' h = below_many t t' h
+row_many TakeIndex p t p' t' n n' h = below_many t t' h
+row_many IndexFromBorrow p t p' t' n n' h = below_many t t' h
+row_many UnwrapResult p t p' t' n n' h = without_many 2 t t' h
+
+module _ (kind : Word → Option (List ℕ)) (outer : IsOuter kind) where
+  abbrev found : List Word → List (List ℕ)
+  found words = filter_map kind words
+
+  -- two lists of words have the same names from outside
+  record Alike (words others : List Word) : Type 0 where
+    same : found words ≡ found others
+
+  equal : (words : List Word) → Alike words words
+  equal words = record { same = refl }
+
+  beside : {xs ys xs' ys' : List Word} → Alike xs xs' → Alike ys ys' → Alike (xs ++ ys) (xs' ++ ys')
+  beside {xs} {ys} {xs'} {ys'} h k = record {
+    same = filter_map-append kind xs ys ∙ ap (λ (ns : List (List ℕ)). ns ++ found ys) h.same
+        ∙ ap (λ (ns : List (List ℕ)). found xs' ++ ns) k.same ∙ sym (filter_map-append kind xs' ys');
+  }
+
+  kept : {xs ys : List Word} (word : Word) → Alike xs ys → Alike (word ∷ xs) (word ∷ ys)
+  kept word h = beside (equal (word ∷ [])) h
+
+  bind : {xs ys : List Word} (a b : List ℕ) → Alike xs ys → Alike (w.LocalBind a ∷ xs) (w.LocalBind b ∷ ys)
+  bind a b h = record { same = rw (outer.bound a, outer.bound b) h.same }
+
+  operand : (p q : Plain) → Alike (leaves (term_of p)) (leaves (term_of q))
+  operand p q = record { same = plain_none kind outer.local p ∙ sym (plain_none kind outer.local q) }
+
+  passed : (ps qs : List Plain) → Alike (leaves_of (terms ps)) (leaves_of (terms qs))
+  passed ps qs = record { same = terms_none kind outer.local ps ∙ sym (terms_none kind outer.local qs) }
+
+  import_same : (global : List ℕ) (fields : List (List ℕ)) (ps qs : List Plain)
+      → Alike (import_call_words global fields (terms ps)) (import_call_words global fields (terms qs))
+  import_same global fields ps qs =
+      let left : Has kind outer.is (listed (parts_of (terms ps))) (leaves_of (terms ps)) = listed_names kind outer.is
+      (terms ps) in
+      let right : Has kind outer.is (listed (parts_of (terms qs))) (leaves_of (terms qs)) = listed_names kind outer.is
+      (terms qs) in
+      let parens : Alike (in_parens (parts_of (terms ps))) (in_parens (parts_of (terms qs))) = kept (w.Punct 2)
+      (beside (record { same = left.same ∙ (passed ps qs).same ∙ sym right.same }) (equal (w.Punct 3 ∷ []))) in
+      beside (beside (equal (import_words global fields)) parens) (equal (w.Punct 8 ∷ []))
+
+  -- `helper(p)`
+  helper_same : (key : List ℕ) (p q : Plain) → Alike (w.Refer key false ∷ leaves_of (terms (p ∷ [])))
+      (w.Refer key false ∷ leaves_of (terms (q ∷ [])))
+  helper_same key p q = kept (w.Refer key false) (passed (p ∷ []) (q ∷ []))
+
+  -- the same pieces, but for the locals
+  abbrev AllAlike : List Piece → List Piece → Type 0
+  AllAlike [] [] = Unit {0}
+  AllAlike (Ahead a ∷ ps) (Ahead b ∷ qs) = Alike (line_leaves a) (line_leaves b) × AllAlike ps qs
+  AllAlike (Cleanup a ∷ ps) (Cleanup b ∷ qs) = Alike (line_leaves a) (line_leaves b) × AllAlike ps qs
+  AllAlike ps qs = ⊥
+
+  -- a row of the table: a line or two a step
+  row_same : (s : Step) (p t p' t' : List Plain) (n n' : List (List ℕ))
+      → AllAlike (row s p t n).pieces (row s p' t' n').pieces
+  row_same (Parameter i) p t p' t' n n' = tt
+  row_same Unchanged p t p' t' n n' = tt
+  row_same (CallExport name i true) p t p' t' n n' = (
+    bind (first n) (first n') (kept (w.Refer (codes "wasm") false)
+        (kept (w.Wasm name) (passed (operands Missing i t []) (operands Missing i t' [])))),
+    tt,
+  )
+  row_same (CallExport name i false) p t p' t' n n' = (
+    kept (w.Refer (codes "wasm") false) (kept (w.Wasm name)
+        (passed (operands Missing i t []) (operands Missing i t' []))),
+    tt,
+  )
+  row_same (CallImport adapter i true global fields) p t p' t' n n' = (
+    kept (w.Key 8) (kept space (bind (first n) (first n')
+        (kept space (kept (w.Punct 14) (kept space (import_same global fields (operands Missing i t [])
+        (operands Missing i t' []))))))),
+    tt,
+  )
+  row_same (CallImport adapter i false global fields) p t p' t' n n' =
+      (import_same global fields (operands Missing i t []) (operands Missing i t' []), tt)
+  row_same ToUnsigned p t p' t' n n' = tt
+  row_same TakeIndex p t p' t' n n' = (
+    bind (first n) (first n')
+        (helper_same (codes "takeObject") (top Missing t) (top Missing t')),
+    tt,
+  )
+  row_same IndexFromBorrow p t p' t' n n' = (
+    bind (first n) (first n')
+        (helper_same (codes "addBorrowedObject") (top Missing t) (top Missing t')),
+    (equal _, tt),
+  )
+  row_same UnwrapResult p t p' t' n n' = (
+    beside (operand (top Missing t) (top Missing t'))
+        (beside (helper_same (codes "takeObject") (top Missing (below t)) (top Missing (below t'))) (equal [])),
+    tt,
+  )
+
+  -- ---- all rows: this part knows no step
+
+  nested_same : (ps qs : List Piece) (rest more : Lines) → AllAlike ps qs
+      → Alike (lines_leaves rest) (lines_leaves more) → Alike (lines_leaves (nested ps rest))
+      (lines_leaves (nested qs more))
+  nested_same [] [] rest more h k = k
+  nested_same (Ahead a ∷ ps) (Ahead b ∷ qs) rest more h k = beside h.0 (nested_same ps qs rest more h.1 k)
+  nested_same (Cleanup a ∷ ps) (Cleanup b ∷ qs) rest more h k = beside
+      (beside (nested_same ps qs rest more h.1 k) (beside h.0 (equal []))) (equal [])
+  nested_same [] (q ∷ qs) rest more h k = absurd h
+  nested_same (Ahead a ∷ ps) [] rest more h k = absurd h
+  nested_same (Ahead a ∷ ps) (Cleanup b ∷ qs) rest more h k = absurd h
+  nested_same (Cleanup a ∷ ps) [] rest more h k = absurd h
+  nested_same (Cleanup a ∷ ps) (Ahead b ∷ qs) rest more h k = absurd h
+
+  both_alike : (ps qs rs ss : List Piece) → AllAlike ps qs → AllAlike rs ss → AllAlike (ps ++ rs) (qs ++ ss)
+  both_alike [] [] rs ss h k = k
+  both_alike (Ahead a ∷ ps) (Ahead b ∷ qs) rs ss h k = (h.0, both_alike ps qs rs ss h.1 k)
+  both_alike (Cleanup a ∷ ps) (Cleanup b ∷ qs) rs ss h k = (h.0, both_alike ps qs rs ss h.1 k)
+  both_alike [] (q ∷ qs) rs ss h k = absurd h
+  both_alike (Ahead a ∷ ps) [] rs ss h k = absurd h
+  both_alike (Ahead a ∷ ps) (Cleanup b ∷ qs) rs ss h k = absurd h
+  both_alike (Cleanup a ∷ ps) [] rs ss h k = absurd h
+  both_alike (Cleanup a ∷ ps) (Ahead b ∷ qs) rs ss h k = absurd h
+
+  ending_same : (t t' : List Plain) → AreAsMany t t' → AllAlike (ending t) (ending t')
+  ending_same [] [] h = tt
+  ending_same (p ∷ t) (q ∷ t') h = (operand p q, tt)
+  ending_same [] (q ∷ t') h = absurd h
+  ending_same (p ∷ t) [] h = absurd h
+
+  pieces_same : (steps : List Step) (p t p' t' : List Plain) (n n' : List (List ℕ)) → AreAsMany t t'
+      → AllAlike (pieces_of steps p t n) (pieces_of steps p' t' n')
+  pieces_same [] p t p' t' n n' h = ending_same t t' h
+  pieces_same (s ∷ steps) p t p' t' n n' h =
+      let r = row s p t n in
+      let r' = row s p' t' n' in
+      both_alike r.pieces r'.pieces (pieces_of steps p r.stack r.names) (pieces_of steps p' r'.stack r'.names)
+      (row_same s p t p' t' n n')
+      (pieces_same steps p r.stack p' r'.stack r.names r'.names (row_many s p t p' t' n n' h))
+
+  tree_same : (steps : List Step) (params temps others more : List (List ℕ))
+      → Alike (lines_leaves (tree_of steps params temps)) (lines_leaves (tree_of steps others more))
+  tree_same steps params temps others more =
+      nested_same (pieces_of steps (map Local params) [] temps)
+      (pieces_of steps (map Local others) [] more) NoLines NoLines
+      (pieces_same steps (map Local params) [] (map Local others) [] temps more tt) (equal [])
+
+  parameters_none : (names : List (List ℕ)) → found (map w.LocalBind names) ≡ []
+  parameters_none [] = refl
+  parameters_none (name ∷ names) = rw (outer.bound name) (parameters_none names)
+
+  pub function_same : (steps : List Step) (params temps others more : List (List ℕ))
+      → found (function_words params (tree_of steps params temps))
+      ≡ found (function_words others (tree_of steps others more))
+  function_same steps params temps others more =
+      let here : Has kind outer.is (function_words params (tree_of steps params temps))
+      (function_leaves params (tree_of steps params temps)) = function_names kind outer.is params
+      (tree_of steps params temps) in
+      let there : Has kind outer.is (function_words others (tree_of steps others more))
+      (function_leaves others (tree_of steps others more)) = function_names kind outer.is others
+      (tree_of steps others more) in
+      let heads : Alike (map w.LocalBind params) (map w.LocalBind others) = record {
+        same = parameters_none params
+            ∙ sym (parameters_none others);
+      } in
+      let all : Alike (function_leaves params (tree_of steps params temps))
+      (function_leaves others (tree_of steps others more)) = beside heads
+      (tree_same steps params temps others more) in
+      here.same ∙ all.same ∙ sym there.same
+
+-- the names from outside are those of the words that no names are drawn for, whatever names are drawn
+pub outer_is_seed : (steps : List Step) (params temps : List (List ℕ))
+    → outer_in (function_words params (tree_of steps params temps)) ≡ outer_in (seed_words steps)
+outer_is_seed steps params temps =
+    ap (λ (ns : List (List ℕ)). ns ++ hosted_in (function_words params (tree_of steps params temps)))
+    (function_same used_name (record { is = used_kind; bound = λ n. refl; local = λ n. refl }) steps params temps [] [])
+    ∙ ap (λ (ns : List (List ℕ)). used_in (seed_words steps) ++ ns)
+    (function_same hosted_name (record {
+      is = hosted_kind;
+      bound = λ n. refl;
+      local =
+          λ n. refl;
+    }) steps params temps [] [])

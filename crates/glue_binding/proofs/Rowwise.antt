@@ -1,0 +1,179 @@
+-- What holds of the statements of each row holds of the pieces of any steps.
+use Rattle.std.proofs.Common.{ℕ, ◌≤◌, List, [], ◌∷◌, ◌++◌, length, Some, None, true, false, arith}
+use Rattle.std.specs.Prelude.{codes}
+use Rattle.glue_tree.specs.Term.{Line, Bind, Run, Leave}
+use Rattle.glue_steps.specs.Stack.{top, below, operands}
+use Rattle.glue_steps.specs.declared.step.Step.{Step}
+use Rattle.glue_steps.specs.declared.step.Step.TheVariants.{Parameter, Unchanged, CallExport, CallImport, ToUnsigned, TakeIndex, IndexFromBorrow, UnwrapResult}
+use Rattle.glue_binding.specs.Spelling.{Plain, Missing, Local, Unsigned, term_of, export_call, helper_call, import_call, gives_back_line, throw_line, Piece, Ahead, Cleanup, ending, row, pieces_of, wanted_by, counted, wanted_from}
+use Rattle.glue_binding.proofs.Each.{Each, each_item, each_top, each_below, each_without, each_operands}
+
+-- a property of statements, by one of operands, one of names and one of steps: a line or two a step
+pub record IsRowwise (D : Line → Type 0) (S : Plain → Type 0) (N : List ℕ → Type 0) (F : Step → Type 0) : Type 0 where
+  pub missing : S Missing
+  pub local : (x : List ℕ) → N x → S (Local x)
+  pub unsigned : (p : Plain) → S p → S (Unsigned p)
+  pub ends : (p : Plain) → S p → D (Leave (Some (term_of p)))
+  pub export_runs : (name : List ℕ) (n : ℕ) → F (CallExport name n false) → (args : List Plain) → Each S args
+      → D (Run (export_call name args))
+  pub export_binds : (name : List ℕ) (n : ℕ) → F (CallExport name n true) → (x : List ℕ) → N x → (args : List Plain)
+      → Each S args → D (Bind x (export_call name args))
+  pub import_runs : (adapter n : ℕ) (global : List ℕ) (fields : List (List ℕ))
+      → F (CallImport adapter n false global fields) → (args : List Plain) → Each S args
+      → D (import_call adapter None global fields args)
+  pub import_binds : (adapter n : ℕ) (global : List ℕ) (fields : List (List ℕ))
+      → F (CallImport adapter n true global fields) → (x : List ℕ) → N x → (args : List Plain) → Each S args
+      → D (import_call adapter (Some x) global fields args)
+  pub takes : F TakeIndex → (x : List ℕ) → N x → (p : Plain) → S p → D (Bind x (helper_call (codes "takeObject") p))
+  pub borrows : F IndexFromBorrow → (x : List ℕ) → N x → (p : Plain) → S p
+      → D (Bind x (helper_call (codes "addBorrowedObject") p))
+  pub gives_back : F IndexFromBorrow → D gives_back_line
+  pub throws : F UnwrapResult → (p q : Plain) → S p → S q → D (throw_line p q)
+
+-- the statement of each piece has the property
+abbrev pub AllHave : (Line → Type 0) → List Piece → Type 0
+AllHave D [] = Unit {0}
+AllHave D (Ahead line ∷ pieces) = D line × AllHave D pieces
+AllHave D (Cleanup line ∷ pieces) = D line × AllHave D pieces
+
+-- as many names are left as later steps want
+row_enough : (s : Step) (params stack : List Plain) (names : List (List ℕ)) (count : ℕ) (rest : List (List ℕ))
+    → length (wanted_by s count ++ rest) ≤ length names → length rest ≤ length (row s params stack names).names
+row_enough (Parameter n) params stack names count rest le = le
+row_enough Unchanged params stack names count rest le = le
+row_enough (CallExport name n true) params stack [] count rest le = absurd (omega (arith, le))
+row_enough (CallExport name n true) params stack (x ∷ names) count rest le = omega (arith, le)
+row_enough (CallExport name n false) params stack names count rest le = le
+row_enough (CallImport adapter n true global fields) params stack [] count rest le = absurd (omega (arith, le))
+row_enough (CallImport adapter n true global fields) params stack (x ∷ names) count rest le = omega (arith, le)
+row_enough (CallImport adapter n false global fields) params stack names count rest le = le
+row_enough ToUnsigned params stack names count rest le = le
+row_enough TakeIndex params stack [] count rest le = absurd (omega (arith, le))
+row_enough TakeIndex params stack (x ∷ names) count rest le = omega (arith, le)
+row_enough IndexFromBorrow params stack [] count rest le = absurd (omega (arith, le))
+row_enough IndexFromBorrow params stack (x ∷ names) count rest le = omega (arith, le)
+row_enough UnwrapResult params stack names count rest le = le
+
+module _ {D : Line → Type 0} {S : Plain → Type 0} {N : List ℕ → Type 0} {F : Step → Type 0}
+    (is : IsRowwise D S N F) where
+  -- what a row leaves
+  record RowHas (pieces : List Piece) (stack : List Plain) (names : List (List ℕ)) : Type 0 where
+    pieces_have : AllHave D pieces
+    stack_has : Each S stack
+    names_have : Each N names
+
+  row_has : (s : Step) (params stack : List Plain) (names : List (List ℕ)) (count : ℕ) (rest : List (List ℕ)) → F s
+      → length (wanted_by s count ++ rest) ≤ length names → Each S params → Each S stack → Each N names
+      → RowHas (row s params stack names).pieces (row s params stack names).stack (row s params stack names).names
+  row_has (Parameter n) params stack names count rest f le p t m = record {
+    pieces_have = tt;
+    stack_has =
+        (each_item S Missing is.missing params n p, t);
+    names_have = m;
+  }
+  row_has Unchanged params stack names count rest f le p t m =
+      record {
+        pieces_have = tt;
+        stack_has = (
+          each_top S Missing is.missing stack t,
+          each_below S Missing is.missing
+              stack t,
+        );
+        names_have = m;
+      }
+  row_has (CallExport name n true) params stack [] count rest f le p t m = absurd (omega (arith, le))
+  row_has (CallExport name n true) params stack (x ∷ names) count rest f le p t m = record {
+    pieces_have = (
+      is.export_binds name n f x m.0 (operands Missing n stack [])
+          (each_operands S Missing is.missing n stack [] t tt),
+      tt,
+    );
+    stack_has = (is.local x m.0, each_without S Missing is.missing n stack t);
+    names_have = m.1;
+  }
+  row_has (CallExport name n false) params stack names count rest f le p t m = record {
+    pieces_have = (
+      is.export_runs name n f (operands Missing n stack [])
+          (each_operands S Missing is.missing n stack [] t tt),
+      tt,
+    );
+    stack_has = each_without S Missing is.missing n stack t;
+    names_have = m;
+  }
+  row_has (CallImport adapter n true global fields) params stack [] count rest f le p t m = absurd (omega (arith, le))
+  row_has (CallImport adapter n true global fields) params stack (x ∷ names) count rest f le p t m = record {
+    pieces_have = (
+      is.import_binds adapter n global fields f x m.0 (operands Missing n stack [])
+          (each_operands S Missing is.missing n stack [] t tt),
+      tt,
+    );
+    stack_has = (is.local x m.0, each_without S Missing is.missing n stack t);
+    names_have = m.1;
+  }
+  row_has (CallImport adapter n false global fields) params stack names count rest f le p t m = record {
+    pieces_have = (
+      is.import_runs adapter n global fields f (operands Missing n stack [])
+          (each_operands S Missing is.missing n stack [] t tt),
+      tt,
+    );
+    stack_has = each_without S Missing is.missing n stack t;
+    names_have = m;
+  }
+  row_has ToUnsigned params stack names count rest f le p t m =
+      record {
+        pieces_have = tt;
+        stack_has = (
+          is.unsigned (top Missing stack)
+              (each_top S Missing is.missing stack t),
+          each_below S Missing is.missing stack t,
+        );
+        names_have = m;
+      }
+  row_has TakeIndex params stack [] count rest f le p t m = absurd (omega (arith, le))
+  row_has TakeIndex params stack (x ∷ names) count rest f le p t m = record {
+    pieces_have = (is.takes f x m.0 (top Missing stack) (each_top S Missing is.missing stack t), tt);
+    stack_has = (is.local x m.0, each_below S Missing is.missing stack t);
+    names_have = m.1;
+  }
+  row_has IndexFromBorrow params stack [] count rest f le p t m = absurd (omega (arith, le))
+  row_has IndexFromBorrow params stack (x ∷ names) count rest f le p t m = record {
+    pieces_have = (
+      is.borrows f x m.0 (top Missing stack) (each_top S Missing is.missing stack t),
+      (is.gives_back f, tt),
+    );
+    stack_has = (is.local x m.0, each_below S Missing is.missing stack t);
+    names_have = m.1;
+  }
+  row_has UnwrapResult params stack names count rest f le p t m =
+      let under = each_below S Missing is.missing stack t in record {
+        pieces_have = (
+          is.throws f (top Missing stack) (top Missing (below stack))
+              (each_top S Missing is.missing stack t) (each_top S Missing is.missing (below stack) under),
+          tt,
+        );
+        stack_has = each_below S Missing is.missing (below stack) under;
+        names_have = m;
+      }
+
+  -- ---- all rows: this part knows no step
+
+  all_both : (xs ys : List Piece) → AllHave D xs → AllHave D ys → AllHave D (xs ++ ys)
+  all_both [] ys h k = k
+  all_both (Ahead line ∷ xs) ys h k = (h.0, all_both xs ys h.1 k)
+  all_both (Cleanup line ∷ xs) ys h k = (h.0, all_both xs ys h.1 k)
+
+  ending_has : (stack : List Plain) → Each S stack → AllHave D (ending stack)
+  ending_has [] h = tt
+  ending_has (p ∷ stack) h = (is.ends p h.0, tt)
+
+  pub pieces_have : (steps : List Step) (params stack : List Plain) (names : List (List ℕ)) (count : ℕ) → Each F steps
+      → length (wanted_from count steps) ≤ length names → Each S params → Each S stack → Each N names
+      → AllHave D (pieces_of steps params stack names)
+  pieces_have [] params stack names count f le p t m = ending_has stack t
+  pieces_have (s ∷ steps) params stack names count f le p t m =
+      let rest = wanted_from (counted s count) steps in
+      let r = row s params stack names in
+      let here : RowHas r.pieces r.stack r.names = row_has s params stack names count rest f.0 le p t m in
+      all_both r.pieces (pieces_of steps params r.stack r.names) here.pieces_have
+      (pieces_have steps params r.stack r.names (counted s count) f.1
+      (row_enough s params stack names count rest le) p here.stack_has here.names_have)

@@ -1,0 +1,88 @@
+//! Rows of calls of exports and of imports.
+ghost use Rattle.std.specs.Prelude.{◌≡◌, ◌++◌, ◌∷◌, [], IfOk, OnOk, map};
+ghost use Rattle.glue_tree.specs.Plainly.{plain_expr, plain_exprs};
+ghost use Rattle.glue_tree.specs.Term as t;
+ghost use Rattle.glue_binding.specs.Body.{IsAfter, plain_operand, plain_pieces, row_of};
+ghost use Rattle.glue_binding.specs.Spelling as s;
+ghost use Rattle.glue_steps.specs.declared.step.Step.TheVariants.{CallExport, CallImport};
+
+use crate::body::Body;
+use crate::import::import_line;
+use crate::operand::{Operand, to_exprs};
+use crate::stack::pop_operands;
+use glue_tree::{Expr, Stmt};
+use std::alloc::{AllocError, Global};
+use values::{Boxed, Duplicate, Seq, Text};
+
+/// `wasm.name(args)`
+fn export_call(alloc: Global, name: &Text, args: &[Operand]) -> Result<Expr, AllocError>
+    ensures expr { IfOk result (λ e. plain_expr e ≡ s.export_call name.now (map plain_operand args.now)) }
+{
+    let f = Boxed::new(alloc, Expr::Wasm(name.copy(alloc)?))?;
+    let args = to_exprs(alloc, args)?;
+    Ok(Expr::Call(f, args))
+}
+
+/// The row of a call of an export.
+pub fn call_export(
+    alloc: Global,
+    body: &mut Body,
+    name: &Text,
+    params: u32,
+    has_result: bool,
+) -> Result<(), AllocError>
+    ensures after { OnOk result (IsAfter (row_of (CallExport name.now params has_result) [] body.old) body.old body.new) }
+{
+    let args = pop_operands(alloc, &mut body.stack, params)?;
+    let call = export_call(alloc, name, &args)?;
+    if has_result {
+        body.bind_value(alloc, call)
+    } else {
+        body.ahead(Stmt::Do(call))
+    }
+}
+
+/// The call of an import with these arguments, its answer bound to a local if there is one.
+fn embed(
+    alloc: Global,
+    body: &mut Body,
+    adapter: u32,
+    bound: Option<Text>,
+    global: &Text,
+    fields: &[Text],
+    args: Seq<Expr>,
+) -> Result<(), AllocError>
+    ensures pieces { OnOk result (plain_pieces body.new.pieces ≡ plain_pieces body.old.pieces
+        ++ s.Ahead (t.Inner adapter (plain_exprs args) bound
+        (s.import_line_words bound global.now fields.now (plain_exprs args))) ∷ []) }
+    ensures stack { body.new.stack ≡ body.old.stack }
+    ensures names { body.new.coming ≡ body.old.coming }
+{
+    let words = import_line(alloc, &bound, global, fields, args.as_slice())?;
+    body.ahead(Stmt::Embedded(adapter, args, bound, words))
+}
+
+/// The row of a call of an import.
+pub fn call_import(
+    alloc: Global,
+    body: &mut Body,
+    adapter: u32,
+    params: u32,
+    has_result: bool,
+    global: &Text,
+    fields: &[Text],
+) -> Result<(), AllocError>
+    ensures after { OnOk result (IsAfter (row_of (CallImport adapter params has_result global.now fields.now) []
+        body.old) body.old
+        body.new) }
+{
+    let operands = pop_operands(alloc, &mut body.stack, params)?;
+    let args = to_exprs(alloc, &operands)?;
+    if has_result {
+        let bound = body.temporary(alloc)?;
+        embed(alloc, body, adapter, Some(bound), global, fields, args)?;
+        Ok(())
+    } else {
+        embed(alloc, body, adapter, None, global, fields, args)
+    }
+}

@@ -1,0 +1,62 @@
+//! Operands, as expressions.
+ghost use Rattle.std.specs.Prelude.{◌≡◌, ◌++◌, ◌∷◌, [], IfOk, OnOk, map, pos};
+ghost use Rattle.glue_tree.specs.Plainly.{plain_expr, plain_exprs};
+ghost use Rattle.glue_tree.specs.Term as t;
+ghost use Rattle.glue_tree.specs.declared.tree.BinaryOperator.TheVariants.{ShiftUnsigned};
+ghost use Rattle.glue_binding.specs.Body.{plain_operand};
+ghost use Rattle.glue_binding.specs.Spelling.{term_of, terms};
+
+use glue_tree::{BinaryOperator, Constant, Expr};
+use std::alloc::{AllocError, Global};
+use values::{Boxed, Duplicate, Seq, Text};
+
+/// An operand: a text that takes no step when it is evaluated.
+#[derive(Drop)]
+pub enum Operand {
+    /// Stands for an operand that is lacking.
+    Missing,
+    /// A parameter or a temporary.
+    Local(Text),
+    /// An operand as an unsigned number of 32 bits.
+    Unsigned(Boxed<Operand>),
+}
+
+/// `e >>> 0`
+fn unsigned(alloc: Global, e: Expr) -> Result<Expr, AllocError>
+    ensures { IfOk result (λ v. plain_expr v ≡ t.Two ShiftUnsigned (plain_expr e) (t.Lit (pos 0))) }
+{
+    let e = Boxed::new(alloc, e)?;
+    let zero = Boxed::new(alloc, Expr::Num(0))?;
+    Ok(Expr::Binary(BinaryOperator::ShiftUnsigned, e, zero))
+}
+
+/// The expression of an operand.
+pub fn to_expr(alloc: Global, operand: &Operand) -> Result<Expr, AllocError>
+    ensures { IfOk result (λ e. plain_expr e ≡ term_of (plain_operand operand.now)) }
+{
+    match operand {
+        Operand::Missing => Ok(Expr::Constant(Constant::Null)),
+        Operand::Local(name) => Ok(Expr::Local(name.copy(alloc)?)),
+        Operand::Unsigned(inner) => unsigned(alloc, to_expr(alloc, inner.get())?),
+    }
+}
+
+/// Appends the expression of an operand.
+fn push_operand(alloc: Global, operand: &Operand, exprs: &mut Seq<Expr>) -> Result<(), AllocError>
+    ensures exprs { OnOk result (map plain_expr exprs.new ≡ map plain_expr exprs.old
+        ++ term_of (plain_operand operand.now) ∷ []) }
+{
+    exprs.push(to_expr(alloc, operand)?)?;
+    Ok(())
+}
+
+/// The expressions of operands.
+pub fn to_exprs(alloc: Global, operands: &[Operand]) -> Result<Seq<Expr>, AllocError>
+    ensures exprs { IfOk result (λ exprs. plain_exprs exprs ≡ terms (map plain_operand operands.now)) }
+{
+    let mut exprs = Seq::new(alloc);
+    for operand in operands {
+        push_operand(alloc, operand, &mut exprs)?;
+    }
+    Ok(exprs)
+}

@@ -1,7 +1,0 @@
-use Rattle.std.proofs.Common.{◌≡◌, drop}
-use Rattle.glue_check.specs.Resolving.{steps_of}
-use Rattle.glue_check.proofs.Resolved.{with_front}
-use Rattle.glue_check.proofs.resolving.steps_of.Given as goal
-
-abbrev pub invariant-loop-instruction : goal.invariant-loop-instruction
-invariant-loop-instruction l = with_front l.steps (steps_of l.lowered (drop l.instruction-index l.code)) ≡ steps_of l.lowered l.code

@@ -1,0 +1,4 @@
+pub mod AdapterMeaning
+pub mod Passing
+pub mod Resolving
+pub mod Stack

@@ -1,0 +1,124 @@
+-- The steps of an adapter: its instructions, with what their ids name in the module and the description.
+use Rattle.std.specs.Prelude.{ℕ, ◌==◌, nat_lt, nat_le, ◌^◌, ◌&&◌, Bool, true, false, if◌then◌else◌, is_some, List, [], ◌∷◌, length, Option, Some, None, option_map, option_and_then, slice_get, find}
+use Rattle.std.specs.List.{list_all}
+use Rattle.std.specs.Ordering.{nat_cmp}
+use Rattle.values.specs.Map.{look_up}
+use Rattle.wasm_ops.specs.declared.types.FuncType.{FuncType}
+use Rattle.wasm_ops.specs.declared.types.ValType.{ValType}
+use Rattle.wasm_ops.specs.declared.types.ValType.TheVariants.{I32}
+use Rattle.wasm_core.specs.declared.types.Func.{Func}
+use Rattle.wasm_file.specs.declared.entries.Export.{Export}
+use Rattle.wasm_file.specs.declared.entries.ExportItem.{ExportItem}
+use Rattle.wasm_file.specs.declared.entries.ExportItem.TheVariants as items
+use Rattle.wasm_core.specs.Contents.{Contents}
+use Rattle.glue_shared.specs.declared.adapter.Adapter.{Adapter}
+use Rattle.glue_shared.specs.declared.adapter.AdapterKind.{AdapterKind}
+use Rattle.glue_shared.specs.declared.adapter.AdapterKind.TheVariants as kinds
+use Rattle.glue_shared.specs.declared.adapter.AdapterJsImportKind.TheVariants as calls
+use Rattle.glue_shared.specs.declared.adapter.Instruction.{Instruction}
+use Rattle.glue_shared.specs.declared.adapter.Instruction.TheVariants as instr
+use Rattle.glue_shared.specs.declared.import.AuxImport.{AuxImport}
+use Rattle.glue_shared.specs.declared.import.AuxImport.TheVariants as imports
+use Rattle.glue_shared.specs.declared.import.AuxValue.TheVariants as values
+use Rattle.glue_shared.specs.declared.import.JsImportName.{JsImportName}
+use Rattle.glue_shared.specs.declared.import.JsImportName.TheVariants as names
+use Rattle.glue_shared.specs.declared.description.Lowered.{Lowered}
+use Rattle.glue_steps.specs.declared.step.Step.{Step}
+use Rattle.glue_steps.specs.declared.step.Step.TheVariants as steps
+
+-- the entry at a place, where there is one
+abbrev pub live : {A : Type 0} → Option (Option A) → Option A
+live None = None
+live (Some entry) = entry
+
+abbrev pub entry_at : {A : Type 0} → List (Option A) → ℕ → Option A
+entry_at xs i = live (slice_get xs i)
+
+abbrev pub is_some_item : {A : Type 0} → List A → Bool
+is_some_item [] = false
+is_some_item (x ∷ xs) = true
+
+-- the type of a function
+abbrev pub type_of : Contents → ℕ → Option FuncType
+type_of m func = option_and_then (λ f. entry_at m.types f.ty.0) (entry_at m.funcs func)
+
+-- the type of a function that isn't imported
+abbrev pub own_type_of : Contents → ℕ → Option FuncType
+own_type_of m func = option_and_then (λ (f : Func). if is_some f.«import» then None else entry_at m.types f.ty.0) (entry_at m.funcs func)
+
+abbrev pub is_i32 : ValType → Bool
+is_i32 I32 = true
+is_i32 other = false
+
+-- 32-bit integers are taken, and one or none is given
+abbrev pub is_number_type : FuncType → Bool
+is_number_type ty = (list_all is_i32 ty.params && list_all is_i32 ty.results) && nat_le (length ty.results) 1
+
+-- a count that fits 32 bits
+abbrev pub small : ℕ → Option ℕ
+small n = if nat_lt n (2 ^ 32) then Some n else None
+
+-- the call of a function of a type, over 32-bit integers alone
+abbrev pub typed_call : List ℕ → FuncType → Option Step
+typed_call name ty = if is_number_type ty then option_map (λ n. steps.CallExport name n (is_some_item ty.results)) (small (length ty.params)) else None
+
+-- the call of an export that is a function of the module's own
+abbrev pub call_of : Contents → List ℕ → ExportItem → Option Step
+call_of m name (items.Func func) = option_and_then (typed_call name) (own_type_of m func.0)
+call_of m name (items.Table table) = None
+call_of m name (items.Memory memory) = None
+call_of m name (items.Global global) = None
+call_of m name (items.Tag tag) = None
+
+abbrev pub export_step : Contents → ℕ → Option Step
+export_step m id = option_and_then (λ (e : Export). call_of m e.name e.item) (entry_at m.exports id)
+
+-- the call of a function that the host names
+abbrev pub host_step : ℕ → Adapter → JsImportName → List (List ℕ) → Option Step
+host_step id a (names.Global name) fields = option_map (λ n. steps.CallImport id n (is_some_item a.results) name fields) (small (length a.args))
+host_step id a other fields = None
+
+abbrev pub import_step_of : ℕ → Adapter → AuxImport → Option Step
+import_step_of id a (imports.Value (values.Bare js)) = host_step id a js.name js.fields
+import_step_of id a other = None
+
+-- what the description says of an import adapter
+abbrev pub described_import : List (ℕ × AuxImport) → ℕ → Option AuxImport
+described_import entries id = option_map (λ (e : ℕ × AuxImport). e.1) (find (λ (e : ℕ × AuxImport). e.0 == id) entries)
+
+abbrev pub called_import : Lowered → ℕ → Adapter → AdapterKind → Option Step
+called_import l id a (kinds.Import calls.Normal) = option_and_then (import_step_of id a) (described_import l.aux.imports id)
+called_import l id a other = None
+
+abbrev pub import_step : Lowered → ℕ → Option Step
+import_step l id = option_and_then (λ (a : Adapter). called_import l id a a.kind) (look_up nat_cmp l.wit.adapters id)
+
+-- the step that an instruction is, where it is built
+abbrev pub step_of : Lowered → Instruction → Option Step
+step_of l (instr.ArgGet n) = Some (steps.Parameter n)
+step_of l instr.Int32ToWasm = Some steps.Unchanged
+step_of l (instr.WasmToInt32 false) = Some steps.Unchanged
+step_of l (instr.WasmToInt32 true) = Some steps.ToUnsigned
+step_of l (instr.CallExport id) = export_step l.module id.0
+step_of l (instr.CallAdapter id) = import_step l id
+step_of l instr.TakeIndex = Some steps.TakeIndex
+step_of l instr.IndexFromBorrow = Some steps.IndexFromBorrow
+step_of l instr.UnwrapResult = Some steps.UnwrapResult
+step_of l other = None
+
+abbrev pub with_step : Option Step → Option (List Step) → Option (List Step)
+with_step None rest = None
+with_step (Some step) None = None
+with_step (Some step) (Some rest) = Some (step ∷ rest)
+
+abbrev pub steps_of : Lowered → List Instruction → Option (List Step)
+steps_of l [] = Some []
+steps_of l (instruction ∷ code) = with_step (step_of l instruction) (steps_of l code)
+
+abbrev pub code_steps : Lowered → AdapterKind → Option (List Step)
+code_steps l (kinds.Local code) = steps_of l code
+code_steps l (kinds.Import call) = None
+
+-- the steps of an adapter, where it has code and each of its instructions is built
+abbrev pub adapter_steps : Lowered → ℕ → Option (List Step)
+adapter_steps l id = option_and_then (λ (a : Adapter). code_steps l a.kind) (look_up nat_cmp l.wit.adapters id)

@@ -1,0 +1,241 @@
+//! The steps of an adapter: its instructions, with what their ids name in the module and the description.
+ghost use Rattle.std.specs.Prelude.{◌≡◌, Some, None, IfOk, length};
+ghost use Rattle.std.specs.List.{list_all};
+ghost use Rattle.std.specs.Option.{option_copied};
+ghost use Rattle.glue_steps.specs.Resolving.{small, is_some_item, type_of, own_type_of, is_i32 as i32_test, is_number_type as number_type_test, typed_call as the_typed_call, call_of, export_step as the_export_step, host_step as the_host_step, import_step_of, described_import as the_described_import, called_import as the_called_import, import_step as the_import_step, step_of as the_step_of, steps_of as the_steps_of, code_steps as the_code_steps, adapter_steps as the_adapter_steps};
+
+use crate::step::Step;
+use glue_shared::{
+    Adapter, AdapterId, AdapterJsImportKind, AdapterKind, AuxImport, AuxValue, Instruction,
+    JsImport, JsImportName, Lowered,
+};
+use std::alloc::{AllocError, Global};
+use values::{Duplicate, Seq, Text};
+use wasm_core::{Export, ExportId, ExportItem, FuncId, FuncType, Module, ValType};
+
+// The count, where it fits 32 bits.
+fn fitting(count: usize) -> Option<u32>
+    ensures fits { result ≡ small count }
+{
+    if count < 4_294_967_296 {
+        Some(count as u32)
+    } else {
+        None
+    }
+}
+
+/// The type of a function of the module, where it is there.
+pub fn function_type(module: &Module, func: FuncId) -> Option<&FuncType>
+    ensures found { option_copied result ≡ type_of «module».now func.0 }
+{
+    let entry = module.funcs().get(func.0 as usize)?.as_ref()?;
+    module.types().get(entry.ty.0 as usize)?.as_ref()
+}
+
+// The type of a function that isn't imported.
+fn own_function_type(module: &Module, func: FuncId) -> Option<&FuncType>
+    ensures found { option_copied result ≡ own_type_of «module».now func.0 }
+{
+    let entry = module.funcs().get(func.0 as usize)?.as_ref()?;
+    if entry.import.is_some() {
+        None
+    } else {
+        module.types().get(entry.ty.0 as usize)?.as_ref()
+    }
+}
+
+fn is_i32(ty: ValType) -> bool
+    ensures test { result ≡ i32_test ty }
+{
+    matches!(ty, ValType::I32)
+}
+
+// Whether each of the types is a 32-bit integer.
+fn are_i32(types: &[ValType]) -> bool
+    ensures test { result ≡ list_all i32_test types.now }
+{
+    types.iter().all(|ty| is_i32(*ty))
+}
+
+/// Whether a type takes 32-bit integers, and gives one or none.
+pub fn is_number_type(ty: &FuncType) -> bool
+    ensures test { result ≡ number_type_test ty.now }
+{
+    are_i32(ty.params.as_slice()) && are_i32(ty.results.as_slice()) && ty.results.len() <= 1
+}
+
+// The call of a function of a type over 32-bit integers, by the name of its export.
+fn typed_call(alloc: Global, name: &Text, ty: &FuncType) -> Result<Option<Step>, AllocError>
+    ensures step { IfOk result (λ step. step ≡ the_typed_call name.now ty.now) }
+{
+    if !is_number_type(ty) {
+        return Ok(None);
+    }
+    match fitting(ty.params.len()) {
+        None => Ok(None),
+        Some(params) => Ok(Some(Step::CallExport {
+            name: name.copy(alloc)?,
+            params,
+            has_result: !ty.results.is_empty(),
+        })),
+    }
+}
+
+// The call of an export, where it is a function of the module's own.
+fn export_call(alloc: Global, module: &Module, export: &Export) -> Result<Option<Step>, AllocError>
+    ensures step { IfOk result (λ step. step ≡ call_of «module».now export.now.name export.now.item) }
+{
+    match export.item {
+        ExportItem::Func(func) => match own_function_type(module, func) {
+            None => Ok(None),
+            Some(ty) => typed_call(alloc, &export.name, ty),
+        },
+        _ => Ok(None),
+    }
+}
+
+// The call of the export at a place.
+fn export_step(alloc: Global, module: &Module, id: ExportId) -> Result<Option<Step>, AllocError>
+    ensures step { IfOk result (λ step. step ≡ the_export_step «module».now id.0) }
+{
+    match module.exports().get(id.0 as usize) {
+        Some(Some(export)) => export_call(alloc, module, export),
+        _ => Ok(None),
+    }
+}
+
+// The call of a function that the host names.
+fn host_step(
+    alloc: Global,
+    id: AdapterId,
+    adapter: &Adapter,
+    js: &JsImport,
+) -> Result<Option<Step>, AllocError>
+    ensures step { IfOk result (λ step. step ≡ the_host_step id adapter.now js.now.name js.now.fields) }
+{
+    match &js.name {
+        JsImportName::Global { name } => match fitting(adapter.args.len()) {
+            None => Ok(None),
+            Some(params) => Ok(Some(Step::CallImport {
+                adapter: id.0,
+                params,
+                has_result: !adapter.results.is_empty(),
+                global: name.copy(alloc)?,
+                fields: js.fields.copy(alloc)?,
+            })),
+        },
+        _ => Ok(None),
+    }
+}
+
+// The call of what an import adapter is described as.
+fn described_step(
+    alloc: Global,
+    id: AdapterId,
+    adapter: &Adapter,
+    import: &AuxImport,
+) -> Result<Option<Step>, AllocError>
+    ensures step { IfOk result (λ step. step ≡ import_step_of id adapter.now import.now) }
+{
+    match import {
+        AuxImport::Value(AuxValue::Bare(js)) => host_step(alloc, id, adapter, js),
+        _ => Ok(None),
+    }
+}
+
+// What the description says of an import adapter.
+fn described_import(entries: &[(AdapterId, AuxImport)], id: AdapterId) -> Option<&AuxImport>
+    ensures found { option_copied result ≡ the_described_import entries.now id }
+{
+    entries
+        .iter()
+        .find(|entry| entry.0 == id)
+        .map(|entry| &entry.1)
+}
+
+// The call of an import adapter of this kind.
+fn called_import(
+    alloc: Global,
+    lowered: &Lowered,
+    id: AdapterId,
+    adapter: &Adapter,
+) -> Result<Option<Step>, AllocError>
+    ensures step { IfOk result (λ step. step ≡ the_called_import lowered.now id adapter.now adapter.now.kind) }
+{
+    match adapter.kind {
+        AdapterKind::Import(AdapterJsImportKind::Normal) => match described_import(
+            lowered.aux.imports.as_slice(),
+            id,
+        ) {
+            None => Ok(None),
+            Some(import) => described_step(alloc, id, adapter, import),
+        },
+        _ => Ok(None),
+    }
+}
+
+// The call of an adapter, where it is an import adapter.
+fn import_step(alloc: Global, lowered: &Lowered, id: AdapterId) -> Result<Option<Step>, AllocError>
+    ensures step { IfOk result (λ step. step ≡ the_import_step lowered.now id) }
+{
+    match lowered.wit.adapters.get(&id) {
+        None => Ok(None),
+        Some(adapter) => called_import(alloc, lowered, id, adapter),
+    }
+}
+
+// The step that an instruction is, where it is built.
+fn step_of(
+    alloc: Global,
+    lowered: &Lowered,
+    instruction: &Instruction,
+) -> Result<Option<Step>, AllocError>
+    ensures step { IfOk result (λ step. step ≡ the_step_of lowered.now instruction.now) }
+{
+    match instruction {
+        Instruction::ArgGet(place) => Ok(Some(Step::Parameter(*place))),
+        Instruction::Int32ToWasm | Instruction::WasmToInt32(false) => Ok(Some(Step::Unchanged)),
+        Instruction::WasmToInt32(true) => Ok(Some(Step::ToUnsigned)),
+        Instruction::CallExport(id) => export_step(alloc, &lowered.module, *id),
+        Instruction::CallAdapter(id) => import_step(alloc, lowered, *id),
+        Instruction::TakeIndex => Ok(Some(Step::TakeIndex)),
+        Instruction::IndexFromBorrow => Ok(Some(Step::IndexFromBorrow)),
+        Instruction::UnwrapResult => Ok(Some(Step::UnwrapResult)),
+        _ => Ok(None),
+    }
+}
+
+// The steps of code, where each instruction is built.
+fn steps_of(
+    alloc: Global,
+    lowered: &Lowered,
+    code: &[Instruction],
+) -> Result<Option<Seq<Step>>, AllocError>
+    ensures steps { IfOk result (λ steps. steps ≡ the_steps_of lowered.now code.now) }
+{
+    let mut steps = Seq::new(alloc);
+    for instruction in code {
+        match step_of(alloc, lowered, instruction)? {
+            None => return Ok(None),
+            Some(step) => steps.push(step)?,
+        }
+    }
+    Ok(Some(steps))
+}
+
+/// The steps of an adapter, where it has code and each of its instructions is built.
+pub fn adapter_steps(
+    alloc: Global,
+    lowered: &Lowered,
+    id: AdapterId,
+) -> Result<Option<Seq<Step>>, AllocError>
+    ensures steps { IfOk result (λ steps. steps ≡ the_adapter_steps lowered.now id) }
+{
+    match lowered.wit.adapters.get(&id) {
+        None => Ok(None),
+        Some(adapter) => match &adapter.kind {
+            AdapterKind::Local(code) => steps_of(alloc, lowered, code.as_slice()),
+            AdapterKind::Import(_) => Ok(None),
+        },
+    }
+}

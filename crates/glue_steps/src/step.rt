@@ -1,0 +1,42 @@
+//! The steps of an adapter.
+use values::{Seq, Text};
+
+/// A step of an adapter, with what its ids name.
+#[derive(Drop)]
+pub enum Step {
+    /// Pushes the parameter at this place, counted from 0.
+    Parameter(u32),
+    /// Leaves the newest operand as it is: a 32-bit signed integer between WebAssembly and JavaScript.
+    Unchanged,
+    /// Calls a WebAssembly export with its operands.
+    CallExport {
+        /// The export's name.
+        name: Text,
+        /// How many operands it takes.
+        params: u32,
+        /// Whether it has a result, which is pushed.
+        has_result: bool,
+    },
+    /// Calls an import adapter, which calls a function that the host gives.
+    CallImport {
+        /// The adapter's id.
+        adapter: u32,
+        /// How many operands it takes.
+        params: u32,
+        /// Whether it has a result, which is pushed.
+        has_result: bool,
+        /// The host's name.
+        global: Text,
+        /// The properties that lead from the name to the function.
+        fields: Seq<Text>,
+    },
+    /// Reads the newest operand, a 32-bit integer from WebAssembly, as unsigned.
+    ToUnsigned,
+    /// Takes the object with the newest operand as its handle out of the object table, and pushes it.
+    TakeIndex,
+    /// Lends the newest operand to the object table until the adapter ends, and pushes its handle.
+    IndexFromBorrow,
+    /// Pops a flag and a handle. Where the flag is true, the object with that handle is taken out of the object table
+    /// and thrown.
+    UnwrapResult,
+}
