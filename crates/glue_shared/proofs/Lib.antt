@@ -1,3 +1,4 @@
 mod Grown
+mod Owned
 pub mod Sets
 pub mod Texts

@@ -1,7 +1,7 @@
 -- Names of the outside, names that each glue file may bind, and imports that a glue file defines.
-use Rattle.std.specs.Prelude.{ℕ, zero, suc, ◌+◌, ◌==◌, ◌&&◌, ◌||◌, not, Bool, true, false, List, [], ◌∷◌, ◌++◌, map, codes, if◌then◌else◌, Option, Some, None, bytes_eq, is_some}
+use Rattle.std.specs.Prelude.{ℕ, zero, suc, ◌+◌, ◌==◌, ◌&&◌, ◌||◌, not, Bool, true, false, List, [], ◌∷◌, ◌++◌, map, codes, if◌then◌else◌, Option, Some, None, option_map, bytes_eq, is_some}
 use Rattle.std.specs.Fmt.{decimal}
-use Rattle.std.specs.List.{list_any, list_all, flat_map, filter, count_by}
+use Rattle.std.specs.List.{list_any, list_all, flat_map, find, count_by}
 use Rattle.std.specs.Ordering.{nat_cmp}
 use Rattle.values.specs.Map.{look_up}
 use Rattle.wasm_ops.specs.declared.ids.ImportId.{ImportId}
@@ -156,19 +156,37 @@ fixed_names settings m =
     ++ (import_names (live_count m.imports)
     ++ global_names settings.target))
 
+-- ---- fixed public names
+
 -- names that the texts of a target publish
 abbrev pub published_names : Target → List (List ℕ)
 published_names (target.Bundler browser_only) = codes "__wbg_set_wasm" ∷ []
 published_names target.Web = codes "initSync" ∷ codes "default" ∷ []
-published_names (target.NoModules global) = codes "initSync" ∷ codes "name" ∷ codes "length" ∷ codes "arguments" ∷ codes "caller" ∷ []
+published_names (target.NoModules global) = codes "initSync" ∷ []
 published_names (target.Node es_module) = []
 published_names target.Deno = []
 published_names target.Module = []
 published_names target.Emscripten = []
 
+-- names that what a target publishes has already: on no-modules it is a function
+abbrev pub standing_names : Target → List (List ℕ)
+standing_names (target.Bundler browser_only) = []
+standing_names target.Web = []
+standing_names (target.NoModules global) =
+    codes "name" ∷ codes "length" ∷ codes "arguments" ∷ codes "caller" ∷ codes "constructor" ∷ []
+standing_names (target.Node es_module) = []
+standing_names target.Deno = []
+standing_names target.Module = []
+standing_names target.Emscripten = []
+
+-- `__wasm`, where it is asked for
+abbrev pub wasm_names : Settings → List (List ℕ)
+wasm_names settings = if settings.debug || settings.export_wasm then codes "__wasm" ∷ [] else []
+
 -- names that no public item may have, beside a bundler's imports
 unfoldable pub fixed_public_names : Settings → List (List ℕ)
-fixed_public_names settings = published_names settings.target ++ (if settings.debug || settings.export_wasm then codes "__wasm" ∷ [] else [])
+fixed_public_names settings =
+    published_names settings.target ++ (standing_names settings.target ++ wasm_names settings)
 
 -- ---- imports that the glue file defines
 
@@ -209,8 +227,7 @@ is_whole_name _ = false
 
 -- the first entry with this id
 abbrev pub entry_of : {A : Type 0} → ℕ → List (ℕ × A) → Option A
-entry_of id [] = None
-entry_of id (e ∷ es) = if e.0 == id then Some e.1 else entry_of id es
+entry_of id es = option_map (λ e. e.1) (find (λ e. e.0 == id) es)
 
 -- the adapter with this id, if it is a call of the kind `Normal`
 abbrev pub is_normal_call : Option Adapter → Bool
@@ -260,41 +277,75 @@ is_direct settings wit aux adapter =
     && (not aux.legacy_exception_handling
     && is_direct_callee wit aux (plain_call 0 (code_of (look_up nat_cmp wit.adapters adapter)))))
 
--- the adapters that define the import at a place
-abbrev pub implementers : NonstandardWitSection → ℕ → List ℕ
-implementers wit place = map (λ pair. pair.1) (filter (λ pair. pair.0.0 == place) wit.implements)
+-- an adapter defines the import at a place
+abbrev pub is_implemented : NonstandardWitSection → ℕ → Bool
+is_implemented wit place = list_any (λ pair. pair.0.0 == place) wit.implements
 
--- the first memory, if it is imported by the import at this place
-abbrev pub is_first_memory : Contents → ℕ → Bool
-is_first_memory m place = imports_at (first m.memories)
-  where
-    first : List (Option Memory) → Option Memory
-    first [] = None
-    first (None ∷ entries) = first entries
-    first (Some memory ∷ entries) = Some memory
+-- the described name itself can be the import at a place, since an adapter that defines it only hands on
+abbrev pub is_handed_on : Settings → NonstandardWitSection → WasmBindgenAux → ℕ → Bool
+is_handed_on settings wit aux place = list_any (λ pair. pair.0.0 == place && is_direct settings wit aux pair.1) wit.implements
 
-    holds : Option ImportId → Bool
-    holds None = false
-    holds (Some id) = id.0 == place
+-- the place is the one that is named
+abbrev pub is_place : ℕ → Option ImportId → Bool
+is_place place None = false
+is_place place (Some id) = id.0 == place
 
-    imports_at : Option Memory → Bool
-    imports_at None = false
-    imports_at (Some memory) = holds memory.import
+-- the import at a place brings in the memory
+abbrev pub is_imported_at : ℕ → Memory → Bool
+is_imported_at place memory = is_place place memory.import
+
+-- the import at a place brings in the first memory
+abbrev pub is_first_of : ℕ → List (Option Memory) → Bool
+is_first_of place [] = false
+is_first_of place (None ∷ entries) = is_first_of place entries
+is_first_of place (Some memory ∷ entries) = is_imported_at place memory
 
 -- the glue file defines the import
 abbrev pub is_own : Settings → Contents → NonstandardWitSection → WasmBindgenAux → ℕ → Import → Bool
 is_own settings m wit aux place import =
     (bytes_eq import.«module» (codes "__wbindgen_placeholder__")
-    || (not (is_none (implementers wit place))
-    || (not (is_emscripten settings.target) && is_first_memory m place)))
-    && not (list_any (is_direct settings wit aux) (implementers wit place))
+    || (is_implemented wit place
+    || (not (is_emscripten settings.target) && is_first_of place m.memories)))
+    && not (is_handed_on settings wit aux place)
+
+-- the place of an import that passes the test
+abbrev pub own_place : (ℕ → Import → Bool) → ℕ → Option Import → List ℕ
+own_place own place None = []
+own_place own place (Some import) = if own place import then place ∷ [] else []
 
 -- the places, from this one on, of the imports that pass the test
 abbrev pub own_places : (ℕ → Import → Bool) → ℕ → List (Option Import) → List ℕ
 own_places own place [] = []
-own_places own place (None ∷ imports) = own_places own (place + 1) imports
-own_places own place (Some import ∷ imports) = if own place import then place ∷ own_places own (place + 1) imports else own_places own (place + 1) imports
+own_places own place (import ∷ imports) = own_place own place import ++ own_places own (place + 1) imports
 
 -- the places of the imports that the glue file defines
 unfoldable pub own_imports : Settings → Contents → NonstandardWitSection → WasmBindgenAux → List ℕ
 own_imports settings m wit aux = own_places (is_own settings m wit aux) 0 m.imports
+
+-- the name of the import at a place, if one stands there
+abbrev pub name_at : ℕ → List (Option Import) → List (List ℕ)
+name_at place [] = []
+name_at zero (None ∷ imports) = []
+name_at zero (Some import ∷ imports) = import.name ∷ []
+name_at (suc place) (entry ∷ imports) = name_at place imports
+
+-- the names of the imports that the glue file defines
+unfoldable pub own_names : Settings → Contents → NonstandardWitSection → WasmBindgenAux → List (List ℕ)
+own_names settings m wit aux = flat_map (λ place. name_at place m.imports) (own_imports settings m wit aux)
+
+-- names that a target's items publish beside those of its texts: on the bundler those of own imports, since `__wasm`
+-- stands in the entry there
+abbrev pub further_names : Target → (own wasm : List (List ℕ)) → List (List ℕ)
+further_names (target.Bundler browser_only) own wasm = own
+further_names target.Web own wasm = wasm
+further_names (target.NoModules global) own wasm = wasm
+further_names (target.Node es_module) own wasm = wasm
+further_names target.Deno own wasm = wasm
+further_names target.Module own wasm = wasm
+further_names target.Emscripten own wasm = wasm
+
+-- names that items publish beside the public tree
+abbrev pub fixed_public : Settings → Contents → NonstandardWitSection → WasmBindgenAux → List (List ℕ)
+fixed_public settings m wit aux =
+    published_names settings.target
+    ++ further_names settings.target (own_names settings m wit aux) (wasm_names settings)

@@ -2,8 +2,8 @@
 use Rattle.std.specs.Prelude.{ℕ, nat_eq, Bool, true, false, not, List, [], ◌∷◌, ◌++◌, map, filter, codes}
 use Rattle.std.specs.List.{flat_map, list_any}
 use Rattle.std.specs.Cmp.Lexicographic.{pointwise}
-use Rattle.glue_scope.specs.declared.item.Thing.{Thing}
-use Rattle.glue_scope.specs.declared.item.Thing.TheVariants as thing
+use Rattle.glue_words.specs.declared.item.Thing.{Thing}
+use Rattle.glue_words.specs.declared.item.Thing.TheVariants as thing
 use Rattle.glue_shared.specs.declared.aux.AuxExport.{AuxExport}
 use Rattle.glue_shared.specs.declared.aux.AuxExportKind.{AuxExportKind}
 use Rattle.glue_shared.specs.declared.aux.AuxExportKind.TheVariants as kinds

@@ -3,7 +3,7 @@
 //! A description says by adapters how values pass between JavaScript and WebAssembly. Contracts see each of these
 //! types by its fields, with texts as their UTF-8 bytes and lists as lists.
 //!
-//! Stands on `wasm_core` and `glue_scope`.
+//! Stands on `wasm_core` and `glue_words`.
 #![tactic(auto)]
 
 mod adapter;
@@ -13,6 +13,7 @@ mod import;
 mod kept;
 mod name_tests;
 mod names;
+mod own;
 mod settings;
 
 pub use adapter::{
@@ -28,4 +29,5 @@ pub use import::{AuxImport, AuxValue, Intrinsic, JsImport, JsImportName};
 pub use kept::roots;
 pub use name_tests::{is_fixed_name, is_host_name, live_count};
 pub use names::{EMSCRIPTEN_HOSTS, HELPER_NAMES, HOSTS, MEMORY_NAMES, TABLE_NAMES, TARGET_NAMES};
+pub use own::own_imports;
 pub use settings::{EncodeInto, Settings, Target};

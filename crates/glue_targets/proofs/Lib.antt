@@ -1,2 +1,2 @@
-pub mod FixedItems
-pub mod FixedNames
+pub mod FixedTexts
+pub mod RefusedItems

@@ -1,26 +1,26 @@
 -- The words of items that publish or place what other items declare, and those of fixed texts.
-use Rattle.std.specs.Prelude.{ℕ, nat_eq, Bool, true, false, List, [], ◌∷◌, ◌++◌, map, codes, Option, Some, None, if◌then◌else◌}
+use Rattle.std.specs.Prelude.{ℕ, nat_eq, Bool, true, false, List, [], ◌∷◌, ◌++◌, map, filter, codes}
+use Rattle.std.specs.Prelude.{Option, Some, None, if◌then◌else◌}
 use Rattle.std.specs.List.{flat_map}
 use Rattle.std.specs.Cmp.Lexicographic.{pointwise}
-use Rattle.glue_scope.specs.declared.word.Word.{Word}
-use Rattle.glue_scope.specs.declared.word.Word.TheVariants as w
-use Rattle.glue_scope.specs.declared.item.Role.{Role}
-use Rattle.glue_scope.specs.declared.item.Role.TheVariants as role
-use Rattle.glue_scope.specs.declared.item.Item.{Item}
-use Rattle.glue_scope.specs.Ident.{is_ident}
-use Rattle.glue_scope.specs.Names.{bound_in}
+use Rattle.glue_words.specs.declared.word.Word.{Word}
+use Rattle.glue_words.specs.declared.word.Word.TheVariants as w
+use Rattle.glue_words.specs.declared.punct.TheConstants as punct
+use Rattle.glue_words.specs.declared.key.TheConstants as key
+use Rattle.glue_words.specs.declared.item.Thing.{Thing}
+use Rattle.glue_words.specs.declared.item.Thing.TheVariants as thing
+use Rattle.glue_words.specs.declared.item.Role.{Role}
+use Rattle.glue_words.specs.declared.item.Role.TheVariants as role
+use Rattle.glue_words.specs.declared.item.Item.{Item}
+use Rattle.glue_words.specs.Ident.{is_ident}
+use Rattle.glue_words.specs.Names.{bound_in}
+use Rattle.glue_words.specs.Words.{space, line_feed}
 use Rattle.glue_shared.specs.declared.settings.Target.{Target}
 use Rattle.glue_shared.specs.declared.settings.Target.TheVariants as target
 use Rattle.glue_shared.specs.declared.settings.Settings.{Settings}
 use Rattle.glue_shared.specs.PublicTree.{Path}
-use Rattle.glue_targets.specs.Targets.{frame_start, frame_end, loading_item}
+use Rattle.glue_targets.specs.Targets.{frame_texts, loading_texts}
 use Rattle.glue_targets.specs.Published.{is_exported}
-
-abbrev pub space : Word
-space = w.Gap (codes " ")
-
-abbrev pub line_feed : Word
-line_feed = w.Gap (10 ∷ [])
 
 -- whether the glue file of the target is an ES module
 abbrev pub is_es_module : Target → Bool
@@ -32,82 +32,130 @@ is_es_module target.Deno = true
 is_es_module target.Module = true
 is_es_module target.Emscripten = false
 
+-- a name that an item binds, evaluated with the item or later
+abbrev pub refers : List ℕ → List Word
+refers name = w.Refer name false ∷ w.Refer name true ∷ []
+
+-- the same of a name of the host
+abbrev pub hosts : List ℕ → List Word
+hosts name = w.Host name false ∷ w.Host name true ∷ []
+
 -- `.name`, or `["name"]` where the name is no identifier
 abbrev pub access_words : List ℕ → List Word
-access_words name = if is_ident name then w.Punct 6 ∷ w.Prop name ∷ [] else w.Punct 4 ∷ w.Text name ∷ w.Punct 5 ∷ []
+access_words name =
+    if is_ident name then w.Punct punct.DOT ∷ w.Prop name ∷ []
+    else w.Punct punct.OPEN_BRACKET ∷ w.Text name ∷ w.Punct punct.CLOSE_BRACKET ∷ []
 
--- `export { name as public };`, or `exports.public = name;` where `exports` is the host's object
-abbrev pub publish_words : Bool → Word → List ℕ → List Word
-publish_words true name public =
-    w.Key 12 ∷ space ∷ w.Punct 0 ∷ space ∷ name ∷ space ∷ w.Key 1 ∷ space ∷ w.Outer public ∷ space ∷ w.Punct 1 ∷ w.Punct 8 ∷ line_feed ∷ []
-publish_words false name public =
-    w.Host (codes "exports") true ∷ access_words public ++ space ∷ w.Punct 14 ∷ space ∷ name ∷ w.Punct 8 ∷ line_feed ∷ []
+-- the end of a statement
+abbrev pub statement_end : List Word
+statement_end = w.Punct punct.SEMICOLON ∷ line_feed ∷ []
 
--- a name that an export clause lists isn't evaluated, one that is assigned is
-abbrev pub published_name_words : Bool → List ℕ → List Word
-published_name_words true name = w.Refer name false ∷ w.Host name false ∷ []
-published_name_words false name = w.Refer name true ∷ w.Host name true ∷ []
+-- `{}`
+abbrev pub empty_object : List Word
+empty_object = w.Punct punct.OPEN_BRACE ∷ w.Punct punct.CLOSE_BRACE ∷ []
+
+-- what is assigned, by `=` or `||=`
+abbrev pub assigned_words : ℕ → List Word → List Word
+assigned_words operator value = space ∷ w.Punct operator ∷ space ∷ value ++ statement_end
+
+-- `export { name as public };`
+abbrev pub clause_words : List ℕ → Word → List Word
+clause_words public name =
+    w.Key key.EXPORT ∷ space ∷ w.Punct punct.OPEN_BRACE ∷ space ∷ name ∷ space ∷ w.Key key.AS ∷ space ∷ w.Outer public
+    ∷ space ∷ w.Punct punct.CLOSE_BRACE ∷ statement_end
+
+-- `exports.public = name;`, where `exports` is this word
+abbrev pub exports_words : List ℕ → Word → Word → List Word
+exports_words public name exports = exports ∷ access_words public ++ assigned_words punct.ASSIGN (name ∷ [])
+
+-- The texts that publish a name: a clause in an ES module, else an assignment to the host's `exports`. The name is one
+-- that an item binds, or the host's.
+abbrev pub publish_texts : Bool → List ℕ → List ℕ → List (List Word)
+publish_texts true public name = map (clause_words public) (refers name ++ hosts name)
+publish_texts false public name =
+    flat_map (λ word. map (exports_words public word) (hosts (codes "exports"))) (refers name ++ hosts name)
 
 abbrev pub export_first : Bool → List Word
-export_first true = w.Key 12 ∷ space ∷ []
+export_first true = w.Key key.EXPORT ∷ space ∷ []
 export_first false = []
 
 -- `const name = {};`
 abbrev pub root_words : Bool → List ℕ → List Word
-root_words exported name = export_first exported ++ w.Key 8 ∷ space ∷ w.Bind name ∷ space ∷ w.Punct 14 ∷ space ∷ w.Punct 0 ∷ w.Punct 1 ∷ w.Punct 8 ∷ line_feed ∷ []
+root_words exported name =
+    export_first exported ++ w.Key key.CONST ∷ space ∷ w.Bind name ∷ assigned_words punct.ASSIGN empty_object
 
--- a root's name and the accesses of the segments after the first
-abbrev pub chain_words : List ℕ → Path → List Word
-chain_words root [] = []
-chain_words root (first ∷ path) = w.Refer root true ∷ flat_map access_words path
+-- the accesses of the segments after the first
+abbrev pub access_chain : Path → List Word
+access_chain [] = []
+access_chain (first ∷ path) = flat_map access_words path
 
--- `root.path = {};`, with `||=` where the root may be there already
-abbrev pub inner_words : List ℕ → ℕ → Path → List Word
-inner_words root operator path = chain_words root path ++ space ∷ w.Punct operator ∷ space ∷ w.Punct 0 ∷ w.Punct 1 ∷ w.Punct 8 ∷ line_feed ∷ []
+-- `root.path = {};`, with `||=` where the root may hold it already
+abbrev pub inner_words : ℕ → Path → Word → List Word
+inner_words operator path root = root ∷ access_chain path ++ assigned_words operator empty_object
 
 -- `root.path = name;`
-abbrev pub assign_words : List ℕ → Path → List ℕ → List Word
-assign_words root path name = chain_words root path ++ space ∷ w.Punct 14 ∷ space ∷ w.Refer name true ∷ w.Punct 8 ∷ line_feed ∷ []
+abbrev pub assign_words : Path → Word → Word → List Word
+assign_words path name root = root ∷ access_chain path ++ assigned_words punct.ASSIGN (name ∷ [])
 
--- the name that a publishing item gives to a path of one segment
-abbrev pub published_as : List ℕ → Role → List (List ℕ)
-published_as segment (role.Publish (p ∷ []) t name) = if pointwise nat_eq p segment then name ∷ [] else []
-published_as segment role = []
+-- ---- the root of a path
 
--- the names under which the root of a path is published
-abbrev pub roots_at : List ℕ → List Item → List (List ℕ)
-roots_at segment items = flat_map (λ (item : Item).
-    flat_map (λ name. if pointwise nat_eq name segment then name ∷ [] else []) (if is_exported item then bound_in item.words else [])
-    ++ published_as segment item.role) items
+-- a name under which something is published, and the thing
+abbrev pub Root : Type 0
+Root = List ℕ × Thing
 
-abbrev pub roots_of : Path → List Item → List (List ℕ)
-roots_of [] items = []
-roots_of (segment ∷ path) items = roots_at segment items
+-- an import isn't made by the glue file, and may hold a namespace already
+abbrev pub is_imported : Thing → Bool
+is_imported (thing.Imported name) = true
+is_imported t = false
 
--- the texts of the frame on a target
-abbrev pub frame_texts : Target → List ℕ → List (List Word)
-frame_texts target.Deno stem = (frame_start stem).words ∷ (frame_end stem).words ∷ []
-frame_texts t stem = []
+abbrev pub inner_operator : Thing → ℕ
+inner_operator t = if is_imported t then punct.OR_ASSIGN else punct.ASSIGN
 
--- the text of loading on a target, where no start function was moved
-abbrev pub loading_texts : Target → List ℕ → Bool → List (List Word)
-loading_texts target.Deno stem false = (loading_item stem).words ∷ []
-loading_texts t stem has_start = []
+-- what an item of a role publishes under this name at the top level, where it is exported or not and binds these names
+abbrev pub roots_by : List ℕ → Role → Bool → List (List ℕ) → List Root
+roots_by segment (role.Declare t) true names = map (λ name. (name, t)) (filter (pointwise nat_eq segment) names)
+roots_by segment (role.Namespace (p ∷ [])) true names =
+    map (λ name. (name, thing.Group (p ∷ []))) (filter (pointwise nat_eq segment) names)
+roots_by segment (role.Publish (p ∷ []) t name) exported names =
+    if pointwise nat_eq p segment then (name, t) ∷ [] else []
+roots_by segment role exported names = []
+
+-- what items publish under this name at the top level
+abbrev pub roots_of : List ℕ → List Item → List Root
+roots_of segment items =
+    flat_map (λ (item : Item). roots_by segment item.role (is_exported item) (bound_in item.words)) items
+
+-- ---- the texts of a role
+
+-- the texts of an inner namespace, at each root that its path may begin with
+abbrev pub inner_texts : Path → List Root → List (List Word)
+inner_texts path roots =
+    flat_map (λ (root : Root). map (inner_words (inner_operator root.1) path) (refers root.0)) roots
+
+-- the texts that place a name at a path, at each root that the path may begin with
+abbrev pub assign_texts : Path → List ℕ → List Root → List (List Word)
+assign_texts path name roots =
+    flat_map (λ (root : Root). flat_map (λ word. map (assign_words path word) (refers root.0)) (refers name)) roots
 
 -- the texts that an item of a role may have, where the role asks for one
 abbrev pub role_words : Settings → Bool → List Item → Role → List (List ℕ) → Option (List (List Word))
-role_words settings has_start items (role.Publish (p ∷ []) t name) bound =
-    Some (map (λ word. publish_words (is_es_module settings.target) word p) (published_name_words (is_es_module settings.target) name))
 role_words settings has_start items (role.Publish [] t name) bound = Some []
+role_words settings has_start items (role.Publish (p ∷ []) t name) bound =
+    Some (publish_texts (is_es_module settings.target) p name)
 role_words settings has_start items (role.Publish (p ∷ next ∷ path) t name) bound = Some []
 role_words settings has_start items (role.Namespace []) bound = Some []
 role_words settings has_start items (role.Namespace (p ∷ [])) bound =
     Some (map (λ name. root_words (if pointwise nat_eq name p then is_es_module settings.target else false) name) bound)
 role_words settings has_start items (role.Namespace (p ∷ next ∷ path)) bound =
-    Some (flat_map (λ root. inner_words root 14 (p ∷ next ∷ path) ∷ inner_words root 44 (p ∷ next ∷ path) ∷ []) (roots_at p items))
-role_words settings has_start items (role.Assign path t name) bound = Some (map (λ root. assign_words root path name) (roots_of path items))
-role_words settings has_start items role.Fixed bound = Some (frame_texts settings.target settings.stem)
-role_words settings has_start items role.Loading bound = Some (loading_texts settings.target settings.stem has_start)
+    Some (inner_texts (p ∷ next ∷ path) (roots_of p items))
+role_words settings has_start items (role.Assign [] t name) bound = Some []
+role_words settings has_start items (role.Assign (p ∷ []) t name) bound = Some []
+role_words settings has_start items (role.Assign (p ∷ next ∷ path) t name) bound =
+    Some (assign_texts (p ∷ next ∷ path) name (roots_of p items))
+role_words settings has_start items role.Fixed bound =
+    Some (map (λ text. text.words) (frame_texts settings.target settings.stem))
+role_words settings has_start items role.Loading bound =
+    Some (map (λ text. text.words) (loading_texts settings.target settings.stem has_start))
 role_words settings has_start items role.Import bound = None
 role_words settings has_start items (role.Foreign number) bound = None
 role_words settings has_start items (role.Define place) bound = None

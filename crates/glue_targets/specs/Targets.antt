@@ -1,38 +1,57 @@
 -- The texts of a target that are the same in every call, but for the names of files.
-use Rattle.std.specs.Prelude.{ℕ, List, [], ◌++◌, map, codes, true, false}
-use Rattle.glue_scope.specs.declared.word.Word.{Word}
-use Rattle.glue_scope.specs.declared.word.Word.TheVariants as w
-use Rattle.glue_scope.specs.declared.item.Item.{Item}
-use Rattle.glue_scope.specs.declared.item.Role.TheVariants.{Fixed, Loading}
-use Rattle.glue_targets.specs.declared.targets.Kind.{Kind}
-use Rattle.glue_targets.specs.declared.targets.Kind.TheVariants as kind
-use Rattle.glue_targets.specs.declared.targets.TheConstants.{FRAME_START, FRAME_END, LOADING}
+use Rattle.std.specs.Prelude.{ℕ, Bool, false, List, [], ◌∷◌, ◌++◌, codes}
+use Rattle.glue_words.specs.declared.word.Word.{Word}
+use Rattle.glue_words.specs.declared.item.Item.{Item}
+use Rattle.glue_words.specs.declared.item.Role.TheVariants.{Fixed, Loading}
+use Rattle.glue_words.specs.Reads.{words_in}
+use Rattle.glue_words.specs.StandIns.{Names, name_for, renamed}
+use Rattle.glue_shared.specs.declared.settings.Target.{Target}
+use Rattle.glue_shared.specs.declared.settings.Target.TheVariants as target
+use Rattle.glue_targets.specs.declared.deno.TheConstants as deno
 
 -- the stem between two texts
 abbrev pub file_name : List ℕ → List ℕ → List ℕ → List ℕ
 file_name before stem after = before ++ stem ++ after
 
--- the word of a piece for a stem
-abbrev pub kind_word : List ℕ → Kind → ℕ → List ℕ → Word
-kind_word stem kind.Punct place text = w.Punct place
-kind_word stem kind.Key place text = w.Key place
-kind_word stem kind.Gap place text = w.Gap text
-kind_word stem kind.Bind place text = w.Bind text
-kind_word stem kind.Refer place text = w.Refer text false
-kind_word stem kind.ReferNow place text = w.Refer text true
-kind_word stem kind.HostNow place text = w.Host text true
-kind_word stem kind.Prop place text = w.Prop text
-kind_word stem kind.File place text = w.Text (file_name [] stem text)
-kind_word stem kind.Beside place text = w.Text (file_name (codes "./") stem text)
+-- the names of files for their stand-ins: the module that own imports come from, and the WebAssembly file
+abbrev pub file_names : List ℕ → Names
+file_names stem =
+    (codes "$module", file_name (codes "./") stem (codes "_bg.js"))
+    ∷ (codes "$file", file_name [] stem (codes "_bg.wasm")) ∷ []
+
+-- the words of a text for a stem
+abbrev pub fixed_words : List ℕ → List ℕ → List Word
+fixed_words stem text = renamed (name_for []) (name_for (file_names stem)) (words_in text)
 
 -- the frame up to the first member
 abbrev pub frame_start : List ℕ → Item
-frame_start stem = record { role = Fixed; words = map (λ piece. kind_word stem piece.0 piece.1 piece.2.now) FRAME_START }
+frame_start stem = record { role = Fixed; words = fixed_words stem deno.FRAME_START.now }
 
 -- the frame from the end of the members on
 abbrev pub frame_end : List ℕ → Item
-frame_end stem = record { role = Fixed; words = map (λ piece. kind_word stem piece.0 piece.1 piece.2.now) FRAME_END }
+frame_end stem = record { role = Fixed; words = fixed_words stem deno.FRAME_END.now }
 
 -- loading
 abbrev pub loading_item : List ℕ → Item
-loading_item stem = record { role = Loading; words = map (λ piece. kind_word stem piece.0 piece.1 piece.2.now) LOADING }
+loading_item stem = record { role = Loading; words = fixed_words stem deno.LOADING.now }
+
+-- ---- the texts of each target
+
+-- a fixed text, and the names that it publishes otherwise than by an export clause
+pub record FixedText : Type 0 where
+  pub words : List Word
+  pub assigns : List (List ℕ)
+
+-- a text that publishes nothing in such a way
+abbrev pub plain_text : Item → FixedText
+plain_text item = record { words = item.words; assigns = [] }
+
+-- the texts of the frame on a target
+abbrev pub frame_texts : Target → List ℕ → List FixedText
+frame_texts target.Deno stem = plain_text (frame_start stem) ∷ plain_text (frame_end stem) ∷ []
+frame_texts t stem = []
+
+-- the texts of loading on a target, for whether a start function was moved
+abbrev pub loading_texts : Target → List ℕ → Bool → List FixedText
+loading_texts target.Deno stem false = plain_text (loading_item stem) ∷ []
+loading_texts t stem has_start = []

@@ -1,13 +1,15 @@
 //! The texts of a target that are the same in every call, but for the names of files.
 //!
-//! `frame_items` puts the frame round the definitions of imports, and `loading_item` is the item that loads the module. Promised: the
-//! words are those of the definitions in `specs/Targets.antt`. `specs/RoleWords.antt` says which words an item of each role may have
-//! on a target, and `specs/Published.antt` what items publish. The proofs show what the fixed texts declare, use and publish, and that
-//! they are read again as what they are.
+//! `frame_start` and `frame_end` are the items round the definitions of imports, and `loading_item` is the item that loads
+//! the module. Promised: they are those of the definitions in `specs/Targets.antt`. `specs/RoleWords.antt` says which words
+//! an item of each role may have on a target, and `specs/Published.antt` what items publish. The proofs show what the fixed
+//! texts declare, use and publish, that they fit where the names that they use are known (`proofs/FixedTexts.antt`), and
+//! which items are refused beside which are right (`proofs/RefusedItems.antt`).
 //!
-//! Stands on `glue_scope` and `glue_shared`.
+//! Stands on `glue_words` and `glue_shared`.
 #![tactic(auto)]
 
+pub mod deno;
 mod targets;
 
-pub use targets::{FRAME_END, FRAME_START, Kind, LOADING, Piece, frame_items, loading_item};
+pub use targets::{frame_end, frame_start, loading_item};

@@ -1,0 +1,166 @@
+-- What the fixed texts of Deno hold and publish, and where they fit, whatever the stem is.
+use Rattle.std.proofs.Common.{◌≡◌, ℕ, inl, inr, List, [], ◌∷◌, ◌++◌, refl, true, false, ap, subst}
+use Rattle.std.specs.Prelude.{codes, is_ok}
+use Rattle.values.specs.Lists.{IsIn}
+use Rattle.glue_words.specs.declared.item.Item.{Item}
+use Rattle.glue_words.specs.declared.item.Role.{Role}
+use Rattle.glue_words.specs.declared.item.Role.TheVariants as role
+use Rattle.glue_words.specs.Facts.{facts}
+use Rattle.glue_words.specs.Fitting.{Context, Fits}
+use Rattle.glue_words.specs.Linking.{AreAmong}
+use Rattle.glue_words.specs.Marked.{read_marked}
+use Rattle.glue_words.specs.Names.{bound_in, used_in, hosted_in}
+use Rattle.glue_words.specs.Reads.{words_in}
+use Rattle.glue_words.proofs.Reading.{reading}
+use Rattle.glue_words.proofs.StandIns.{renamed_text_fits}
+use Rattle.glue_shared.specs.declared.settings.Settings.{Settings}
+use Rattle.glue_shared.specs.declared.settings.Target.{Target}
+use Rattle.glue_shared.specs.declared.settings.Target.TheVariants as target
+use Rattle.glue_targets.specs.declared.deno.TheConstants as deno
+use Rattle.glue_targets.specs.Published.{is_exported, published_by, fixed_by, texts_of, IsAssigned}
+use Rattle.glue_targets.specs.Targets.{FixedText, file_names, frame_start, frame_end, loading_item, frame_texts}
+use Rattle.glue_targets.specs.Targets.{loading_texts}
+
+-- ---- the texts are read
+
+pub start_reads : is_ok (read_marked deno.FRAME_START.now) ≡ true
+unfolding reading
+start_reads = refl
+
+pub end_reads : is_ok (read_marked deno.FRAME_END.now) ≡ true
+unfolding reading
+end_reads = refl
+
+pub loading_reads : is_ok (read_marked deno.LOADING.now) ≡ true
+unfolding reading
+loading_reads = refl
+
+-- ---- the names that they declare and use
+
+module _ (stem : List ℕ) where
+  pub start_bound : bound_in (frame_start stem).words ≡ codes "__wbg_get_imports" ∷ codes "import0" ∷ []
+  unfolding reading
+  start_bound = refl
+
+  pub start_used : used_in (frame_start stem).words ≡ []
+  unfolding reading
+  start_used = refl
+
+  pub start_hosted : hosted_in (frame_start stem).words ≡ []
+  unfolding reading
+  start_hosted = refl
+
+  pub end_bound : bound_in (frame_end stem).words ≡ []
+  unfolding reading
+  end_bound = refl
+
+  pub end_used : used_in (frame_end stem).words ≡ codes "import0" ∷ []
+  unfolding reading
+  end_used = refl
+
+  pub end_hosted : hosted_in (frame_end stem).words ≡ []
+  unfolding reading
+  end_hosted = refl
+
+  pub loading_bound : bound_in (loading_item stem).words
+      ≡ codes "wasmUrl" ∷ codes "wasmInstantiated" ∷ codes "wasmInstance" ∷ codes "wasm" ∷ []
+  unfolding reading
+  loading_bound = refl
+
+  pub loading_used : used_in (loading_item stem).words
+      ≡ codes "wasmUrl" ∷ codes "__wbg_get_imports" ∷ codes "wasmInstantiated" ∷ codes "wasmInstance" ∷ []
+  unfolding reading
+  loading_used = refl
+
+  pub loading_hosted : hosted_in (loading_item stem).words ≡ codes "URL" ∷ codes "WebAssembly" ∷ codes "fetch" ∷ []
+  unfolding reading
+  loading_hosted = refl
+
+-- ---- they publish nothing
+
+module _ (stem : List ℕ) where
+  pub start_exported : is_exported (frame_start stem) ≡ false
+  unfolding reading
+  start_exported = refl
+
+  pub start_publishes : published_by (frame_start stem) ≡ []
+  start_publishes = refl
+
+  pub start_fixed : fixed_by (frame_start stem) ≡ []
+  unfolding reading
+  start_fixed = refl
+
+  pub end_exported : is_exported (frame_end stem) ≡ false
+  unfolding reading
+  end_exported = refl
+
+  pub end_publishes : published_by (frame_end stem) ≡ []
+  end_publishes = refl
+
+  pub end_fixed : fixed_by (frame_end stem) ≡ []
+  unfolding reading
+  end_fixed = refl
+
+  pub loading_exported : is_exported (loading_item stem) ≡ false
+  unfolding reading
+  loading_exported = refl
+
+  pub loading_publishes : published_by (loading_item stem) ≡ []
+  loading_publishes = refl
+
+  pub loading_fixed : fixed_by (loading_item stem) ≡ []
+  unfolding reading
+  loading_fixed = refl
+
+frame_assigns : (t : Target) (stem : List ℕ) (text : FixedText) → t ≡ target.Deno → IsIn text (frame_texts t stem)
+    → text.assigns ≡ []
+frame_assigns t stem text e h =
+    elim (subst (λ (u : Target). IsIn text (frame_texts u stem)) e h) [
+      | inl same ↦ ap (λ (x : FixedText). x.assigns) same
+      | inr (inl same) ↦ ap (λ (x : FixedText). x.assigns) same
+      | inr (inr none) ↦ absurd none
+    ]
+
+loading_assigns : (t : Target) (stem : List ℕ) (text : FixedText) → t ≡ target.Deno
+    → IsIn text (loading_texts t stem false ++ loading_texts t stem true) → text.assigns ≡ []
+loading_assigns t stem text e h =
+    elim (subst (λ (u : Target). IsIn text (loading_texts u stem false ++ loading_texts u stem true)) e h) [
+      | inl same ↦ ap (λ (x : FixedText). x.assigns) same
+      | inr none ↦ absurd none
+    ]
+
+text_assigns : (s : Settings) (r : Role) (text : FixedText) → s.target ≡ target.Deno → IsIn text (texts_of s r)
+    → text.assigns ≡ []
+text_assigns s role.Fixed text e h = frame_assigns s.target s.stem text e h
+text_assigns s role.Loading text e h = loading_assigns s.target s.stem text e h
+text_assigns s r text e h = absurd h
+
+-- no text of Deno publishes a name otherwise than by an export clause
+pub nothing_assigned : (s : Settings) (items : List Item) (name : List ℕ) → s.target ≡ target.Deno
+    → IsAssigned s items name → ⊥
+nothing_assigned s items name e a = subst (IsIn name) (text_assigns s a.item.role a.text e a.known) a.assigns
+
+-- ---- they fit where the names that they use are declared, and those of the host known
+
+module _ (c : Context) (stem : List ℕ) where
+  pub start_fits : Fits c (facts (frame_start stem).words)
+  unfolding reading
+  start_fits =
+      renamed_text_fits c (words_in deno.FRAME_START.now) [] (file_names stem) refl
+      (record { idents = refl; no_locals = tt; no_module = tt; marked = refl }) tt tt tt
+
+  pub end_fits : IsIn (codes "import0") c.declared → Fits c (facts (frame_end stem).words)
+  unfolding reading
+  end_fits object =
+      renamed_text_fits c (words_in deno.FRAME_END.now) [] (file_names stem) refl
+      (record { idents = refl; no_locals = tt; no_module = tt; marked = refl }) (object, tt) tt tt
+
+  pub loading_fits :
+      AreAmong (codes "wasmUrl" ∷ codes "__wbg_get_imports" ∷ codes "wasmInstantiated" ∷ codes "wasmInstance" ∷ [])
+      c.declared
+      → AreAmong (codes "URL" ∷ codes "WebAssembly" ∷ codes "fetch" ∷ []) c.hosts
+      → Fits c (facts (loading_item stem).words)
+  unfolding reading
+  loading_fits declared hosts =
+      renamed_text_fits c (words_in deno.LOADING.now) [] (file_names stem) refl
+      (record { idents = refl; no_locals = tt; no_module = tt; marked = refl }) declared hosts tt

@@ -1,0 +1,224 @@
+-- Items that are refused, each beside items that are right.
+use Rattle.std.proofs.Common.{◌≡◌, ℕ, inl, inr, List, [], ◌∷◌, ◌++◌, refl, Bool, true, false, true≢false}
+use Rattle.std.proofs.Common.{ap, sym, subst}
+use Rattle.std.specs.Prelude.{◌⊎◌, Option, Some, None, codes, bytes_eq}
+use Rattle.std.specs.List.{list_any, flat_map}
+use Rattle.std.specs.Str.{chars}
+use Rattle.ucd_table.specs.Rows.{in_ranges}
+use Rattle.ucd_derived.specs.Binary.{is_xid_start, is_xid_continue}
+use Rattle.ucd_derived.specs.XidStartRanges.{xid_start_ranges}
+use Rattle.ucd_derived.specs.XidContinueRanges.{xid_continue_ranges}
+use Rattle.values.specs.Lists.{IsIn}
+use Rattle.glue_words.specs.declared.word.Word.{Word}
+use Rattle.glue_words.specs.declared.word.Word.TheVariants as w
+use Rattle.glue_words.specs.declared.punct.TheConstants as punct
+use Rattle.glue_words.specs.declared.key.TheConstants as key
+use Rattle.glue_words.specs.declared.item.Item.{Item}
+use Rattle.glue_words.specs.declared.item.Thing.TheVariants as thing
+use Rattle.glue_words.specs.declared.item.Role.{Role}
+use Rattle.glue_words.specs.declared.item.Role.TheVariants as role
+use Rattle.glue_words.specs.Ident.{is_ident}
+use Rattle.glue_words.specs.Reads.{words_in}
+use Rattle.glue_words.specs.Tables.{punct_text}
+use Rattle.glue_words.specs.Words.{text_of, space}
+use Rattle.glue_words.proofs.Reading.{reading}
+use Rattle.glue_shared.specs.declared.aux.WasmBindgenAux.{WasmBindgenAux}
+use Rattle.glue_shared.specs.declared.import.JsImport.{JsImport}
+use Rattle.glue_shared.specs.declared.import.JsImportName.TheVariants.{Global, Module}
+use Rattle.glue_shared.specs.declared.settings.Settings.{Settings}
+use Rattle.glue_shared.specs.declared.settings.Target.TheVariants as target
+use Rattle.glue_shared.specs.Names.{fixed_public_names, further_names, published_names}
+use Rattle.glue_targets.specs.Published.{IsImportBound, IsNamed, own_host, entries_from, fixed_published}
+use Rattle.glue_targets.specs.RoleWords.{role_words, clause_words, publish_texts, root_words, statement_end}
+
+-- ---- an inner namespace: `||=` below a re-exported root, `=` below one of the glue file's own
+
+-- a text is one of those that the role asks for, where it asks for one
+abbrev pub is_one_of : List ℕ → Option (List (List Word)) → Bool
+is_one_of text None = true
+is_one_of text (Some texts) = list_any (λ words. bytes_eq (flat_map text_of words) text) texts
+
+-- `ns` is an import that is bound to `ns1`
+abbrev pub reexported_root : Item
+reexported_root = record {
+  role = role.Publish (codes "ns" ∷ []) (thing.Imported (codes "ns")) (codes "ns1");
+  words = clause_words (codes "ns") (w.Refer (codes "ns1") false);
+}
+
+-- `ns` is an object of the glue file
+abbrev pub own_root : Item
+own_root = record { role = role.Namespace (codes "ns" ∷ []); words = root_words true (codes "ns") }
+
+abbrev pub inner : Role
+inner = role.Namespace (codes "ns" ∷ codes "inner" ∷ [])
+
+module _ (settings : Settings) where
+  reexported_right : is_one_of (codes "ns1.inner ||= {};\n") (role_words settings false (reexported_root ∷ []) inner [])
+      ≡ true
+  unfolding punct_text is_ident chars in_ranges is_xid_start is_xid_continue xid_start_ranges xid_continue_ranges
+  reexported_right = refl
+
+  reexported_refused : is_one_of (codes "ns1.inner = {};\n") (role_words settings false (reexported_root ∷ []) inner [])
+      ≡ false
+  unfolding punct_text is_ident chars in_ranges is_xid_start is_xid_continue xid_start_ranges xid_continue_ranges
+  reexported_refused = refl
+
+  own_right : is_one_of (codes "ns.inner = {};\n") (role_words settings false (own_root ∷ []) inner []) ≡ true
+  unfolding punct_text is_ident chars in_ranges is_xid_start is_xid_continue xid_start_ranges xid_continue_ranges
+  own_right = refl
+
+  own_refused : is_one_of (codes "ns.inner ||= {};\n") (role_words settings false (own_root ∷ []) inner []) ≡ false
+  unfolding punct_text is_ident chars in_ranges is_xid_start is_xid_continue xid_start_ranges xid_continue_ranges
+  own_refused = refl
+
+-- ---- a name that is published may be evaluated now or later
+
+later_right : IsIn (clause_words (codes "f") (w.Refer (codes "f1") false)) (publish_texts true (codes "f") (codes "f1"))
+later_right = inl refl
+
+now_right : IsIn (clause_words (codes "f") (w.Refer (codes "f1") true)) (publish_texts true (codes "f") (codes "f1"))
+now_right = inr (inl refl)
+
+-- ---- a re-export is published under a name of its own import
+
+-- a re-export `f` of the host's `console`
+abbrev pub console : JsImport
+console = record { name = Global (codes "console"); fields = [] }
+
+abbrev pub publishes : List ℕ → Role
+publishes name = role.Publish (codes "f" ∷ []) (thing.Imported (codes "f")) name
+
+module _ (settings : Settings) (aux : WasmBindgenAux) (given : aux.reexports ≡ (codes "f", console, false) ∷ [])
+  where
+    own_host_right : IsNamed settings aux [] (publishes (codes "console"))
+    own_host_right = record {
+      js = console;
+      «typescript» = false;
+      described = subst (IsIn (codes "f", console, false)) (sym given) (inl refl);
+      names = inr (inl refl);
+    }
+
+    -- what the name would have to be
+    abbrev Names : List Item → List ℕ → JsImport → Type 0
+    Names items name js = IsImportBound items js.name name ⊎ IsIn name (own_host settings.omit_imports js.name)
+
+    other_name : Names [] (codes "document") console → ⊥
+    other_name (inl bound) = bound.binds
+    other_name (inr (inl e)) = true≢false (ap (bytes_eq (codes "document")) e)
+    other_name (inr (inr none)) = none
+
+    other_host_refused : IsNamed settings aux [] (publishes (codes "document")) → ⊥
+    other_host_refused n =
+        elim (subst (IsIn (codes "f", n.js, n.«typescript»)) given n.described) [
+          | inl e ↦ other_name (subst (Names [] (codes "document")) (ap (λ r. r.1) e) n.names)
+          | inr none ↦ absurd none
+        ]
+
+-- a re-export `f` of the name `f` of a module
+abbrev pub from_module : JsImport
+from_module = record { name = Module (codes "./m.js") (codes "f"); fields = [] }
+
+-- `import { taken as bound } from "./m.js";`
+abbrev pub import_line : List ℕ → List ℕ → Item
+import_line taken bound = record {
+  role = role.Import;
+  words =
+      w.Key key.IMPORT ∷ space ∷ w.Punct punct.OPEN_BRACE ∷ space ∷ w.Outer taken ∷ space ∷ w.Key key.AS ∷ space
+      ∷ w.Bind bound ∷ space ∷ w.Punct punct.CLOSE_BRACE ∷ space ∷ w.Key key.FROM ∷ space ∷ w.Text (codes "./m.js")
+      ∷ statement_end;
+}
+
+module _ (settings : Settings) (aux : WasmBindgenAux) (given : aux.reexports ≡ (codes "f", from_module, false) ∷ [])
+    (kept : settings.omit_imports ≡ false) where
+  own_entry_right : IsNamed settings aux (import_line (codes "f") (codes "f1") ∷ []) (publishes (codes "f1"))
+  own_entry_right = record {
+    js = from_module;
+    «typescript» = false;
+    described = subst (IsIn (codes "f", from_module, false)) (sym given) (inl refl);
+    names = inl (record {
+      item = import_line (codes "f") (codes "f1");
+      stands = inl refl;
+      binds = record {
+        line = refl;
+        from = inr (inr (inr (inr (inr (inr (inr (inr (inr (inr (inr (inr (inr (inr (inl refl))))))))))))));
+        entry = inl refl;
+      };
+    });
+  }
+
+  -- what the name would have to be
+  abbrev Entered : JsImport → Type 0
+  Entered js =
+      IsImportBound (import_line (codes "g") (codes "g1") ∷ []) js.name (codes "g1")
+      ⊎ IsIn (codes "g1") (own_host settings.omit_imports js.name)
+
+  other_entry : Entered from_module → ⊥
+  other_entry (inl bound) =
+      elim bound.stands [
+        | inl e ↦
+            elim (subst (λ (i : Item). IsIn (codes "f", codes "g1") (entries_from None i.words)) e bound.binds.entry) [
+              | inl same ↦ true≢false (ap (λ (p : List ℕ × List ℕ). bytes_eq (codes "f") p.0) same)
+              | inr none ↦ absurd none
+            ]
+        | inr none ↦ absurd none
+      ]
+  other_entry (inr host) =
+      subst (λ (b : Bool). IsIn (codes "g1") (own_host b from_module.name)) kept host
+
+  other_entry_refused : IsNamed settings aux (import_line (codes "g") (codes "g1") ∷ []) (publishes (codes "g1")) → ⊥
+  other_entry_refused n =
+      elim (subst (IsIn (codes "f", n.js, n.«typescript»)) given n.described) [
+        | inl e ↦ other_entry (subst Entered (ap (λ r. r.1) e) n.names)
+        | inr none ↦ absurd none
+      ]
+
+-- ---- names beside the public tree
+
+-- a bundler's definition of an import publishes it, and a member of a frame publishes nothing
+abbrev pub definition : List ℕ → Item
+definition text = record { role = role.Define 0; words = words_in text }
+
+own_import_right : fixed_published (definition (codes "export function b@f() {\n}\n") ∷ []) ≡ codes "f" ∷ []
+unfolding reading
+own_import_right = refl
+
+member_right : fixed_published (definition (codes "o@f: function() {\n},\n") ∷ []) ≡ []
+unfolding reading
+member_right = refl
+
+-- a text publishes what its clause lists, and nothing else that it declares
+clause_right : fixed_published (record {
+  role = role.Loading;
+  words = words_in (codes "const b@path = 1;\nexport { u@initSync, u@path as default };\n");
+} ∷ []) ≡ codes "initSync" ∷ codes "default" ∷ []
+unfolding reading
+clause_right = refl
+
+-- on the bundler own imports are published, and `__wasm` stands in the entry
+bundler_right : (browser_only : Bool) (own wasm : List (List ℕ))
+    → published_names (target.Bundler browser_only) ++ further_names (target.Bundler browser_only) own wasm
+    ≡ codes "__wbg_set_wasm" ∷ own
+bundler_right browser_only own wasm = refl
+
+-- a script publishes `initSync` alone, although further names are refused there
+script_right : (global : List ℕ) (own wasm : List (List ℕ))
+    → published_names (target.NoModules global) ++ further_names (target.NoModules global) own wasm
+    ≡ codes "initSync" ∷ wasm
+script_right global own wasm = refl
+
+script_refused : (settings : Settings) (global : List ℕ) → settings.target ≡ target.NoModules global
+    → IsIn (codes "constructor") (fixed_public_names settings)
+unfolding fixed_public_names
+script_refused settings global e = rw e (inr (inr (inr (inr (inr (inl refl))))))
+
+-- ---- an assignment is one to a property
+
+assigned_root_refused : (settings : Settings) → is_one_of (codes "ns = f;\n")
+    (role_words settings false (own_root ∷ []) (role.Assign (codes "ns" ∷ []) thing.Reset (codes "f")) []) ≡ false
+assigned_root_refused settings = refl
+
+assigned_right : (settings : Settings) → is_one_of (codes "ns.f = f1;\n")
+    (role_words settings false (own_root ∷ []) (role.Assign (codes "ns" ∷ codes "f" ∷ []) thing.Reset (codes "f1")) [])
+    ≡ true
+unfolding punct_text is_ident chars in_ranges is_xid_start is_xid_continue xid_start_ranges xid_continue_ranges
+assigned_right settings = refl
