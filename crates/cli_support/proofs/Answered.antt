@@ -1,30 +1,26 @@
 -- What a call answers, step by step.
 use Rattle.std.proofs.Common.{◌≡◌, ◌≢◌, ℕ, List, [], ◌∷◌, map, Bool, true, false, refl, sym, ap, subst, ◌∙◌, cond}
 use Rattle.std.specs.Prelude.{Option, Some, None, Result, Ok, Err, codes, ◌&&◌, is_some, IfSome, IfOk, IfErr}
-use Rattle.std.specs.List.{list_all}
-use Rattle.wasm_ops.specs.declared.ids.ImportId.{ImportId}
 use Rattle.wasm_core.specs.Contents.{Contents}
 use Rattle.wasm_core.specs.Parsing.{module_of}
 use Rattle.wasm_core.specs.declared.faults.ParseFault.{ParseFault}
 use Rattle.wasm_core.specs.declared.faults.ParseFault.TheVariants as parse
-use Rattle.glue_scope.specs.declared.item.Item.{Item}
-use Rattle.glue_scope.specs.Words.{printed}
-use Rattle.glue_shared.specs.declared.aux.AuxExport.{AuxExport}
+use Rattle.glue_words.specs.declared.item.Item.{Item}
+use Rattle.glue_words.specs.Words.{printed}
 use Rattle.glue_shared.specs.declared.settings.Settings.{Settings}
 use Rattle.glue_shared.specs.declared.description.Lowered.{Lowered}
 use Rattle.glue_shared.specs.Names.{host_names}
 use Rattle.cli_support.specs.declared.fault.Fault.{Fault}
 use Rattle.cli_support.specs.declared.fault.Fault.TheVariants as fault
-use Rattle.glue_check.specs.Resolving.{entry_at, adapter_steps}
-use Rattle.glue_items.specs.Items.{Matches, IsDeclareItem, IsDefineItem, IsGlue, is_bindable, is_definable, is_resolved}
+use Rattle.glue_context.specs.Items.{IsGlue}
 use Rattle.glue_check.specs.Check.{is_built}
-use Rattle.glue_items.specs.Keys.{described_keys}
-use Rattle.glue_items.specs.Linked.{IsLinked}
-use Rattle.glue_items.specs.Defined.{IsDefined}
+use Rattle.glue_context.specs.Keys.{described_keys}
+use Rattle.glue_context.specs.Linked.{IsLinked}
+use Rattle.glue_context.specs.Defined.{IsDefined}
 use Rattle.cli_support.specs.Generating.{Made, IsMadeOf, IsFaultOf, IsLate, Answers, Input, Configured, settings_of, stem_of, answer_to, answer_of, collected_description, after_reading, after_lowering, after_parsing, after_input, fault_of, is_stem, prepared, reading}
-use Rattle.glue_items.specs.Plain.{IsKept, IsPlain, is_deno}
-use Rattle.glue_items.specs.Rewritten.{moved, rewritten}
-use Rattle.glue_items.proofs.Made.{sound, rewritten_is}
+use Rattle.glue_context.specs.Plain.{IsKept, IsPlain, is_deno}
+use Rattle.glue_context.specs.Rewritten.{rewritten}
+use Rattle.glue_context.proofs.Made.{sound}
 
 -- ---- what is made
 
@@ -45,52 +41,16 @@ pub composed : {E : Type 0} (s : Settings) (l : Lowered) (r : Result Made E) (it
 composed s l (Ok o) items m plain h g is a b c d = made_of s l o plain h a (subst (IsGlue s l) (sym b) g) (c ∙ ap printed (sym b)) (d ∙ is)
 composed s l (Err e) items m plain h g is a b c d = tt
 
--- the module that is written, from what moves the imports that adapters implement
-pub rewritten_of : {E : Type 0} (s : Settings) (l : Lowered) (stem : List ℕ) (pairs : List (ImportId × ℕ)) (r : Result Contents E) → stem ≡ s.stem → pairs ≡ l.wit.implements → IsPlain s → is_built s l ≡ true
-    → IfOk r (λ m. m ≡ moved stem (map (λ (pair : ImportId × ℕ). pair.0.0) pairs) l.«module») → IfOk r (λ m. m ≡ rewritten s l)
-rewritten_of s l stem pairs (Ok m) a b plain h is =
-    is ∙ ap (λ (stem : List ℕ). moved stem (map (λ (pair : ImportId × ℕ). pair.0.0) pairs) l.«module») a
-    ∙ ap (λ (pairs : List (ImportId × ℕ)). moved s.stem (map (λ (pair : ImportId × ℕ). pair.0.0) pairs) l.«module») b ∙ rewritten_is s l plain h
-rewritten_of s l stem pairs (Err e) a b plain h is = tt
-
-both : (a b : Bool) → a ≡ true → b ≡ true → (a && b) ≡ true
-both true b h k = k
-both false b h k = h
-
-last_no : (a b : Bool) → b ≡ false → (a && b) ≡ false
-last_no true b h = h
-last_no false b h = refl
-
-bindable : (l : Lowered) (es : List AuxExport) (items : List Item) → Matches (IsDeclareItem l) es items → list_all (is_bindable l) es ≡ true
-bindable l [] items m = refl
-bindable l (e ∷ es) [] m = absurd m
-bindable l (e ∷ es) (item ∷ items) m = both (is_bindable l e) (list_all (is_bindable l) es) (ap is_some m.0.of_adapter.told) (bindable l es items m.1)
-
-definable : (l : Lowered) (pairs : List (ImportId × ℕ)) (items : List Item) → Matches (IsDefineItem l) pairs items → list_all (is_definable l) pairs ≡ true
-definable l [] items m = refl
-definable l (pair ∷ pairs) [] m = absurd m
-definable l (pair ∷ pairs) (item ∷ items) m =
-    both (is_definable l pair) (list_all (is_definable l) pairs)
-    (both (is_some (entry_at l.«module».imports pair.0.0)) (is_some (adapter_steps l pair.1)) (ap is_some m.0.stands) (ap is_some m.0.of_adapter.told))
-    (definable l pairs items m.1)
-
-resolved : (s : Settings) (l : Lowered) (items : List Item) → IsGlue s l items → is_resolved l ≡ true
-resolved s l items g = both (list_all (is_bindable l) l.aux.exports) (list_all (is_definable l) l.wit.implements) (bindable l l.aux.exports g.declares g.declared) (definable l l.wit.implements g.defines g.defined)
-
 pub made_answer : (s : Settings) (l : Lowered) (o : Made) → is_built s l ≡ true → IsMadeOf s l o → Answers s (Ok o) (Some (after_reading s l))
 made_answer s l o h made = record {
   description = l;
-  is = ap (λ (b : Bool). cond b (Ok l) (Err (fault.NotBuilt (codes "description")))) (both (is_built s l) (is_resolved l) h (resolved s l o.items made.glue));
+  is = ap (λ (b : Bool). cond b (Ok l) (Err (fault.NotBuilt (codes "description")))) h;
   made = made;
 }
 
 pub unbuilt_fault : (s : Settings) (l : Lowered) (f : Fault) → is_built s l ≡ false → IsFaultOf f (Err (fault.NotBuilt (codes "description"))) → IsFaultOf f (after_reading s l)
 unbuilt_fault s l f h told =
-    subst (IsFaultOf f) (sym (ap (λ (b : Bool). cond (b && is_resolved l) (Ok l) (Err (fault.NotBuilt (codes "description")))) h)) told
-
-pub unresolved_fault : (s : Settings) (l : Lowered) (f : Fault) → is_resolved l ≡ false → IsFaultOf f (Err (fault.NotBuilt (codes "description"))) → IsFaultOf f (after_reading s l)
-unresolved_fault s l f h told =
-    subst (IsFaultOf f) (sym (ap (λ (b : Bool). cond b (Ok l) (Err (fault.NotBuilt (codes "description")))) (last_no (is_built s l) (is_resolved l) h))) told
+    subst (IsFaultOf f) (sym (ap (λ (b : Bool). cond b (Ok l) (Err (fault.NotBuilt (codes "description")))) h)) told
 
 -- ---- after the lowering
 
@@ -108,7 +68,7 @@ late false l (fault.NotBuilt what) h = cc
 
 lowered_answer : (s : Settings) (l : Lowered) (r : Result Made Fault) (told : Option (Option Lowered)) → IfSome told (λ t. t ≡ Some l) → Answers s r (Some (after_reading s (collected_description l))) → Answers s r (after_lowering s told)
 lowered_answer s l (Ok o) None h a = tt
-lowered_answer s l (Err f) None h a = late (is_built s (collected_description l) && is_resolved (collected_description l)) (collected_description l) f a
+lowered_answer s l (Err f) None h a = late (is_built s (collected_description l)) (collected_description l) f a
 lowered_answer s l r (Some t) h a = subst (λ (x : Option Lowered). Answers s r (after_lowering s (Some x))) (sym h) a
 
 pub lowered_made : (s : Settings) (l : Lowered) (r : Result Made Fault) (told : Option (Option Lowered)) → IfSome told (λ t. t ≡ Some l)

@@ -9,9 +9,9 @@ use Rattle.wasm_core.specs.Collected.{collected}
 use Rattle.wasm_core.specs.declared.types.ParseConfig.{ParseConfig}
 use Rattle.wasm_core.specs.declared.faults.ParseFault.{ParseFault}
 use Rattle.wasm_core.specs.declared.faults.ParseFault.TheVariants as parse
-use Rattle.glue_scope.specs.declared.item.Item.{Item}
-use Rattle.glue_scope.specs.Words.{printed}
-use Rattle.glue_shared.specs.Names.{host_names}
+use Rattle.glue_words.specs.declared.item.Item.{Item}
+use Rattle.glue_words.specs.Words.{printed}
+use Rattle.glue_shared.specs.Names.{host_names, fixed_public}
 use Rattle.glue_shared.specs.Roots.{roots_of}
 use Rattle.glue_shared.specs.declared.settings.Settings.{Settings}
 use Rattle.glue_shared.specs.declared.settings.Target.{Target}
@@ -22,13 +22,13 @@ use Rattle.glue_shared.specs.declared.description.Lowered.{Lowered}
 use Rattle.glue_check.specs.Check.{is_built}
 use Rattle.cli_support.specs.declared.fault.Fault.{Fault}
 use Rattle.cli_support.specs.declared.fault.Fault.TheVariants as fault
-use Rattle.glue_items.specs.Items.{is_resolved, IsGlue}
-use Rattle.glue_items.specs.Plain.{is_deno}
-use Rattle.glue_items.specs.Rewritten.{rewritten}
-use Rattle.glue_items.specs.Linked.{IsLinked}
-use Rattle.glue_items.specs.Defined.{IsDefined}
-use Rattle.glue_targets.specs.Published.{IsPublished, fixed_public}
-use Rattle.glue_items.specs.Keys.{described_keys}
+use Rattle.glue_context.specs.Items.{IsGlue}
+use Rattle.glue_context.specs.Plain.{is_deno}
+use Rattle.glue_context.specs.Rewritten.{rewritten}
+use Rattle.glue_context.specs.Linked.{IsLinked}
+use Rattle.glue_context.specs.Defined.{IsDefined}
+use Rattle.glue_targets.specs.Published.{IsPublished}
+use Rattle.glue_context.specs.Keys.{described_keys}
 
 -- the name that the files begin with, and a module's bytes
 abbrev pub Input : Type 0
@@ -85,7 +85,7 @@ collected_description l = record l { «module» = collected (roots_of l) l.«mod
 
 -- what is told of a description: it isn't built, or it is
 abbrev pub after_reading : Settings → Lowered → Result Lowered Fault
-after_reading settings l = if is_built settings l && is_resolved l then Ok l else Err (fault.NotBuilt (codes "description"))
+after_reading settings l = if is_built settings l then Ok l else Err (fault.NotBuilt (codes "description"))
 
 -- after the lowering, which may tell nothing, or not tell
 abbrev pub after_lowering : Settings → Option (Option Lowered) → Option (Result Lowered Fault)
@@ -134,7 +134,7 @@ pub record IsMadeOf (settings : Settings) (l : Lowered) (o : Made) : Type 0 wher
   pub «module» : o.«module» ≡ rewritten settings l
   pub linked : IsLinked settings (host_names settings l.aux) (described_keys l.aux) o.«module» o.items false
   pub defined : IsDefined settings l o.«module» o.items
-  pub published : IsPublished settings l.aux (host_names settings l.aux) (fixed_public settings) o.items
+  pub published : IsPublished settings l.aux (fixed_public settings l.«module» l.wit l.aux) o.items
 
 -- the stem of the input, where there is one
 abbrev pub stem_of : Option Input → List ℕ

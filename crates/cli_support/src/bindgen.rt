@@ -4,27 +4,29 @@ ghost use Rattle.std.specs.List.{list_all};
 ghost use Rattle.wasm_core.specs.Contents.{Contents};
 ghost use Rattle.wasm_core.specs.Parsing.{module_of};
 ghost use Rattle.glue_ends.specs.Causes.{Rose};
-ghost use Rattle.glue_scope.specs.Words.{printed};
+ghost use Rattle.glue_words.specs.Words.{printed};
 ghost use Rattle.glue_shared.specs.declared.settings.Settings.{Settings};
 ghost use Rattle.glue_shared.specs.declared.description.Lowered.{Lowered};
 ghost use Rattle.cli_support.specs.declared.fault.Fault.{Fault};
 ghost use Rattle.wasm_core.specs.declared.types.Import.{Import};
-ghost use Rattle.glue_check.specs.Resolving.{entry_at};
+ghost use Rattle.glue_shared.specs.Names.{own_imports};
+ghost use Rattle.glue_steps.specs.Resolving.{entry_at};
 ghost use Rattle.glue_check.specs.Check.{is_built as is_built_form};
-ghost use Rattle.glue_items.specs.Items.{IsGlue};
+ghost use Rattle.glue_context.specs.Items.{IsGlue};
 ghost use Rattle.cli_support.specs.Generating.{Input, settings_of as the_settings, is_stem as the_stem_test, reading, prepared, collected_description, is_stem_byte as stem_byte, after_reading, after_lowering, after_parsing, after_input, answer_to, answer_of, IsMadeOf, IsFaultOf, Answers, stem_of, fault_of};
-ghost use Rattle.glue_items.specs.Plain.{is_deno as the_deno_test, IsKept, IsPlain};
-ghost use Rattle.glue_items.specs.Rewritten.{glue_module, moved, moved_one, rewritten};
+ghost use Rattle.glue_context.specs.Plain.{is_deno as the_deno_test, IsKept, IsPlain};
+ghost use Rattle.glue_context.specs.Rewritten.{glue_module, moved, moved_one, rewritten};
 ghost use Rattle.std.specs.Borrow.{sem};
 ghost use Rattle.cli_support.specs.Setting.{Rests, HeldRests, released};
 
 use crate::fault::Fault;
 use crate::output::Output;
 use glue_check::is_built;
-use glue_items::glue_items;
+use glue_context::glue_items;
 use glue_lower::{LowerFault, Lowering};
-use glue_scope::{IdentScope, Item, print};
-use glue_shared::{AdapterId, EncodeInto, Lowered, Settings, Target, roots};
+use glue_scope::IdentScope;
+use glue_shared::{EncodeInto, Lowered, Settings, Target, roots};
+use glue_words::{Item, print};
 use std::alloc::{AllocError, Global};
 use std::marker::Model;
 use thiserror::Error;
@@ -202,43 +204,51 @@ fn move_import(alloc: Global, module: &mut Module, stem: &str, place: u32) -> Re
     }
 }
 
-// Moves the imports that adapters implement to the glue file's module.
+// Moves the imports at these places to the glue file's module.
 fn move_imports(
     alloc: Global,
     module: Module,
     stem: &str,
-    pairs: &[(ImportId, AdapterId)],
+    places: &[ImportId],
 ) -> Result<Module, AllocError>
-    ensures moved { IfOk result (λ m. m ≡ moved stem.now (map (λ pair. pair.0.0) pairs.now) «module») }
+    ensures moved { IfOk result (λ m. m ≡ moved stem.now (map (λ id. id.0) places.now) «module») }
 {
     let mut module = module;
-    for pair in pairs {
-        move_import(alloc, &mut module, stem, pair.0.0)?;
+    for place in places {
+        move_import(alloc, &mut module, stem, place.0)?;
     }
     Ok(module)
 }
 
-// The module that is written of a description that is built: its own imports are those that adapters implement.
+// The places of the imports that the glue file of a description defines.
+fn own_places(
+    alloc: Global,
+    settings: &Settings,
+    lowered: &Lowered,
+) -> Result<Seq<ImportId>, AllocError>
+    ensures places { IfOk result (λ places. map (λ id. id.0) places ≡ own_imports settings.now lowered.now.«module» lowered.now.wit lowered.now.aux) }
+{
+    glue_shared::own_imports(alloc, settings, &lowered.module, &lowered.wit, &lowered.aux)
+}
+
+// The module of a description, without the rest of it.
+fn module_of(lowered: Lowered) -> Module
+    ensures same { result ≡ lowered.«module» }
+{
+    lowered.module
+}
+
+// The module that is written: its own imports are moved.
 fn rewrite(alloc: Global, settings: &Settings, lowered: Lowered) -> Result<Module, AllocError>
-    requires plain { IsPlain settings.now }
-    requires built { is_built_form settings.now lowered ≡ true }
     ensures rewritten { IfOk result (λ m. m ≡ rewritten settings.now lowered) }
 {
-    let Lowered {
-        module,
-        wit,
-        aux,
-        is_read: _,
-    } = lowered;
-    drop(aux);
-    let moved = move_imports(
+    let places = own_places(alloc, settings, &lowered)?;
+    move_imports(
         alloc,
-        module,
+        module_of(lowered),
         settings.stem.as_str(),
-        wit.implements.as_slice(),
-    );
-    drop(wit);
-    moved
+        places.as_slice(),
+    )
 }
 
 // Makes an output of items and the module that goes with them.
@@ -279,7 +289,7 @@ fn assemble(
 }
 
 // The items of a description, where it is built.
-#[tactic(auto, using(crate::proofs::Answered::unbuilt_fault, crate::proofs::Answered::unresolved_fault))]
+#[tactic(auto, using(crate::proofs::Answered::unbuilt_fault, glue_context::proofs::Built::bindable_built, glue_context::proofs::Built::definable_built))]
 fn draw(alloc: Global, settings: &Settings, lowered: &Lowered) -> Result<Seq<Item>, Fault>
     ensures built { IfOk result (λ items. is_built_form settings.now lowered.now ≡ true) }
     ensures drawn { IfOk result (λ items. IsGlue settings.now lowered.now items) }
@@ -291,8 +301,7 @@ fn draw(alloc: Global, settings: &Settings, lowered: &Lowered) -> Result<Seq<Ite
         Ok(false) => Err(not_built(alloc, "description")),
         Ok(true) => match glue_items::<IdentScope>(alloc, settings, lowered) {
             Err(_) => Err(Fault::OutOfMemory),
-            Ok(None) => Err(not_built(alloc, "description")),
-            Ok(Some(items)) => Ok(items),
+            Ok(items) => Ok(items),
         },
     }
 }

@@ -5,7 +5,7 @@
 //! each own import once by its adapter's function, and publish exactly the described tree; the module is the one that was read but
 //! for its own imports and its producers.
 //!
-//! Stands on `wasm_core`, `glue_lower`, `glue_check`, `glue_items`, `glue_targets`, `glue_scope`, `glue_shared`, `glue_layout` and
+//! Stands on `wasm_core`, `glue_lower`, `glue_check`, `glue_context`, `glue_targets`, `glue_scope`, `glue_shared`, `glue_layout` and
 //! `glue_ends`.
 #![tactic(auto)]
 
@@ -15,13 +15,13 @@ mod output;
 
 pub use bindgen::{Bindgen, NoInput, SetFault};
 pub use fault::Fault;
-pub use glue_check::adapter_steps;
+pub use glue_context::glue_items;
 pub use glue_ends::{
     MemSink, MemSource, PlannedFile, ReadEnd, ReadFailed, Sink, Source, Stop, WriteEnd, WriteFault,
     read_whole, write_files,
 };
-pub use glue_items::glue_items;
 pub use glue_layout::reset_indentation;
 pub use glue_lower::{JsonLowering, LowerFault, Lowering};
-pub use glue_targets::{FRAME_END, FRAME_START, Kind, LOADING, Piece, frame_items, loading_item};
+pub use glue_steps::adapter_steps;
+pub use glue_targets::{frame_end, frame_start, loading_item};
 pub use output::Output;

@@ -6,8 +6,8 @@ ghost use Rattle.cli_support.specs.Plan.{plan_of};
 
 use glue_ends::PlannedFile;
 use glue_layout::reset_indentation;
-use glue_scope::Item;
 use glue_shared::Settings;
+use glue_words::Item;
 use std::alloc::{AllocError, Global};
 use std::marker::Model;
 use values::{Seq, Text};

@@ -1,0 +1,239 @@
+//! The items of the glue file, group by group: what the description declares, the frame with the definitions of imports, and loading.
+ghost use Rattle.std.specs.Prelude.{◌≡◌, ◌++◌, ◌∷◌, [], ◌+◌, length, codes, IfOk, OnOk, Some, None, is_some, true};
+ghost use Rattle.std.specs.Fmt.{decimal};
+ghost use Rattle.std.specs.List.{flat_map, list_all};
+ghost use Rattle.glue_steps.specs.Resolving.{adapter_steps as steps_of};
+ghost use Rattle.glue_context.specs.Items as spec;
+
+use glue_binding::bind;
+use glue_scope::Names;
+use glue_shared::{AdapterId, AuxExport, Lowered, Settings};
+use glue_steps::{Step, adapter_steps};
+use glue_targets::{frame_end, frame_start, loading_item};
+use glue_tree::JsFunction;
+use glue_words::{Item, Role, Thing, Word, WordBuilder, key, punct};
+use std::alloc::{AllocError, Global};
+use values::{Duplicate, Seq, Text};
+use wasm_core::{Import, ImportId};
+
+// The declaration of an exported function.
+fn declare_function(
+    alloc: Global,
+    adapter: AdapterId,
+    name: &Text,
+    function: Seq<Word>,
+) -> Result<Item, AllocError>
+    ensures item { IfOk result (λ item. item ≡ spec.declare_item adapter name.now function) }
+{
+    let mut words = WordBuilder::new(alloc);
+    words.key(key::EXPORT)?;
+    words.space()?;
+    words.key(key::FUNCTION)?;
+    words.space()?;
+    words.push(Word::Bind(name.copy(alloc)?))?;
+    words.append(function)?;
+    words.line_feed()?;
+    Ok(Item {
+        role: Role::Declare(Thing::Adapter(adapter.0)),
+        words: words.finish(),
+    })
+}
+
+// The definition of an import by a function.
+fn define_function(
+    alloc: Global,
+    place: ImportId,
+    name: &Text,
+    function: Seq<Word>,
+) -> Result<Item, AllocError>
+    ensures item { IfOk result (λ item. item ≡ spec.define_item place.0 name.now function) }
+{
+    let mut words = WordBuilder::new(alloc);
+    words.push(Word::Outer(name.copy(alloc)?))?;
+    words.punct(punct::COLON)?;
+    words.space()?;
+    words.key(key::FUNCTION)?;
+    words.append(function)?;
+    words.punct(punct::COMMA)?;
+    words.line_feed()?;
+    Ok(Item {
+        role: Role::Define(place.0),
+        words: words.finish(),
+    })
+}
+
+// `arg` and the numbers below a count.
+fn default_names(alloc: Global, count: usize) -> Result<Seq<Text>, AllocError>
+    ensures names { IfOk result (λ names. names ≡ spec.default_names count 0) }
+{
+    let mut names = Seq::new(alloc);
+    for number in 0..count {
+        names.push(Text::new(format!(in alloc; "arg{number}")?))?;
+    }
+    Ok(names)
+}
+
+// The names that are wanted for parameters.
+fn wanted_names(alloc: Global, names: &Seq<Text>, count: usize) -> Result<Seq<Text>, AllocError>
+    ensures names { IfOk result (λ wanted. wanted ≡ spec.wanted_names names.now count) }
+{
+    if names.is_empty() {
+        default_names(alloc, count)
+    } else {
+        names.copy(alloc)
+    }
+}
+
+// How many arguments an adapter has.
+fn argument_count(lowered: &Lowered, id: AdapterId) -> usize
+    ensures count { result ≡ spec.argument_count lowered.now id }
+{
+    match lowered.wit.adapters.get(&id) {
+        None => 0,
+        Some(adapter) => adapter.args.len(),
+    }
+}
+
+// The steps of an adapter that is known to have some.
+fn known_steps(alloc: Global, lowered: &Lowered, id: AdapterId) -> Result<Seq<Step>, AllocError>
+    requires told { is_some (steps_of lowered.now id) ≡ true }
+    ensures steps { IfOk result (λ steps. steps_of lowered.now id ≡ Some steps) }
+{
+    match adapter_steps(alloc, lowered, id)? {
+        Some(steps) => Ok(steps),
+        None => unreachable!(),
+    }
+}
+
+// The function of an adapter.
+fn adapter_function<N: Names>(
+    alloc: Global,
+    lowered: &Lowered,
+    id: AdapterId,
+    names: &Seq<Text>,
+) -> Result<JsFunction, AllocError>
+    requires told { is_some (steps_of lowered.now id) ≡ true }
+    ensures function { IfOk result (λ function. spec.IsFunctionOf lowered.now id names.now function) }
+{
+    let steps = known_steps(alloc, lowered, id)?;
+    let wanted = wanted_names(alloc, names, argument_count(lowered, id))?;
+    let function = bind::<N>(alloc, steps.as_slice(), wanted.as_slice())?;
+    Ok(function)
+}
+
+// The words of a function, without the rest of it.
+fn words_of(function: JsFunction) -> Seq<Word>
+    ensures words { result ≡ function.words }
+{
+    function.words
+}
+
+// The item of an export.
+fn declare_export<N: Names>(
+    alloc: Global,
+    lowered: &Lowered,
+    export: &AuxExport,
+) -> Result<Item, AllocError>
+    requires bindable { spec.is_bindable lowered.now export.now ≡ true }
+    ensures item { IfOk result (λ item. spec.IsDeclareItem lowered.now export.now item) }
+{
+    let function = adapter_function::<N>(alloc, lowered, export.adapter, &export.args)?;
+    let item = declare_function(alloc, export.adapter, &export.name, words_of(function))?;
+    Ok(item)
+}
+
+// The definition of an import by an adapter.
+fn define_by<N: Names>(
+    alloc: Global,
+    lowered: &Lowered,
+    pair: &(ImportId, AdapterId),
+    import: &Import,
+) -> Result<Item, AllocError>
+    requires stands { spec.import_at lowered.now pair.now ≡ Some import.now }
+    requires told { is_some (steps_of lowered.now pair.now.1) ≡ true }
+    ensures item { IfOk result (λ item. spec.IsDefineItem lowered.now pair.now item) }
+{
+    let none = Seq::new(alloc);
+    let function = adapter_function::<N>(alloc, lowered, pair.1, &none)?;
+    let item = define_function(alloc, pair.0, &import.name, words_of(function))?;
+    Ok(item)
+}
+
+// The item of an import that stands, and of its adapter.
+fn define_import<N: Names>(
+    alloc: Global,
+    lowered: &Lowered,
+    pair: &(ImportId, AdapterId),
+) -> Result<Item, AllocError>
+    requires definable { spec.is_definable lowered.now pair.now ≡ true }
+    ensures item { IfOk result (λ item. spec.IsDefineItem lowered.now pair.now item) }
+{
+    match lowered.module.imports().get(pair.0.0 as usize) {
+        Some(Some(import)) => define_by::<N>(alloc, lowered, pair, import),
+        _ => unreachable!(),
+    }
+}
+
+// The declarations of the exports.
+fn declare_exports<N: Names>(alloc: Global, lowered: &Lowered) -> Result<Seq<Item>, AllocError>
+    requires bindable { list_all (spec.is_bindable lowered.now) lowered.now.aux.exports ≡ true }
+    ensures items { IfOk result (λ items. spec.Matches (spec.IsDeclareItem lowered.now) lowered.now.aux.exports items) }
+{
+    let mut items = Seq::new(alloc);
+    for export in lowered.aux.exports.as_slice() {
+        items.push(declare_export::<N>(alloc, lowered, export)?)?;
+    }
+    Ok(items)
+}
+
+// The definitions of the imports.
+fn define_imports<N: Names>(alloc: Global, lowered: &Lowered) -> Result<Seq<Item>, AllocError>
+    requires definable { list_all (spec.is_definable lowered.now) lowered.now.wit.implements ≡ true }
+    ensures items { IfOk result (λ items. spec.Matches (spec.IsDefineItem lowered.now) lowered.now.wit.implements items) }
+{
+    let mut items = Seq::new(alloc);
+    for pair in lowered.wit.implements.as_slice() {
+        items.push(define_import::<N>(alloc, lowered, pair)?)?;
+    }
+    Ok(items)
+}
+
+// A group of one item.
+fn alone(alloc: Global, item: Item) -> Result<Seq<Item>, AllocError>
+    ensures group { IfOk result (λ group. group ≡ item ∷ []) }
+{
+    let mut group = Seq::new(alloc);
+    group.push(item)?;
+    Ok(group)
+}
+
+// The groups, one behind the other.
+fn joined(alloc: Global, groups: Vec<Seq<Item>>) -> Result<Seq<Item>, AllocError>
+    ensures items { IfOk result (λ items. items ≡ flat_map (λ group. group) groups.items) }
+{
+    let mut items = Seq::new(alloc);
+    for group in groups {
+        items.append(group)?;
+    }
+    Ok(items)
+}
+
+/// The items that settings and a description ask for, where the check has found steps for each adapter that becomes a function.
+/// Want of memory is the only error.
+pub fn glue_items<N: Names>(
+    alloc: Global,
+    settings: &Settings,
+    lowered: &Lowered,
+) -> Result<Seq<Item>, AllocError>
+    requires bindable { list_all (spec.is_bindable lowered.now) lowered.now.aux.exports ≡ true }
+    requires definable { list_all (spec.is_definable lowered.now) lowered.now.wit.implements ≡ true }
+    ensures items { IfOk result (λ items. spec.IsGlue settings.now lowered.now items) }
+{
+    let declares = declare_exports::<N>(alloc, lowered)?;
+    let start = alone(alloc, frame_start(alloc, settings)?)?;
+    let defines = define_imports::<N>(alloc, lowered)?;
+    let end = alone(alloc, frame_end(alloc, settings)?)?;
+    let loading = alone(alloc, loading_item(alloc, settings)?)?;
+    let groups = vec![in alloc; declares, start, defines, end, loading]?;
+    joined(alloc, groups)
+}
