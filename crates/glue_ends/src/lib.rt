@@ -2,7 +2,7 @@
 //! the listing of planned files, and the reading of a source to its end.
 //!
 //! A source or a sink that fails says so by a count, which never falls: an answer `Failed` comes only where the
-//! count rose in this call, or stands at its last value. After a refusal a sink has taken a prefix of what it was
+//! count rose in this call, or stands at its last value, and where all was read or written the count stays. After a refusal a sink has taken a prefix of what it was
 //! given, so the listing is cut and never garbled.
 //!
 //! It stands on `values`, on the digits of `hex`, and on std's contracts of `Read` and `Write`.

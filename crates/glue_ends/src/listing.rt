@@ -42,6 +42,7 @@ fn write_heading<O: Sink>(
     ensures prefix { AppendsPrefix (O.taken output.old) (O.taken output.new) (heading file.now) }
     ensures later { O.faults output.old ≤ O.faults output.new }
     ensures failed { result ≡ Err WriteFault.Failed → Rose (O.faults output.old) (O.faults output.new) }
+    ensures kept { OnOk result (O.faults output.new ≡ O.faults output.old) }
 {
     let line = heading_of(alloc, file)?;
     output.write_all(line.as_str().as_bytes())
@@ -53,6 +54,7 @@ fn write_bytes<O: Sink>(alloc: Global, file: &PlannedFile, output: &mut O) -> Re
     ensures prefix { AppendsPrefix (O.taken output.old) (O.taken output.new) (shown_bytes file.now.is_text file.now.bytes) }
     ensures later { O.faults output.old ≤ O.faults output.new }
     ensures failed { result ≡ Err WriteFault.Failed → Rose (O.faults output.old) (O.faults output.new) }
+    ensures kept { OnOk result (O.faults output.new ≡ O.faults output.old) }
 {
     if file.is_text {
         output.write_all(file.bytes.as_slice())
@@ -68,6 +70,7 @@ fn write_entry<O: Sink>(alloc: Global, file: &PlannedFile, output: &mut O) -> Re
     ensures prefix { AppendsPrefix (O.taken output.old) (O.taken output.new) (entry file.now) }
     ensures later { O.faults output.old ≤ O.faults output.new }
     ensures failed { result ≡ Err WriteFault.Failed → Rose (O.faults output.old) (O.faults output.new) }
+    ensures kept { OnOk result (O.faults output.new ≡ O.faults output.old) }
 {
     write_heading(alloc, file, output)?;
     write_bytes(alloc, file, output)?;
@@ -78,7 +81,8 @@ fn write_entry<O: Sink>(alloc: Global, file: &PlannedFile, output: &mut O) -> Re
 /// `file {path} hex {count}`, where the count is that of the bytes; the bytes, or two lower-case digits for each;
 /// and a line feed.
 ///
-/// After a refusal a prefix of the listing was written. `Failed` comes where a write failed.
+/// After a refusal a prefix of the listing was written. `Failed` comes where a write failed, and
+/// with `Ok` none failed: their count stays.
 pub fn write_files<O: Sink>(
     alloc: Global,
     files: &[PlannedFile],
@@ -88,6 +92,7 @@ pub fn write_files<O: Sink>(
     ensures prefix { AppendsPrefix (O.taken output.old) (O.taken output.new) (listing files.now) }
     ensures later { O.faults output.old ≤ O.faults output.new }
     ensures failed { result ≡ Err WriteFault.Failed → Rose (O.faults output.old) (O.faults output.new) }
+    ensures kept { OnOk result (O.faults output.new ≡ O.faults output.old) }
 {
     for file in files {
         write_entry(alloc, file, output)?;

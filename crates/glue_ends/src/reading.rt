@@ -64,6 +64,7 @@ fn read_piece<I: Source>(input: &mut I, buf: &mut [u8], bytes: &mut Vec<u8>) -> 
     ensures failed { result ≡ Err Stop.Failed → Rose (I.faults input.old) (I.faults input.new) × Keeps (I.left input.old) (I.left input.new) × (bytes.new.items ≡ bytes.old.items) }
     ensures not_too_long { result ≢ Err Stop.TooLong }
     ensures later { I.faults input.old ≤ I.faults input.new }
+    ensures kept { result ≢ Err Stop.Failed → I.faults input.new ≡ I.faults input.old }
 {
     let count = input.read(buf)?;
     bytes.extend_from_slice(&buf[..count])?;
@@ -74,6 +75,7 @@ fn read_piece<I: Source>(input: &mut I, buf: &mut [u8], bytes: &mut Vec<u8>) -> 
 ///
 /// `Failed` comes where a read failed. At most `limit` bytes were taken then.
 /// `TooLong` comes where more than `limit` bytes were taken.
+/// With every answer but `Failed` no read failed: their count stays.
 pub fn read_whole<I: Source>(
     alloc: Global,
     input: &mut I,
@@ -85,6 +87,7 @@ pub fn read_whole<I: Source>(
     ensures failed { result ≡ Err Stop.Failed → Rose (I.faults input.old) (I.faults input.new) × TakesAtMost limit (I.left input.old) (I.left input.new) }
     ensures too_long { result ≡ Err Stop.TooLong → TakesMoreThan limit (I.left input.old) (I.left input.new) }
     ensures later { I.faults input.old ≤ I.faults input.new }
+    ensures kept { result ≢ Err Stop.Failed → I.faults input.new ≡ I.faults input.old }
 {
     let mut buf = buffer(alloc, piece)?;
     let mut bytes = Vec::new(alloc);

@@ -11,13 +11,13 @@ use Rattle.glue_lower.specs.Lowering.{lowered_of}
 use Rattle.cli_support.specs.declared.fault.Fault.{Fault}
 use Rattle.cli_support.specs.declared.fault.Fault.TheVariants as fault
 use Rattle.glue_check.specs.Check.{is_built}
-use Rattle.glue_items.specs.Items.{is_resolved}
 use Rattle.cli_support.specs.Generating.{Made, Configured, settings_of, stem_of, Answers, IsMadeFrom, IsFaultOf, answer_of, after_parsing, after_lowering, after_reading, reading, prepared, collected_description, fault_of, IsMadeOf}
-use Rattle.glue_items.specs.Rewritten.{rewritten}
+use Rattle.glue_context.specs.Rewritten.{rewritten}
 use Rattle.glue_run.specs.Headline.{deno_settings, IsOutputOf}
-use Rattle.glue_run.specs.Outcome.{Refused, outcome, outcome_of, planning, with_bytes, is_memory, fault_line, ComesTo, IsCut, Wrote, Answered}
+use Rattle.glue_run.specs.Outcome.{Refused, Oversized, outcome, outcome_of, planning, with_bytes, is_memory, fault_line, ComesTo, IsCut, Wrote, Answered}
 use Rattle.std.specs.Io.KnownBytes.{Appends}
 use Rattle.glue_ends.specs.Causes.{AppendsPrefix}
+use Rattle.glue_ends.proofs.Prefixes.{prefix_none}
 
 abbrev told : Settings → Contents → Option (Option Lowered)
 told settings m = Some (lowered_of settings m)
@@ -38,7 +38,7 @@ module _ (bytes : List ℕ) (o : Made) where
   read_is : (m : Contents) (l : Lowered) → module_of reading bytes ≡ Ok m → lowered_of deno_settings (prepared m) ≡ Some l → IsMadeFrom deno_settings (after_reading deno_settings (collected_description l)) o → Goal
   read_is m l read lowered from =
       let c = collected_description l in
-      let same : c ≡ from.description = kept (is_built deno_settings c && is_resolved c) c from.description (fault.NotBuilt (codes "description")) from.is in
+      let same : c ≡ from.description = kept (is_built deno_settings c) c from.description (fault.NotBuilt (codes "description")) from.is in
       let comes : outcome bytes ≡ planning (too_large (rewritten deno_settings from.description)) =
       ap (λ (r : Result Contents ParseFault). outcome_of (after_parsing (told deno_settings) deno_settings r)) read
       ∙ ap (λ (x : Option Lowered). outcome_of (after_lowering deno_settings (Some x))) lowered
@@ -118,6 +118,11 @@ zero_four e = omega (arith, e)
 zero_five : ◌≡◌ {A = ℕ} 0 5 → ⊥
 zero_five e = omega (arith, e)
 
+-- nothing of what was made is written yet
+pub unwritten : (bytes : List ℕ) (made : Made) (x : Option ℕ) (old : Option (List ℕ)) → IsOutputOf bytes made → outcome bytes ≡ planning x → IsCut bytes (Some made) old old
+unwritten bytes made None old is comes = record { cause = None; comes = (comes, is); written = prefix_none old _ }
+unwritten bytes made (Some section) old is comes = record { cause = Some Oversized; comes = (comes, is); written = prefix_none old _ }
+
 -- a fault's line was to be written
 pub refused_answer : (bytes text : List ℕ) (f : Fault) (status : ℕ) (old new : Option (List ℕ)) (before now : ℕ) → is_memory f ≡ false → (f ≢ fault.OutOfMemory → outcome bytes ≡ Some (Refused f))
     → text ≡ fault_line (Refused f) → Wrote 1 text status old new before now → Answered bytes status None old new before now
@@ -129,5 +134,6 @@ refused_answer bytes text f status old new before now h known line w =
       refused = λ one. (Refused f, record { comes = comes; written = subst (Appends old new) line (w.all one) });
       failed = λ four. (w.failed four, cut);
       short = λ five. inr cut;
+      kept = w.kept;
       later = w.later;
     }

@@ -1,5 +1,5 @@
 -- What a run of some bytes comes to.
-use Rattle.std.specs.Prelude.{Bool, true, false, ◌≡◌, ◌≤◌, ◌⊎◌, IsSome, ℕ, List, [], ◌++◌, codes, Option, Some, None, Result, Ok, Err}
+use Rattle.std.specs.Prelude.{Bool, true, false, ◌≡◌, ◌≢◌, ◌≤◌, ◌⊎◌, IsSomeAnd, ℕ, List, [], ◌++◌, codes, Option, Some, None, Result, Ok, Err}
 use Rattle.std.specs.Io.KnownBytes.{Appends, Keeps}
 use Rattle.wasm_core.specs.Emission.{too_large}
 use Rattle.glue_ends.specs.Causes.{Rose, AppendsPrefix}
@@ -9,7 +9,7 @@ use Rattle.glue_lower.specs.Lowering.{lowered_of}
 use Rattle.cli_support.specs.declared.fault.Fault.{Fault}
 use Rattle.cli_support.specs.declared.fault.Fault.TheVariants as fault
 use Rattle.cli_support.specs.Generating.{Made, Configured, answer_of}
-use Rattle.glue_items.specs.Rewritten.{rewritten}
+use Rattle.glue_context.specs.Rewritten.{rewritten}
 use Rattle.cli_support.specs.Plan.{plan_of}
 use Rattle.glue_run.specs.Headline.{deno, deno_settings, IsOutputOf}
 
@@ -62,10 +62,16 @@ cause_name Oversized = codes "TooLarge"
 abbrev pub fault_line : Cause → List ℕ
 fault_line cause = codes "fault " ++ (cause_name cause ++ codes "\n")
 
--- the bytes come to a cause with no output, or to an output, which may be too large to be written
+-- the output that a cause comes with: none with a fault of the generator; one of these bytes with a section that is too large,
+-- as with no cause
+abbrev pub ComesWith : List ℕ → Option Cause → Option Made → Type 0
+ComesWith bytes (Some (Refused f)) output = output ≡ None
+ComesWith bytes (Some Oversized) output = IsSomeAnd output (IsOutputOf bytes)
+ComesWith bytes None output = IsSomeAnd output (IsOutputOf bytes)
+
+-- the bytes come to this cause, or to none, and to the output that it comes with
 abbrev pub ComesTo : List ℕ → Option Made → Option Cause → Type 0
-ComesTo bytes None cause = (outcome bytes ≡ cause) × IsSome cause
-ComesTo bytes (Some made) cause = IsOutputOf bytes made × (outcome bytes ≡ cause)
+ComesTo bytes output cause = (outcome bytes ≡ cause) × ComesWith bytes cause output
 
 -- what is to be written
 abbrev pub said : Option Cause → Option Made → List ℕ
@@ -90,13 +96,16 @@ pub record Wrote (done : ℕ) (text : List ℕ) (status : ℕ) (old new : Option
   pub all : status ≡ done → Appends old new text
   pub prefix : AppendsPrefix old new text
   pub failed : status ≡ 4 → Rose before now
+  pub kept : status ≢ 4 → status ≢ 5 → now ≡ before
   pub later : before ≤ now
 
--- What these bytes came to, and by the status what was written of it: all with 0 and 1, a part with 4 and 5.
+-- What these bytes came to, and by the status what was written of it: all with 0 and 1, a part with 4 and 5. With 5 this may be
+-- unknown yet, and then there is no output.
 pub record Answered (bytes : List ℕ) (status : ℕ) (output : Option Made) (old new : Option (List ℕ)) (before now : ℕ) : Type 0 where
   pub known : (status ≡ 0) ⊎ ((status ≡ 1) ⊎ ((status ≡ 4) ⊎ (status ≡ 5)))
   pub done : status ≡ 0 → IsSaid bytes output None old new
   pub refused : status ≡ 1 → (cause : Cause) × IsSaid bytes output (Some cause) old new
   pub failed : status ≡ 4 → Rose before now × IsCut bytes output old new
-  pub short : status ≡ 5 → Keeps old new ⊎ IsCut bytes output old new
+  pub short : status ≡ 5 → ((output ≡ None) × Keeps old new) ⊎ IsCut bytes output old new
+  pub kept : status ≢ 4 → status ≢ 5 → now ≡ before
   pub later : before ≤ now

@@ -23,7 +23,10 @@ pub const LIMIT: usize = 268_435_456;
 /// How many bytes are asked for in one read.
 pub const PIECE: usize = 65_536;
 
-/// How a run ended: its status, and the output where one was made.
+/// How a run ended: its status, and the output.
+///
+/// An output is there with the status 0. With 1 and 4 it is there exactly where the generator refused nothing: also where only a
+/// section of its module is too large to be written. With 5 it is there where it was made; with 2, 3 and 6 it never is.
 #[derive(Drop)]
 pub struct Ran {
     pub status: u8,
@@ -136,10 +139,13 @@ fn answer<O: Sink>(alloc: Global, bytes: Vec<u8>, output: &mut O) -> Ran
     ensures answered { Answered bytes.items result.status result.output (O.taken output.old) (O.taken output.new) (O.faults output.old) (O.faults output.new) }
 {
     match generate(alloc, bytes) {
-        Ok(made) => Ran {
-            status: deliver(alloc, &made, output),
-            output: Some(made),
-        },
+        Ok(made) => {
+            let status = deliver(alloc, &made, output);
+            Ran {
+                status,
+                output: Some(made),
+            }
+        }
         Err(fault) => Ran {
             status: refuse(&fault, output),
             output: None,
@@ -176,6 +182,7 @@ fn read_input<I: Source>(alloc: Global, input: &mut I) -> Result<Vec<u8>, Stop>
     ensures failed { result ≡ Err Stop.Failed → Rose (I.faults input.old) (I.faults input.new) × TakesAtMost LIMIT (I.left input.old) (I.left input.new) }
     ensures too_long { result ≡ Err Stop.TooLong → TakesMoreThan LIMIT (I.left input.old) (I.left input.new) }
     ensures later { I.faults input.old ≤ I.faults input.new }
+    ensures kept { result ≢ Err Stop.Failed → I.faults input.new ≡ I.faults input.old }
 {
     read_whole(alloc, input, LIMIT, PIECE)
 }
@@ -207,8 +214,8 @@ pub fn run<I: Source, O: Sink>(
     ensures read_failed { result.status ≡ 3 → Rose (I.faults input.old) (I.faults input.new) × Keeps (O.taken output.old) (O.taken output.new) }
     ensures write_failed { result.status ≡ 4 → Rose (O.faults output.old) (O.faults output.new) × IsPartly result.output (I.left input.old) (I.left input.new) (O.taken output.old) (O.taken output.new) }
 
-    // Want of memory: a part of what the input comes to was written, which may be nothing.
-    ensures short { result.status ≡ 5 → Keeps (O.taken output.old) (O.taken output.new) ⊎ IsPartly result.output (I.left input.old) (I.left input.new) (O.taken output.old) (O.taken output.new) }
+    // Want of memory: nothing was made or written, or a part of what the input comes to was written, which may be nothing.
+    ensures short { result.status ≡ 5 → ((result.output ≡ None) × Keeps (O.taken output.old) (O.taken output.new)) ⊎ IsPartly result.output (I.left input.old) (I.left input.new) (O.taken output.old) (O.taken output.new) }
 
     // The input is too long.
     ensures too_long { result.status ≡ 6 → TakesMoreThan LIMIT (I.left input.old) (I.left input.new) × Keeps (O.taken output.old) (O.taken output.new) }
@@ -224,6 +231,11 @@ pub fn run<I: Source, O: Sink>(
 
     ensures no_output { (result.status ≡ 2) ⊎ ((result.status ≡ 3) ⊎ (result.status ≡ 6)) → result.output ≡ None }
     ensures later { (I.faults input.old ≤ I.faults input.new) × (O.faults output.old ≤ O.faults output.new) }
+
+    // No failure is passed over: the count of failed reads changes with status 3 alone, and that of failed writes with 4 or 5.
+    // So neither has changed with 0, 1 or 2.
+    ensures reads_kept { result.status ≢ 3 → I.faults input.new ≡ I.faults input.old }
+    ensures writes_kept { result.status ≢ 4 → result.status ≢ 5 → O.faults output.new ≡ O.faults output.old }
 {
     if !are_read(words) {
         return Ran {

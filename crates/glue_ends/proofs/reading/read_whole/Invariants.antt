@@ -1,4 +1,4 @@
-use Rattle.std.proofs.Common.{◌≡◌, ◌≤◌, ◌-◌, ◌+◌, length}
+use Rattle.std.proofs.Common.{◌≡◌, ◌-◌, ◌+◌, length}
 use Rattle.std.specs.Io.KnownBytes.{Consumes}
 use Rattle.glue_ends.proofs.reading.read_whole.Given as goal
 
@@ -9,5 +9,5 @@ abbrev pub invariant-reading : goal.invariant-reading
 invariant-reading g l = record {
   room : length l.buf.items ≡ l.fn.piece;
   taken : Consumes (g.I.Source.left l.fn.input) (g.I.Source.left l.input) l.bytes.items;
-  later : g.I.Source.faults l.fn.input ≤ g.I.Source.faults l.input;
+  kept : g.I.Source.faults l.input ≡ g.I.Source.faults l.fn.input;
 }
