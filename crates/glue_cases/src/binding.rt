@@ -1,7 +1,8 @@
 use crate::compare::assert_told;
 use crate::inputs::{printed, texts};
-use glue_binding::{Step, bind};
+use glue_binding::bind;
 use glue_scope::IdentScope;
+use glue_steps::Step;
 use std::alloc::{AllocError, Global};
 use values::Text;
 
@@ -132,5 +133,53 @@ fn imports(rt: HostRuntime) -> Result<(), AllocError> {
         &rt,
         max,
         "(globalThis2, y) {\nconst ret = globalThis.Math.max(globalThis2, y);\nreturn ret;\n}",
+    )
+}
+
+/// The call of an export that has a result.
+fn asking(alloc: Global, name: &str, params: u32) -> Result<Step, AllocError> {
+    Ok(Step::CallExport {
+        name: Text::from_str(alloc, name)?,
+        params,
+        has_result: true,
+    })
+}
+
+/// Two objects are lent to an export, and the object that it gives is taken.
+fn lending(alloc: Global) -> Result<String, AllocError> {
+    let mut steps = Vec::new(alloc);
+    for place in 0..2u32 {
+        steps.push(Step::Parameter(place))?;
+        steps.push(Step::IndexFromBorrow)?;
+    }
+    steps.push(asking(alloc, "f", 2)?)?;
+    steps.push(Step::TakeIndex)?;
+    bound(alloc, &steps, &["v0", "heap"])
+}
+
+/// A flag decides whether an object is thrown, and a number is read as unsigned.
+fn throwing(alloc: Global) -> Result<String, AllocError> {
+    let mut steps = Vec::new(alloc);
+    steps.push(Step::Parameter(0))?;
+    steps.push(Step::Parameter(1))?;
+    steps.push(Step::UnwrapResult)?;
+    steps.push(asking(alloc, "g", 0)?)?;
+    steps.push(Step::ToUnsigned)?;
+    bound(alloc, &steps, &["a", "takeObject"])
+}
+
+#[test]
+fn objects(rt: HostRuntime) -> Result<(), AllocError> {
+    let lent = lending(rt.alloc());
+    assert_told(
+        &rt,
+        lent,
+        "(v0, heap2) {\nconst v02 = addBorrowedObject(v0);\ntry {\nconst v1 = addBorrowedObject(heap2);\ntry {\nconst ret = wasm.f(v02, v1);\nconst v2 = takeObject(ret);\nreturn v2;\n} finally {\nheap[stack_pointer++] = undefined;\n}\n} finally {\nheap[stack_pointer++] = undefined;\n}\n}",
+    )?;
+    let thrown = throwing(rt.alloc());
+    assert_told(
+        &rt,
+        thrown,
+        "(a, takeObject2) {\nif (takeObject2) {\nthrow takeObject(a);\n}\nconst ret = wasm.g();\nreturn ret >>> 0;\n}",
     )
 }

@@ -1,7 +1,7 @@
 //! Words that are printed, names, and settings.
 ghost use Rattle.std.specs.Prelude.{◌≡◌, [], ◌∷◌, codes, map, true, false, string_bytes, IfOk};
-ghost use Rattle.glue_scope.specs.Words.{printed as printed_items};
-ghost use Rattle.glue_scope.specs.declared.item.Role.TheVariants.{Body};
+ghost use Rattle.glue_words.specs.Words.{printed as printed_items};
+ghost use Rattle.glue_words.specs.declared.item.Role.TheVariants.{Body};
 
 use glue_scope::{Item, Role, Word, print};
 use glue_shared::{EncodeInto, Settings, Target};

@@ -1,4 +1,4 @@
-//! Tests of the crates from `glue_scope` to `cli_support`: texts and files that were worked out by hand, what is answered for
+//! Tests of the crates from `glue_words` to `cli_support`: texts and files that were worked out by hand, what is answered for
 //! settings and inputs, and the lengths of the files.
 #![tactic(auto)]
 
@@ -8,16 +8,18 @@ mod binding;
 mod compare;
 #[cfg(test)]
 mod ends;
-#[cfg(test)]
-mod heap;
 pub mod inputs;
 #[cfg(test)]
 mod layout;
 #[cfg(test)]
 mod lower;
 #[cfg(test)]
+mod marked;
+#[cfg(test)]
 mod scope;
 #[cfg(test)]
 mod shared;
 #[cfg(test)]
 mod support;
+#[cfg(test)]
+mod tree;

@@ -2,7 +2,7 @@ use crate::compare::{assert_case, assert_told, shown};
 use crate::inputs::{CONFIG, settings};
 use glue_shared::{
     Adapter, AdapterId, AdapterKind, EncodeInto, Instruction, Lowered, NonstandardWitSection,
-    Target, WasmBindgenAux, is_fixed_name, is_host_name, live_count, roots,
+    Target, WasmBindgenAux, is_fixed_name, is_host_name, live_count, own_imports, roots,
 };
 use std::alloc::{AllocError, Global};
 use std::process::Abort;
@@ -148,4 +148,24 @@ fn roots_are_what_is_named_and_there(rt: HostRuntime) -> Result<(), ParseFault> 
         roots_told(rt.alloc()),
         "[Func(FuncId(1)), Func(FuncId(0)), Memory(MemoryId(0))]",
     )
+}
+
+/// The own imports of that module: the one that an adapter implements.
+fn own_told(alloc: Global) -> Result<String, ParseFault> {
+    let lowered = lowered(alloc)?;
+    let settings = settings(alloc, Target::Deno, EncodeInto::Test)?;
+    let own = own_imports(
+        alloc,
+        &settings,
+        &lowered.module,
+        &lowered.wit,
+        &lowered.aux,
+    );
+    drop(lowered);
+    Ok(shown(alloc, own?.into_vec())?)
+}
+
+#[test]
+fn own_imports_are_those_that_adapters_implement(rt: HostRuntime) -> Result<(), ParseFault> {
+    assert_told(&rt, own_told(rt.alloc()), "[ImportId(0)]")
 }
