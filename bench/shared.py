@@ -1,10 +1,26 @@
-"""What the scripts of this folder share: a number's bytes, and the time and memory of one run of a command."""
+"""What the scripts of this folder share: the program, a number's bytes, the time and memory of one run of a command."""
 
 import os
 import subprocess
 import sys
 import time
 from pathlib import Path
+
+TOP = Path(__file__).resolve().parents[1]
+
+
+def program():
+    """The path of the program: the environment variable GLUE, or else the program that the script `glue` runs.
+
+    Where GLUE is missing or empty and that program isn't built yet, it is proved and built, which takes minutes.
+    """
+    named = os.environ.get("GLUE")
+    if named:
+        return named
+    done = subprocess.run([str(TOP / "dist/program")], stdin=subprocess.DEVNULL, stdout=subprocess.PIPE, text=True)
+    if done.returncode != 0:
+        sys.exit("the program is not there, and was not built")
+    return done.stdout.rstrip("\n")
 
 
 def leb128(value):

@@ -6,6 +6,8 @@ without optimisation and with debug sections and once optimised. Each module has
 writes the listing; the module in the listing has to be valid too. Given that module, the program has to write the same
 bytes again. Prints a line for each module, and ends with status 1 where one isn't so.
 
+The program is the one that the environment variable GLUE names, or else the one that the script `glue` runs.
+
 Needs wabt (wat2wasm, wasm-validate). The compiled modules are left out, with a line that says so, where rustc or its
 library for wasm32-unknown-unknown is missing.
 """
@@ -18,7 +20,9 @@ from pathlib import Path
 
 HERE = Path(__file__).resolve().parent
 TOP = HERE.parent
-PROGRAM = TOP / "crates/glue_program/out/glue_program"
+sys.path.insert(0, str(TOP / "bench"))
+from shared import program  # noqa: E402
+
 FEATURES = [f"--enable-{name}" for name in ("exceptions", "tail-call", "memory64", "multi-memory", "extended-const")]
 LINKERS = ["rust-lld", "lld"]
 
@@ -40,24 +44,24 @@ def validate(path):
     run(["wasm-validate", *FEATURES, str(path)])
 
 
-def written(path):
+def written(glue, path):
     """The module in the listing that the program writes for a module."""
     with path.open("rb") as module:
-        listing = run([str(PROGRAM), "--target", "deno"], stdin=module)
+        listing = run([glue, "--target", "deno"], stdin=module)
     header, digits, _ = listing.split(b"\n", 2)
     if not header.startswith(b"file out_bg.wasm hex "):
         raise Wrong(f"the listing begins with {header[:40]!r}")
     return bytes.fromhex(digits.decode())
 
 
-def check(path, folder):
+def check(glue, path, folder):
     """Checks a module, and answers its length and that of the module that is written."""
     validate(path)
-    first = written(path)
+    first = written(glue, path)
     again = folder / "again.wasm"
     again.write_bytes(first)
     validate(again)
-    if written(again) != first:
+    if written(glue, again) != first:
         raise Wrong("the module that was written is written otherwise")
     return path.stat().st_size, len(first)
 
@@ -84,17 +88,16 @@ def compiled(folder):
 
 
 def main():
-    if not PROGRAM.exists():
-        sys.exit("the program is not built: run the script `glue` at the top of the repository once")
     if shutil.which("wat2wasm") is None:
         sys.exit("wat2wasm is missing: it is part of the Debian package wabt")
+    glue = program()
     wrong = 0
     with tempfile.TemporaryDirectory() as name:
         folder = Path(name)
         for title, path, make in [*texts(folder), *compiled(folder)]:
             try:
                 run(make)
-                before, after = check(path, folder)
+                before, after = check(glue, path, folder)
                 print(f"{title}: {before:,} bytes, written in {after:,}")
             except Wrong as fault:
                 wrong += 1

@@ -1,7 +1,7 @@
 #!/usr/bin/env python3
 """Measures the program on modules of 100,000, 300,000 and 1,000,000 functions, and prints a table.
 
-The program is crates/glue_program/out/glue_program, which the script `glue` at the top of the repository builds.
+The program is the one that the environment variable GLUE names, or else the one that the script `glue` runs.
 """
 
 import math
@@ -11,11 +11,9 @@ import tempfile
 from pathlib import Path
 
 sys.path.insert(0, str(Path(__file__).resolve().parents[1]))
-from shared import run  # noqa: E402
+from shared import program, run  # noqa: E402
 
 HERE = Path(__file__).resolve().parent
-PROGRAM = HERE.parents[1] / "crates/glue_program/out/glue_program"
-COMMAND = [str(PROGRAM), "--target", "deno"]
 SIZES = [100_000, 300_000, 1_000_000]
 RUNS = 5
 PIECE = 1 << 16
@@ -29,10 +27,10 @@ def make(count, path):
         subprocess.run([sys.executable, str(HERE / "make.py"), str(count)], stdout=out, check=True)
 
 
-def check(path):
+def check(command, path):
     """Runs the program once, and stops where the module that it prints doesn't begin with the one that it read."""
     with path.open("rb") as module, path.open("rb") as digits:
-        with subprocess.Popen(COMMAND, stdin=module, stdout=subprocess.PIPE) as child:
+        with subprocess.Popen(command, stdin=module, stdout=subprocess.PIPE) as child:
             header = child.stdout.readline().decode().rstrip("\n")
             wanted = f"file out_bg.wasm hex {path.stat().st_size + ADDED}"
             same = header == wanted
@@ -49,12 +47,12 @@ def exponent(before, after, name):
     return math.log(after[name] / before[name]) / math.log(after["count"] / before["count"])
 
 
-def measure(count, folder):
+def measure(command, count, folder):
     """The figures of one size: the least of the runs, of the seconds and of the memory."""
     path = folder / f"{count}.wasm"
     make(count, path)
-    check(path)
-    runs = [run(COMMAND, path) for _ in range(RUNS)]
+    check(command, path)
+    runs = [run(command, path) for _ in range(RUNS)]
     return {
         "count": count,
         "bytes": path.stat().st_size,
@@ -79,14 +77,13 @@ def row(figures, before):
 
 
 def main():
-    if not PROGRAM.exists():
-        sys.exit("the program is not built: run the script `glue` at the top of the repository once")
+    command = [program(), "--target", "deno"]
     print("| functions | bytes | seconds | peak MiB | exponent, seconds | exponent, memory |")
     print("|---:|---:|---:|---:|---:|---:|")
     before = None
     with tempfile.TemporaryDirectory() as folder:
         for count in SIZES:
-            figures = measure(count, Path(folder))
+            figures = measure(command, count, Path(folder))
             print(row(figures, before), flush=True)
             before = figures
 

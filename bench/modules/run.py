@@ -4,7 +4,8 @@
 The program reads a module, writes it again and prints the listing, whose greater part is the module in hexadecimal.
 wasm-strip reads every operator and copies the module; wasm-opt -O0 --all-features reads it and writes it again; xxd -p
 prints its bytes in hexadecimal. The modules are generated ones of 1, 4 and 16 MB of code (make.py), and those that rustc
-makes of program.rs, without optimisation with debug sections, and optimised.
+makes of program.rs, without optimisation with debug sections, and optimised. The program is the one that the
+environment variable GLUE names, or else the one that the script `glue` runs.
 """
 
 import math
@@ -15,19 +16,18 @@ import tempfile
 from pathlib import Path
 
 sys.path.insert(0, str(Path(__file__).resolve().parents[1]))
-from shared import run  # noqa: E402
+from shared import program, run  # noqa: E402
 
 HERE = Path(__file__).resolve().parent
-PROGRAM = HERE.parents[1] / "crates/glue_program/out/glue_program"
 SIZES = [1_000_000, 4_000_000, 16_000_000]
 RUNS = 3
 
 
-def commands(path, folder):
+def commands(glue, path, folder):
     """What is measured: a name and the words."""
     out = str(folder / "out.wasm")
     return [
-        ("program", [str(PROGRAM), "--target", "deno"]),
+        ("program", [glue, "--target", "deno"]),
         ("wasm-strip", ["wasm-strip", str(path), "-o", out]),
         ("wasm-opt", ["wasm-opt", "-O0", "--all-features", str(path), "-o", out]),
         ("xxd", ["xxd", "-p", str(path)]),
@@ -56,10 +56,10 @@ def compiled(folder):
         yield path
 
 
-def measure(path, folder):
+def measure(glue, path, folder):
     """The least of the runs of each command, of the seconds and of the memory."""
     figures = {"bytes": path.stat().st_size}
-    for name, words in commands(path, folder):
+    for name, words in commands(glue, path, folder):
         runs = [run(words, path) for _ in range(RUNS)]
         figures[name] = min(seconds for seconds, _ in runs)
         figures[name, "memory"] = min(memory for _, memory in runs)
@@ -68,15 +68,16 @@ def measure(path, folder):
 
 def main():
     missing = [name for name in ("wasm-strip", "wasm-opt", "xxd") if shutil.which(name) is None]
-    if not PROGRAM.exists() or missing:
-        sys.exit(f"missing: {', '.join(missing) or 'the program: run the script `glue` once'}")
+    if missing:
+        sys.exit(f"missing: {', '.join(missing)}")
+    glue = program()
     print("| module | bytes | program, s | wasm-strip, s | wasm-opt, s | xxd, s | of wasm-opt | of strip and xxd | program, MiB | wasm-opt, MiB | memory by bytes | exponent |")
     print("|---|" + "---:|" * 11)
     before = None
     with tempfile.TemporaryDirectory() as name:
         folder = Path(name)
         for path in [*generated(folder), *compiled(folder)]:
-            f = measure(path, folder)
+            f = measure(glue, path, folder)
             growth = ""
             if before is not None and path.stem.endswith(" MB"):
                 growth = f"{math.log(f['program'] / before['program']) / math.log(f['bytes'] / before['bytes']):.2f}"
