@@ -1,0 +1,8 @@
+use Rattle.std.proofs.Common.{refl}
+use Rattle.glue_words.proofs.Reading.{reading}
+use Rattle.glue_cases.proofs.marked.renamed.Goals as goal
+
+-- The fixed text is read.
+pub shipped-requires : goal.shipped-requires
+unfolding reading
+shipped-requires c = refl
