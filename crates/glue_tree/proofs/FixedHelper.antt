@@ -5,7 +5,7 @@ use Rattle.std.specs.Prelude.{None, codes, pos}
 use Rattle.glue_words.specs.declared.word.Word.{Word}
 use Rattle.glue_words.specs.declared.word.Word.TheVariants as w
 use Rattle.glue_words.specs.Names.{used_in, local_in}
-use Rattle.glue_words.specs.Linking.{StandAlone}
+use Rattle.glue_words.proofs.Belonging.{StandAlone}
 use Rattle.glue_words.proofs.Idents.{ascii_ident}
 use Rattle.glue_tree.specs.declared.tree.BinaryOperator.TheVariants.{Less}
 use Rattle.glue_tree.specs.Term.{Lit, Var, Name, Index, Two, Put, Short, Leave, Lines, NoLines, AndLine}

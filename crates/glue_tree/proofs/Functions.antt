@@ -12,7 +12,8 @@ use Rattle.glue_words.specs.Ident.{is_ident}
 use Rattle.glue_words.specs.Limits.{is_computed}
 use Rattle.glue_words.specs.Names.{bound_name, used_name, hosted_name, local_bound_name, local_name, wasm_name, spliced_key, used_in, hosted_in, local_bound_in, local_in, wasm_in}
 use Rattle.glue_words.specs.Spacing.{first_word, each_next, begins_apart, is_open_after, is_open, note_stands, notes_stand}
-use Rattle.glue_words.specs.Linking.{AreAmong, BindsOnce, Resolves, KeepsLocals, TakesExports, TakesKeys, StandAlone, is_named_access, ends_in_gap}
+use Rattle.glue_words.specs.Linking.{AreAmong, BindsOnce, Resolves, KeepsLocals, TakesExports, TakesKeys, is_named_access}
+use Rattle.glue_words.proofs.Belonging.{StandAlone, ends_in_gap}
 use Rattle.glue_words.proofs.ByKind.{stands_by_kind, is_sound}
 use Rattle.glue_words.proofs.Spaced.{each_next_both, all_both, ends_in_gap-append, alone_by_kind}
 use Rattle.glue_tree.specs.Term.{Lines}

@@ -2,7 +2,7 @@
 use Rattle.std.proofs.Common.{◌≡◌, ℕ, List, [], ◌∷◌, ◌++◌, refl, ap, sym, ◌∙◌, Bool, true, false, true≢false, map}
 use Rattle.std.proofs.lemmas.List.{append-nil}
 use Rattle.std.proofs.lemmas.List.Elements.{filter_map-append}
-use Rattle.std.specs.Prelude.{Option, Some, None, ℤ, nat_lt, nat_le, codes}
+use Rattle.std.specs.Prelude.{Option, Some, None, ℤ, not, codes}
 use Rattle.std.specs.List.{filter_map}
 use Rattle.glue_words.specs.declared.word.Word.{Word}
 use Rattle.glue_words.specs.declared.word.Word.TheVariants as w
@@ -16,7 +16,10 @@ use Rattle.glue_tree.specs.declared.tree.UnaryOperator.{UnaryOperator}
 use Rattle.glue_tree.specs.declared.tree.UnaryOperator.TheVariants as u
 use Rattle.glue_tree.specs.FixedWords.{open_brace, close_brace, open_paren, close_paren, open_bracket, close_bracket, dot, comma, semicolon, colon, question, equals, catch_word, const_word, finally_word, if_word, let_word, big_mark, new_word, return_word, throw_word, try_word, constant_word, unary_word, binary_word}
 use Rattle.glue_words.specs.Words.{space, line_feed}
-use Rattle.glue_tree.specs.Spelling.{term_words, parts_of, fields_of, after_commas, listed, in_brackets, before_operand, behind_operand, place_of_choice, is_wrapped, on_left, on_right, place, place_of_one, place_of_two, line_words, each_line, after_feeds, inside_braces, in_braces, lines_words, after_if, function_words}
+use Rattle.glue_tree.specs.Spelling.{term_words, parts_of, fields_of, after_commas, listed, parens_if, before_operand, behind_operand, operand_words, line_words, each_line, after_feeds, inside_braces, in_braces, lines_words, after_if, function_words}
+use Rattle.glue_tree.specs.declared.operand.Position.{Position}
+use Rattle.glue_tree.specs.declared.operand.Position.TheVariants as p
+use Rattle.glue_tree.specs.Operands.{takes, begins_with_brace}
 use Rattle.glue_tree.specs.Leaves.{leaves, leaves_of, keyed_leaves, line_leaves, lines_leaves, function_leaves}
 
 -- a word of punctuation or a keyword
@@ -81,15 +84,12 @@ module _ (kind : Word → Option (List ℕ)) (is : IsKind kind) where
   parens : {words found : List Word} → Has words found → Has (parenthesised words) found
   parens h = fix open_paren refl (ending h (fix close_paren refl none))
 
-  brackets : {words found : List Word} (b : Bool) → Has words found → Has (in_brackets b words) found
+  brackets : {words found : List Word} (b : Bool) → Has words found → Has (parens_if b words) found
   brackets true h = parens h
   brackets false h = h
 
-  left : {words found : List Word} (at_place : ℕ) (e : Term) → Has words found → Has (on_left at_place e words) found
-  left at_place e h = brackets (nat_lt at_place (place e)) h
-
-  right : {words found : List Word} (at_place : ℕ) (e : Term) → Has words found → Has (on_right at_place e words) found
-  right at_place e h = brackets (nat_le at_place (place e)) h
+  operand : {words found : List Word} (position : Position) (e : Term) → Has words found → Has (operand_words position e words) found
+  operand position e h = brackets (not (takes position e)) h
 
   -- what stands before an operand and behind it
   around : {words found : List Word} (op : UnaryOperator) → Has words found → Has (before_operand op ++ (words ++ behind_operand op)) found
@@ -109,14 +109,14 @@ module _ (kind : Word → Option (List ℕ)) (is : IsKind kind) where
     term_names (Name name) = leaf (w.Refer name false) none
     term_names (Outside name) = leaf (w.Host name false) none
     term_names (Export name) = leaf (w.Refer (codes "wasm") false) (leaf (w.Wasm name) none)
-    term_names (Field e name) = beside (brackets (is_wrapped e) (term_names e)) (fix dot refl (leaf (w.Prop name) none))
-    term_names (Index e i) = beside (left 0 e (term_names e)) (fix open_bracket refl (ending (term_names i) (fix close_bracket refl none)))
-    term_names (Apply f es) = beside (left 0 f (term_names f)) (parens (listed_names es))
-    term_names (Make f es) = fix new_word refl (s (beside (left 0 f (term_names f)) (parens (listed_names es))))
-    term_names (One op e) = around op (left (place_of_one op) e (term_names e))
-    term_names (Two op a b) = beside (left (place_of_two op) a (term_names a)) (s (fix (binary_word op) (binary_fixed op) (s (right (place_of_two op) b (term_names b)))))
+    term_names (Field e name) = beside (operand p.Object e (term_names e)) (fix dot refl (leaf (w.Prop name) none))
+    term_names (Index e i) = beside (operand p.Callee e (term_names e)) (fix open_bracket refl (ending (term_names i) (fix close_bracket refl none)))
+    term_names (Apply f es) = beside (operand p.Callee f (term_names f)) (parens (listed_names es))
+    term_names (Make f es) = fix new_word refl (s (beside (operand p.Class f (term_names f)) (parens (listed_names es))))
+    term_names (One op e) = around op (operand (p.Operand op) e (term_names e))
+    term_names (Two op a b) = beside (operand (p.Left op) a (term_names a)) (s (fix (binary_word op) (binary_fixed op) (s (operand (p.Right op) b (term_names b)))))
     term_names (Choose c a b) =
-        beside (left place_of_choice c (term_names c)) (s (fix question refl (s (beside (right place_of_choice a (term_names a)) (s (fix colon refl (s (right place_of_choice b (term_names b)))))))))
+        beside (operand p.Choice c (term_names c)) (s (fix question refl (s (beside (operand p.Choice a (term_names a)) (s (fix colon refl (s (operand p.Choice b (term_names b)))))))))
     term_names (Fields es) = fix open_brace refl (s (ending (fields_names es) (s (fix close_brace refl none))))
 
     pub further_names : (es : Terms) → Has (after_commas (parts_of es)) (leaves_of es)
@@ -145,8 +145,8 @@ module _ (kind : Word → Option (List ℕ)) (is : IsKind kind) where
     pub line_names : (line : Line) → Has (line_words line) (line_leaves line)
     line_names (Bind name e) = fix const_word refl (s (leaf (w.LocalBind name) (s (fix equals refl (s (ending (term_names e) (fix semicolon refl none)))))))
     line_names (Hold name) = fix let_word refl (s (leaf (w.LocalBind name) (fix semicolon refl none)))
-    line_names (Put target e) = beside (term_names target) (s (fix equals refl (s (ending (term_names e) (fix semicolon refl none)))))
-    line_names (Run e) = ending (term_names e) (fix semicolon refl none)
+    line_names (Put target e) = beside (brackets (begins_with_brace target) (term_names target)) (s (fix equals refl (s (ending (term_names e) (fix semicolon refl none)))))
+    line_names (Run e) = ending (brackets (begins_with_brace e) (term_names e)) (fix semicolon refl none)
     line_names (When e body) = if_names e (braces (each_line body) (inside_names body))
     line_names (Short e line) = if_names e (line_names line)
     line_names (Always body rest) = fix try_word refl (s (beside (braces (each_line body) (inside_names body)) (s (fix finally_word refl (s (braces (each_line rest) (inside_names rest)))))))

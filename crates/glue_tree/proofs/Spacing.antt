@@ -3,7 +3,7 @@ use Rattle.std.proofs.Common.{◌≡◌, ℕ, List, [], ◌∷◌, ◌++◌, ref
 use Rattle.std.proofs.lemmas.Bool.{and_parts}
 use Rattle.std.proofs.lemmas.List.{append-nil}
 use Rattle.std.proofs.lemmas.Bool.Decides.{nat_tests}
-use Rattle.std.specs.Prelude.{Option, Some, None, ℤ, pos, negsuc, ◌&&◌, ◌||◌, ◌==◌, not, nat_lt, nat_le, codes}
+use Rattle.std.specs.Prelude.{Option, Some, None, ℤ, pos, negsuc, ◌&&◌, ◌||◌, ◌==◌, not, nat_le, codes}
 use Rattle.std.specs.List.{list_all, list_any}
 use Rattle.glue_words.specs.declared.word.Word.{Word}
 use Rattle.glue_words.specs.declared.word.Word.TheVariants as w
@@ -22,9 +22,12 @@ use Rattle.glue_tree.specs.declared.tree.Constant.{Constant}
 use Rattle.glue_tree.specs.declared.tree.Constant.TheVariants as c
 use Rattle.glue_tree.specs.declared.tree.UnaryOperator.{UnaryOperator}
 use Rattle.glue_tree.specs.declared.tree.UnaryOperator.TheVariants as u
+use Rattle.glue_tree.specs.declared.operand.Position.{Position}
+use Rattle.glue_tree.specs.declared.operand.Position.TheVariants as p
+use Rattle.glue_tree.specs.Operands.{place_of_call, place_of_two, takes, begins_with_brace}
 use Rattle.glue_tree.specs.FixedWords.{open_brace, close_brace, open_paren, close_paren, open_bracket, close_bracket, dot, comma, semicolon, colon, question, equals, catch_word, const_word, finally_word, if_word, let_word, big_mark, new_word, return_word, throw_word, try_word, constant_word, unary_word, binary_word}
 use Rattle.glue_words.specs.Words.{space, line_feed}
-use Rattle.glue_tree.specs.Spelling.{term_words, parts_of, fields_of, after_commas, in_parens, in_brackets, place_of_choice, is_wrapped, on_left, on_right, place, place_of_two, line_words, each_line, after_feeds, inside_braces, in_braces, block_words, after_if, function_words}
+use Rattle.glue_tree.specs.Spelling.{term_words, parts_of, fields_of, after_commas, in_parens, parens_if, operand_words, line_words, each_line, after_feeds, inside_braces, in_braces, block_words, after_if, function_words}
 use Rattle.glue_tree.proofs.Fit.{is_good, spaced, is_number, is_decrement, fit, all_fit, fields_fit, is_line, line_fit, lines_fit}
 
 and_true : (a b : Bool) → a ≡ true → b ≡ true → (a && b) ≡ true
@@ -260,24 +263,21 @@ empty_parens = refl
 parens : {c d : Bool} {words : List Word} → IsExpression c words → IsExpression d (parenthesised words)
 parens {c} {d} h = record { front = λ next. refl; ends = lead (close_paren ∷ []) open_paren refl paren_starts h (sub close_paren h.ends refl (paren_closes d)) }
 
-brackets : {d : Bool} {words : List Word} (b : Bool) → IsExpression d words → IsExpression false (in_brackets b words)
+brackets : {d : Bool} {words : List Word} (b : Bool) → IsExpression d words → IsExpression false (parens_if b words)
 brackets true h = parens h
 brackets false h = undotted h
 
 -- before a dot
-wrapped : {words : List Word} (b : Bool) → IsExpression (not b) words → IsExpression true (in_brackets b words)
-wrapped true h = parens h
-wrapped false h = h
+object : {words : List Word} (bare : Bool) → IsExpression bare words → IsExpression true (parens_if (not bare) words)
+object true h = h
+object false h = parens h
 
-left : {d : Bool} {words : List Word} (at_place : ℕ) (e : Term) → IsExpression d words → IsExpression false (on_left at_place e words)
-left at_place e h = brackets (nat_lt at_place (place e)) h
-
-right : {d : Bool} {words : List Word} (at_place : ℕ) (e : Term) → IsExpression d words → IsExpression false (on_right at_place e words)
-right at_place e h = brackets (nat_le at_place (place e)) h
+operand : {d : Bool} {words : List Word} (position : Position) (e : Term) → IsExpression d words → IsExpression false (operand_words position e words)
+operand position e h = brackets (not (takes position e)) h
 
 -- ---- operators
 
-decreased : {d : Bool} (b : Bool) (words : List Word) → IsExpression d words → is_number (first_word words None) ≡ false → IsExpression false (unary_word u.Decrement ∷ in_brackets b words)
+decreased : {d : Bool} (b : Bool) (words : List Word) → IsExpression d words → is_number (first_word words None) ≡ false → IsExpression false (unary_word u.Decrement ∷ parens_if b words)
 unfolding joins punct_text
 decreased true words h n = record { front = λ next. refl; ends = fixed (unary_word u.Decrement) open_paren refl refl (brackets true h).ends }
 decreased false [] h n = absurd (true≢false (sym (h.front None)))
@@ -310,12 +310,18 @@ unfollowed : {d : Bool} {words : List Word} → IsExpression d words → IsExpre
 unfollowed {d} {words} h = subst (IsExpression d) (sym (append-nil words)) h
 
 -- an operator and its operand
-one_expression : {d : Bool} (e : Term) (op : UnaryOperator) → (not (is_decrement op) || not (is_number (first_word (term_words e) None))) ≡ true → IsExpression d (term_words e) → IsExpression false (term_words (One op e))
-one_expression e u.Increment m s = after (unary_word u.Increment ∷ []) (left 1 e s) (sub (unary_word u.Increment) (left 1 e s).ends refl increase_closes)
-one_expression e u.Decrement m s = unfollowed (decreased (nat_lt 1 (place e)) (term_words e) s (not_false _ m))
-one_expression e u.BitNot m s = unfollowed (record { front = λ next. refl; ends = lead_last (unary_word u.BitNot) refl invert_starts (left 2 e s) (λ next f. f) })
-one_expression e u.Not m s = unfollowed (record { front = λ next. refl; ends = lead_last (unary_word u.Not) refl not_starts (left 2 e s) (λ next f. f) })
-one_expression e u.TypeOf m s = unfollowed (record { front = λ next. refl; ends = fixed (unary_word u.TypeOf) space refl refl (lead_last space refl space_starts (left 2 e s) (λ next f. f)) })
+one_expression : {d : Bool} (e : Term) (op : UnaryOperator) → (not (is_decrement op) || not (is_number (first_word (term_words e) None))) ≡ true → IsExpression d (term_words e) → IsExpression (takes p.Object (One op e)) (term_words (One op e))
+one_expression e u.Increment m s =
+    let counted = operand (p.Operand u.Increment) e s in after (unary_word u.Increment ∷ []) counted (sub (unary_word u.Increment) counted.ends refl increase_closes)
+one_expression e u.Decrement m s = unfollowed (decreased (not (takes (p.Operand u.Decrement) e)) (term_words e) s (not_false _ m))
+one_expression e u.BitNot m s = unfollowed (record { front = λ next. refl; ends = lead_last (unary_word u.BitNot) refl invert_starts (operand (p.Operand u.BitNot) e s) (λ next f. f) })
+one_expression e u.Not m s = unfollowed (record { front = λ next. refl; ends = lead_last (unary_word u.Not) refl not_starts (operand (p.Operand u.Not) e s) (λ next f. f) })
+one_expression e u.TypeOf m s = unfollowed (record { front = λ next. refl; ends = fixed (unary_word u.TypeOf) space refl refl (lead_last space refl space_starts (operand (p.Operand u.TypeOf) e s) (λ next f. f)) })
+
+-- what an operator of two operands makes stands in parentheses before a dot
+two_wrapped : (op : BinaryOperator) → nat_le (place_of_two op) place_of_call ≡ false
+two_wrapped b.Add = refl
+two_wrapped op = refl
 
 -- ---- lists
 
@@ -347,9 +353,9 @@ keyed : {words : List Word} (name : List ℕ) → is_prop name ≡ true → IsEx
 keyed name h e = fixed (w.Prop name) colon (good_key name h) refl (fixed colon space refl refl (lead_last space refl space_starts e (λ next f. f)))
 
 mutual
-  pub expression : (e : Term) → fit e ≡ true → IsExpression (not (is_wrapped e)) (term_words e)
+  pub expression : (e : Term) → fit e ≡ true → IsExpression (takes p.Object e) (term_words e)
   expression (Lit n) h = atom (w.Num n) refl refl (λ t. refl) refl (λ e. absurd (true≢false (sym e)))
-  expression (Large n) h = record { front = λ next. refl; ends = fixed (w.Num n) big_mark refl refl (closing true big_mark refl (λ t. refl) refl (λ e. refl)) }
+  expression (Large n) h = record { front = λ next. refl; ends = fixed (w.Num n) big_mark refl refl (closing (takes p.Object (Large n)) big_mark refl (λ t. refl) refl (λ e. refl)) }
   expression (Chars text) h = atom (w.Text text) refl refl (λ t. refl) refl (λ e. refl)
   expression (Const constant) h = constant_expression constant
   expression (Var name) h = atom (w.Local name) refl (good_if _ h) (λ t. refl) refl (λ e. refl)
@@ -363,22 +369,22 @@ mutual
   }
   expression (Field e name) h =
       let parts = and_parts (fit e) (is_prop name) h in
-      let object = wrapped (is_wrapped e) (expression e parts.0) in
-      after (dot ∷ w.Prop name ∷ []) object
-      (sub dot object.ends refl (fixed dot (w.Prop name) refl refl (closing true (w.Prop name) (good_key name parts.1) (λ t. refl) refl (λ e. refl))))
+      let inside = object (takes p.Object e) (expression e parts.0) in
+      after (dot ∷ w.Prop name ∷ []) inside
+      (sub dot inside.ends refl (fixed dot (w.Prop name) refl refl (closing (takes p.Object (Field e name)) (w.Prop name) (good_key name parts.1) (λ t. refl) refl (λ e. refl))))
   expression (Index e i) h =
       let parts = and_parts (fit e) (fit i) h in
-      let object = left 0 e (expression e parts.0) in
+      let inside = operand p.Callee e (expression e parts.0) in
       let index = expression i parts.1 in
-      after (open_bracket ∷ (term_words i ++ close_bracket ∷ [])) object
-      (sub open_bracket object.ends refl (lead (close_bracket ∷ []) open_bracket refl bracket_starts index (sub close_bracket index.ends refl (bracket_closes true))))
+      after (open_bracket ∷ (term_words i ++ close_bracket ∷ [])) inside
+      (sub open_bracket inside.ends refl (lead (close_bracket ∷ []) open_bracket refl bracket_starts index (sub close_bracket index.ends refl (bracket_closes (takes p.Object (Index e i))))))
   expression (Apply f es) h =
       let parts = and_parts (fit f) (all_fit es) h in
-      let called = left 0 f (expression f parts.0) in
+      let called = operand p.Callee f (expression f parts.0) in
       after (in_parens (parts_of es)) called (sub open_paren called.ends refl (arguments es parts.1))
   expression (Make f es) h =
       let parts = and_parts (fit f) (all_fit es) h in
-      let called = left 0 f (expression f parts.0) in record {
+      let called = operand p.Class f (expression f parts.0) in record {
         front = λ next. refl;
         ends = fixed new_word space refl refl (lead (in_parens (parts_of es)) space refl space_starts called (sub open_paren called.ends refl (arguments es parts.1)));
       }
@@ -387,26 +393,27 @@ mutual
       one_expression e op parts.1 (expression e parts.0)
   expression (Two op a b) h =
       let parts = and_parts (fit a) (fit b) h in
-      let first = left (place_of_two op) a (expression a parts.0) in
-      let second = right (place_of_two op) b (expression b parts.1) in
-      after (space ∷ binary_word op ∷ space ∷ on_right (place_of_two op) b (term_words b)) first
+      let first = operand (p.Left op) a (expression a parts.0) in
+      let second = operand (p.Right op) b (expression b parts.1) in
+      subst (λ (bare : Bool). IsExpression bare (term_words (Two op a b))) (sym (two_wrapped op))
+      (after (space ∷ binary_word op ∷ space ∷ operand_words (p.Right op) b (term_words b)) first
       (sub space first.ends refl
       (fixed space (binary_word op) refl (operator_apart op)
       (fixed (binary_word op) space (operator_good op) (operator_ends op)
-      (lead_last space refl space_starts second (λ next f. f)))))
+      (lead_last space refl space_starts second (λ next f. f))))))
   expression (Choose c a b) h =
       let parts = and_parts (fit c) (fit a && fit b) h in
       let both = and_parts (fit a) (fit b) parts.1 in
-      let test = left place_of_choice c (expression c parts.0) in
-      let first = right place_of_choice a (expression a both.0) in
-      let second = right place_of_choice b (expression b both.1) in
-      let otherwise : Ends (closes false) (space ∷ colon ∷ space ∷ on_right place_of_choice b (term_words b)) =
+      let test = operand p.Choice c (expression c parts.0) in
+      let first = operand p.Choice a (expression a both.0) in
+      let second = operand p.Choice b (expression b both.1) in
+      let otherwise : Ends (closes false) (space ∷ colon ∷ space ∷ operand_words p.Choice b (term_words b)) =
       fixed space colon refl refl (fixed colon space refl refl (lead_last space refl space_starts second (λ next f. f))) in
-      after (space ∷ question ∷ space ∷ (on_right place_of_choice a (term_words a) ++ space ∷ colon ∷ space ∷ on_right place_of_choice b (term_words b))) test
+      after (space ∷ question ∷ space ∷ (operand_words p.Choice a (term_words a) ++ space ∷ colon ∷ space ∷ operand_words p.Choice b (term_words b))) test
       (sub space test.ends refl
       (fixed space question refl refl
       (fixed question space refl refl
-      (lead (space ∷ colon ∷ space ∷ on_right place_of_choice b (term_words b)) space refl space_starts first (sub space first.ends refl otherwise)))))
+      (lead (space ∷ colon ∷ space ∷ operand_words p.Choice b (term_words b)) space refl space_starts first (sub space first.ends refl otherwise)))))
   expression (Fields NoKeys) h = record {
     front = λ next. refl;
     ends = fixed open_brace space refl refl (fixed space space refl refl (fixed space close_brace refl refl (brace_closes true)));
@@ -577,10 +584,11 @@ mutual
       (fixed (w.LocalBind name) semicolon (good_if _ h) refl (feed semicolon_ends))))
   line (Put target e) h =
       let parts = and_parts (fit target) (fit e) h in
-      let first = expression target parts.0 in
+      let first = brackets (begins_with_brace target) (expression target parts.0) in
       led_line (space ∷ equals ∷ space ∷ (term_words e ++ semicolon ∷ [])) first
       (sub space first.ends refl (fixed space equals refl refl (fixed equals space refl refl (stated (expression e parts.1)))))
-  line (Run e) h = led_line (semicolon ∷ []) (expression e h) (sub semicolon (expression e h).ends refl (feed semicolon_ends))
+  line (Run e) h =
+      let first = brackets (begins_with_brace e) (expression e h) in led_line (semicolon ∷ []) first (sub semicolon first.ends refl (feed semicolon_ends))
   line (When e body) h =
       let parts = and_parts (fit e) (lines_fit body) h in
       after_test e parts.0 (fixed space open_brace refl refl (braces (each_line body) brace_feeds (inside body parts.1)))

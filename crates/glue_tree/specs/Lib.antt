@@ -1,5 +1,6 @@
 pub mod FixedWords
 pub mod Leaves
+pub mod Operands
 pub mod Plainly
 pub mod Spelling
 pub mod Term

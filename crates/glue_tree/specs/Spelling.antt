@@ -1,14 +1,15 @@
 -- The words of expressions, statements and functions.
-use Rattle.std.specs.Prelude.{ℕ, Bool, true, false, nat_lt, nat_le, List, [], ◌∷◌, ◌++◌, flat_map, Some, None, codes}
+use Rattle.std.specs.Prelude.{ℕ, Bool, true, false, not, List, [], ◌∷◌, ◌++◌, flat_map, Some, None, codes}
 use Rattle.glue_words.specs.declared.word.Word.{Word}
 use Rattle.glue_words.specs.declared.word.Word.TheVariants as w
 use Rattle.glue_words.specs.Functions.{parameter_words, parenthesised}
 use Rattle.glue_tree.specs.FixedWords.{open_brace, close_brace, open_paren, close_paren, open_bracket, close_bracket, dot, comma, semicolon, colon, question, equals, catch_word, const_word, finally_word, if_word, let_word, big_mark, new_word, return_word, throw_word, try_word, constant_word, unary_word, binary_word}
 use Rattle.glue_words.specs.Words.{space, line_feed}
-use Rattle.glue_tree.specs.declared.tree.BinaryOperator.{BinaryOperator}
-use Rattle.glue_tree.specs.declared.tree.BinaryOperator.TheVariants as b
 use Rattle.glue_tree.specs.declared.tree.UnaryOperator.{UnaryOperator}
 use Rattle.glue_tree.specs.declared.tree.UnaryOperator.TheVariants as u
+use Rattle.glue_tree.specs.declared.operand.Position.{Position}
+use Rattle.glue_tree.specs.declared.operand.Position.TheVariants as p
+use Rattle.glue_tree.specs.Operands.{takes, begins_with_brace}
 use Rattle.glue_tree.specs.Term.{Term, Lit, Large, Chars, Const, Var, Name, Outside, Export, Field, Index, Apply, Make, One, Two, Choose, Fields, Terms, NoTerms, AndTerm, Keyed, NoKeys, AndKey, Line, Bind, Hold, Put, Run, When, Short, Always, Rescue, Fail, Leave, Inner, Lines, NoLines, AndLine}
 
 -- `, a, b`
@@ -39,73 +40,16 @@ listed (part ∷ parts) = part ++ after_commas parts
 abbrev pub in_parens : List (List Word) → List Word
 in_parens parts = parenthesised (listed parts)
 
--- ---- operators
-
--- the place of an operator of two operands in the order in which operators bind, the tightest first
-abbrev pub place_of_two : BinaryOperator → ℕ
-place_of_two b.Multiply = 3
-place_of_two b.Divide = 3
-place_of_two b.Remainder = 3
-place_of_two b.Add = 4
-place_of_two b.Subtract = 4
-place_of_two b.ShiftLeft = 5
-place_of_two b.ShiftRight = 5
-place_of_two b.ShiftUnsigned = 5
-place_of_two b.Less = 6
-place_of_two b.Greater = 6
-place_of_two b.AtMost = 6
-place_of_two b.AtLeast = 6
-place_of_two b.InstanceOf = 6
-place_of_two b.In = 6
-place_of_two b.Equal = 7
-place_of_two b.StrictEqual = 7
-place_of_two b.Unequal = 7
-place_of_two b.StrictUnequal = 7
-place_of_two b.BitAnd = 8
-place_of_two b.BitXor = 9
-place_of_two b.BitOr = 10
-place_of_two b.And = 11
-place_of_two b.Or = 12
-place_of_two b.Coalesce = 12
-
--- the place of an operator of one operand
-abbrev pub place_of_one : UnaryOperator → ℕ
-place_of_one u.Increment = 1
-place_of_one u.Decrement = 1
-place_of_one u.BitNot = 2
-place_of_one u.Not = 2
-place_of_one u.TypeOf = 2
-
--- the place of `? :`
-abbrev pub place_of_choice : ℕ
-place_of_choice = 13
-
--- the place of what makes an expression; 0 for what stands alone, and for members, indices, calls and `new`
-abbrev pub place : Term → ℕ
-place (One op e) = place_of_one op
-place (Two op a b) = place_of_two op
-place (Choose c a b) = place_of_choice
-place e = 0
+-- ---- operands
 
 -- in parentheses or not
-abbrev pub in_brackets : Bool → List Word → List Word
-in_brackets true words = parenthesised words
-in_brackets false words = words
+abbrev pub parens_if : Bool → List Word → List Word
+parens_if true words = parenthesised words
+parens_if false words = words
 
--- an operand on the left of an operator at that place, and on its right
-abbrev pub on_left : ℕ → Term → List Word → List Word
-on_left at_place e words = in_brackets (nat_lt at_place (place e)) words
-
-abbrev pub on_right : ℕ → Term → List Word → List Word
-on_right at_place e words = in_brackets (nat_le at_place (place e)) words
-
--- whether an expression stands in parentheses before a dot: a number, and what an operator makes
-abbrev pub is_wrapped : Term → Bool
-is_wrapped (Lit n) = true
-is_wrapped (One op e) = true
-is_wrapped (Two op a b) = true
-is_wrapped (Choose c a b) = true
-is_wrapped e = false
+-- an operand where it stands: in parentheses, where the position doesn't take it as it is
+abbrev pub operand_words : Position → Term → List Word → List Word
+operand_words position e words = parens_if (not (takes position e)) words
 
 -- what stands before the operand of an operator, and behind it: `++` stands behind, and `typeof` has a space
 abbrev pub before_operand : UnaryOperator → List Word
@@ -115,6 +59,7 @@ before_operand u.BitNot = unary_word u.BitNot ∷ []
 before_operand u.Not = unary_word u.Not ∷ []
 before_operand u.TypeOf = unary_word u.TypeOf ∷ space ∷ []
 
+-- what stands behind the operand: `++`, or nothing
 abbrev pub behind_operand : UnaryOperator → List Word
 behind_operand u.Increment = unary_word u.Increment ∷ []
 behind_operand op = []
@@ -132,17 +77,17 @@ abbrev mutual
   term_words (Name name) = w.Refer name false ∷ []
   term_words (Outside name) = w.Host name false ∷ []
   term_words (Export name) = w.Refer (codes "wasm") false ∷ w.Wasm name ∷ []
-  term_words (Field e name) = in_brackets (is_wrapped e) (term_words e) ++ dot ∷ w.Prop name ∷ []
-  term_words (Index e i) = on_left 0 e (term_words e) ++ (open_bracket ∷ term_words i ++ close_bracket ∷ [])
-  term_words (Apply f es) = on_left 0 f (term_words f) ++ in_parens (parts_of es)
-  term_words (Make f es) = new_word ∷ space ∷ on_left 0 f (term_words f) ++ in_parens (parts_of es)
-  term_words (One op e) = before_operand op ++ (on_left (place_of_one op) e (term_words e) ++ behind_operand op)
+  term_words (Field e name) = operand_words p.Object e (term_words e) ++ dot ∷ w.Prop name ∷ []
+  term_words (Index e i) = operand_words p.Callee e (term_words e) ++ (open_bracket ∷ term_words i ++ close_bracket ∷ [])
+  term_words (Apply f es) = operand_words p.Callee f (term_words f) ++ in_parens (parts_of es)
+  term_words (Make f es) = new_word ∷ space ∷ operand_words p.Class f (term_words f) ++ in_parens (parts_of es)
+  term_words (One op e) = before_operand op ++ (operand_words (p.Operand op) e (term_words e) ++ behind_operand op)
   term_words (Two op a b) =
-      on_left (place_of_two op) a (term_words a)
-      ++ space ∷ binary_word op ∷ space ∷ on_right (place_of_two op) b (term_words b)
+      operand_words (p.Left op) a (term_words a)
+      ++ space ∷ binary_word op ∷ space ∷ operand_words (p.Right op) b (term_words b)
   term_words (Choose c a b) =
-      on_left place_of_choice c (term_words c) ++ (space ∷ question ∷ space ∷ on_right place_of_choice a (term_words a)
-      ++ space ∷ colon ∷ space ∷ on_right place_of_choice b (term_words b))
+      operand_words p.Choice c (term_words c) ++ (space ∷ question ∷ space ∷ operand_words p.Choice a (term_words a)
+      ++ space ∷ colon ∷ space ∷ operand_words p.Choice b (term_words b))
   term_words (Fields es) = open_brace ∷ space ∷ listed (fields_of es) ++ space ∷ close_brace ∷ []
 
   -- the words of each of the expressions
@@ -156,6 +101,10 @@ abbrev mutual
   fields_of (AndKey name e es) = (w.Prop name ∷ colon ∷ space ∷ term_words e) ∷ fields_of es
 
 -- ---- statements
+
+-- an expression at the start of a statement: in parentheses where it begins with `{`, which would open a block
+abbrev pub starting_words : Term → List Word
+starting_words e = parens_if (begins_with_brace e) (term_words e)
 
 -- `const name = `
 abbrev pub const_start : List ℕ → List Word
@@ -192,8 +141,8 @@ abbrev mutual
   pub line_words : Line → List Word
   line_words (Bind name e) = const_start name ++ term_words e ++ semicolon ∷ []
   line_words (Hold name) = let_word ∷ space ∷ w.LocalBind name ∷ semicolon ∷ []
-  line_words (Put target e) = term_words target ++ (space ∷ equals ∷ space ∷ term_words e ++ semicolon ∷ [])
-  line_words (Run e) = term_words e ++ semicolon ∷ []
+  line_words (Put target e) = starting_words target ++ (space ∷ equals ∷ space ∷ term_words e ++ semicolon ∷ [])
+  line_words (Run e) = starting_words e ++ semicolon ∷ []
   line_words (When e body) = after_if e (in_braces (each_line body))
   line_words (Short e line) = after_if e (line_words line)
   line_words (Always body last) =

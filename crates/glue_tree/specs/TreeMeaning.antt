@@ -6,7 +6,8 @@
 --
 -- Some trees have no meaning here: a local is written nowhere but in `let x; try { x = e; } catch (error) {..}`,
 -- nothing else is written but names, properties and slots, and `++` and `--` write names alone. No tree that is printed
--- does otherwise. Such a run stops there, however many answers are left, and neither `catch` nor `finally` goes on from
+-- does otherwise. Others have a meaning here and none in ECMAScript, and no tree that is printed is one: a declaration as
+-- the one statement of `if (c) ..`, which wants braces there, and a record with the key `__proto__`. Such a run stops there, however many answers are left, and neither `catch` nor `finally` goes on from
 -- it (`no_meaning`). The run of a described function stops only where its answers end, so no such tree passes for one.
 use Rattle.std.specs.Prelude.{ℕ, Bool, true, false, not, List, [], ◌∷◌, if◌then◌else◌, Option, Some, None, codes, bit_and, bit_or, bit_xor}
 use Rattle.glue_tree.specs.Value.{Thing, OfExport, OfHost, Value, Undefined, Null, Truth, Number, BigInt, Letters, Itself, WithFields, FieldValues, NoFields, AndField, Reads, Writes, ReadsAt, WritesAt, TestsClass, TestsKey, Calls, CallsValue, CallsOn, CallsAt, News, NewsValue, CallsAdapter, Answer, Ran, Went, Threw, Ended, Act, goes_on, step, is_same_text, is_same, is_like, is_nothing, is_true, is_less, is_at_most, type_of, sum_of, difference_of, product_of, complement_of, by_bits, shifted_left, shifted_right, shifted_unsigned, bump, lower}

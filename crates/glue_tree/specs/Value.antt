@@ -115,7 +115,7 @@ is_same_thing (OfExport k) (OfExport l) = is_same_text k l
 is_same_thing (OfHost k) (OfHost l) = is_same_text k l
 is_same_thing t u = false
 
--- `v === w`: of one kind and the same; two records are two objects, so never the same
+-- `v === w`: of one kind and the same; two records are two objects. No tree compares a record with itself.
 abbrev pub is_same : Value → Value → Bool
 is_same Undefined Undefined = true
 is_same Null Null = true
@@ -161,7 +161,7 @@ is_at_most (Number m) (Number n) = not (int_lt n m)
 is_at_most (BigInt m) (BigInt n) = not (int_lt n m)
 is_at_most v w = false
 
--- the text of `typeof v`; a thing is a function, an object none
+-- the text of `typeof v`; a thing is a function, an object none. Of what the host gives an engine may say otherwise; no tree asks.
 abbrev pub type_of : Value → Value
 type_of Undefined = Letters (codes "undefined")
 type_of Null = Letters (codes "object")
@@ -242,10 +242,11 @@ is_not_zero v = Truth (not (is_same v (Number (pos 0))))
 
 -- ---- `++` and `--`
 
--- what `++` leaves, and what `--` leaves
+-- what `++` leaves
 abbrev pub one_more : Value → Value
 one_more v = sum_of v (Number (pos 1))
 
+-- what `--` leaves
 abbrev pub one_less : Value → Value
 one_less v = difference_of v (Number (pos 1))
 

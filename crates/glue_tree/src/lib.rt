@@ -5,7 +5,8 @@
 //! `plain_stmts` of `specs/Plainly.antt` lead from the types here.
 //!
 //! - `words_of` and `function_words_of` give exactly the words of `specs/Spelling.antt` (clauses `words`), for every
-//!   form. An operand stands in parentheses where the order of operators asks for them.
+//!   form. An operand stands in parentheses where it binds more loosely than the grammar allows there
+//!   (`specs/Operands.antt`), and an expression at the start of a statement where it begins with `{`.
 //! - `tree_meaning` of `specs/TreeMeaning.antt` is the run of a body: a map of locals, a trace of all that it does to
 //!   what isn't its own, and an answer for each such step (`specs/Value.antt`). Operators are functions of values;
 //!   `proofs/Values.antt` has what their equality says, `proofs/Meaning.antt` that `if (c) s` is `if (c) { s }`, and
@@ -19,6 +20,7 @@
 //! Stands on `values` and on the words of `glue_words`. It knows no instruction, and no name of the program's own.
 #![tactic(auto)]
 
+mod operand;
 mod spelling;
 mod tree;
 

@@ -3,18 +3,17 @@ ghost use Rattle.std.specs.Prelude.{◌≡◌, ◌++◌, ◌∷◌, [], map, cod
 ghost use Rattle.glue_tree.specs.FixedWords as f;
 ghost use Rattle.glue_tree.specs.Plainly.{plain_expr, plain_exprs, plain_fields, plain_return, plain_stmt, plain_stmts};
 ghost use Rattle.glue_tree.specs.Spelling as s;
+ghost use Rattle.glue_tree.specs.declared.operand.Position.TheVariants as p;
 ghost use Rattle.glue_tree.specs.Term as t;
 ghost use Rattle.glue_words.specs.Words.{space, line_feed};
 ghost use Rattle.glue_words.specs.Functions.{further_parameters, parameter_words, parenthesised};
 ghost use Rattle.glue_words.specs.declared.word.Word.TheVariants as w;
 
+use crate::operand::{Position, begins_with_brace, takes};
 use crate::tree::{BinaryOperator, Constant, Expr, Stmt, UnaryOperator};
 use glue_words::{Word, key, punct};
 use std::alloc::{AllocError, Global};
 use values::{Duplicate, Seq, Text};
-
-/// The place of `? :` among operators.
-const CHOICE: u8 = 13;
 
 /// The words of a list of statements, with a line feed between two of them.
 pub fn words_of(alloc: Global, body: &[Stmt]) -> Result<Seq<Word>, AllocError>
@@ -56,7 +55,7 @@ fn push_all(alloc: Global, more: &[Word], words: &mut Seq<Word>) -> Result<(), A
     Ok(())
 }
 
-/// `, `
+// `, `
 fn push_comma(alloc: Global, words: &mut Seq<Word>) -> Result<(), AllocError>
     ensures words { OnOk result (words.new ≡ words.old ++ f.comma ∷ space ∷ []) }
 {
@@ -65,7 +64,7 @@ fn push_comma(alloc: Global, words: &mut Seq<Word>) -> Result<(), AllocError>
     Ok(())
 }
 
-/// `, ` or nothing.
+// `, ` or nothing.
 fn push_comma_unless(alloc: Global, is_first: bool, words: &mut Seq<Word>) -> Result<(), AllocError>
     ensures words { OnOk result (words.new ≡ words.old ++ s.comma_unless is_first) }
 {
@@ -76,7 +75,7 @@ fn push_comma_unless(alloc: Global, is_first: bool, words: &mut Seq<Word>) -> Re
     }
 }
 
-/// A line feed or nothing.
+// A line feed or nothing.
 fn push_feed_unless(alloc: Global, is_first: bool, words: &mut Seq<Word>) -> Result<(), AllocError>
     ensures words { OnOk result (words.new ≡ words.old ++ s.feed_unless is_first) }
 {
@@ -87,7 +86,7 @@ fn push_feed_unless(alloc: Global, is_first: bool, words: &mut Seq<Word>) -> Res
     }
 }
 
-/// The line feed after statements, if there are any.
+// The line feed after statements, if there are any.
 fn push_end(alloc: Global, body: &[Stmt], words: &mut Seq<Word>) -> Result<(), AllocError>
     ensures words { OnOk result (words.new ≡ words.old ++ s.feed_unless (s.is_none body.now)) }
 {
@@ -97,7 +96,7 @@ fn push_end(alloc: Global, body: &[Stmt], words: &mut Seq<Word>) -> Result<(), A
     }
 }
 
-/// A local where it is bound.
+// A local where it is bound.
 fn push_bound(alloc: Global, name: &Text, words: &mut Seq<Word>) -> Result<(), AllocError>
     ensures words { OnOk result (words.new ≡ words.old ++ w.LocalBind name.now ∷ []) }
 {
@@ -105,7 +104,7 @@ fn push_bound(alloc: Global, name: &Text, words: &mut Seq<Word>) -> Result<(), A
     Ok(())
 }
 
-/// Each name with a comma before it.
+// Each name with a comma before it.
 fn push_other_params(alloc: Global, names: &[Text], words: &mut Seq<Word>) -> Result<(), AllocError>
     ensures words { OnOk result (words.new ≡ words.old ++ further_parameters names.now) }
 {
@@ -116,7 +115,7 @@ fn push_other_params(alloc: Global, names: &[Text], words: &mut Seq<Word>) -> Re
     Ok(())
 }
 
-/// The parameters in their parentheses.
+// The parameters in their parentheses.
 fn push_params(alloc: Global, params: &[Text], words: &mut Seq<Word>) -> Result<(), AllocError>
     ensures words { OnOk result (words.new ≡ words.old ++ parenthesised (parameter_words params.now)) }
 {
@@ -129,7 +128,7 @@ fn push_params(alloc: Global, params: &[Text], words: &mut Seq<Word>) -> Result<
     Ok(())
 }
 
-/// A word of punctuation, by its place.
+// A word of punctuation, by its place.
 fn push_punct(place: u8, words: &mut Seq<Word>) -> Result<(), AllocError>
     ensures words { OnOk result (words.new ≡ words.old ++ w.Punct place ∷ []) }
 {
@@ -137,7 +136,7 @@ fn push_punct(place: u8, words: &mut Seq<Word>) -> Result<(), AllocError>
     Ok(())
 }
 
-/// A keyword, by its place.
+// A keyword, by its place.
 fn push_key(place: u8, words: &mut Seq<Word>) -> Result<(), AllocError>
     ensures words { OnOk result (words.new ≡ words.old ++ w.Key place ∷ []) }
 {
@@ -145,7 +144,7 @@ fn push_key(place: u8, words: &mut Seq<Word>) -> Result<(), AllocError>
     Ok(())
 }
 
-/// `5n`
+// `5n`
 fn push_big(value: i64, words: &mut Seq<Word>) -> Result<(), AllocError>
     ensures words { OnOk result (words.new ≡ words.old ++ w.Num value ∷ f.big_mark ∷ []) }
 {
@@ -154,7 +153,7 @@ fn push_big(value: i64, words: &mut Seq<Word>) -> Result<(), AllocError>
     Ok(())
 }
 
-/// A word that stands for itself.
+// A word that stands for itself.
 fn push_word(word: Word, words: &mut Seq<Word>) -> Result<(), AllocError>
     ensures words { OnOk result (words.new ≡ words.old ++ word ∷ []) }
 {
@@ -162,7 +161,7 @@ fn push_word(word: Word, words: &mut Seq<Word>) -> Result<(), AllocError>
     Ok(())
 }
 
-/// `wasm.name`
+// `wasm.name`
 fn push_export(alloc: Global, name: &Text, words: &mut Seq<Word>) -> Result<(), AllocError>
     ensures words { OnOk result (words.new ≡ words.old ++ w.Refer (codes "wasm") false ∷ w.Wasm name.now ∷ []) }
 {
@@ -171,7 +170,7 @@ fn push_export(alloc: Global, name: &Text, words: &mut Seq<Word>) -> Result<(), 
     Ok(())
 }
 
-/// `.name`
+// `.name`
 fn push_field(alloc: Global, name: &Text, words: &mut Seq<Word>) -> Result<(), AllocError>
     ensures words { OnOk result (words.new ≡ words.old ++ f.dot ∷ w.Prop name.now ∷ []) }
 {
@@ -180,7 +179,7 @@ fn push_field(alloc: Global, name: &Text, words: &mut Seq<Word>) -> Result<(), A
     Ok(())
 }
 
-/// `name: `
+// `name: `
 fn push_label(alloc: Global, name: &Text, words: &mut Seq<Word>) -> Result<(), AllocError>
     ensures words { OnOk result (words.new ≡ words.old ++ w.Prop name.now ∷ f.colon ∷ space ∷ []) }
 {
@@ -190,7 +189,7 @@ fn push_label(alloc: Global, name: &Text, words: &mut Seq<Word>) -> Result<(), A
     Ok(())
 }
 
-/// The word of a keyword that is an expression.
+// The word of a keyword that is an expression.
 fn constant_word(constant: Constant) -> Word
     ensures word { result ≡ f.constant_word constant }
 {
@@ -203,7 +202,7 @@ fn constant_word(constant: Constant) -> Word
     }
 }
 
-/// The word of an operator of one operand.
+// The word of an operator of one operand.
 fn unary_word(op: UnaryOperator) -> Word
     ensures word { result ≡ f.unary_word op }
 {
@@ -216,7 +215,7 @@ fn unary_word(op: UnaryOperator) -> Word
     }
 }
 
-/// The word of an operator of two operands.
+// The word of an operator of two operands.
 fn binary_word(op: BinaryOperator) -> Word
     ensures word { result ≡ f.binary_word op }
 {
@@ -248,65 +247,7 @@ fn binary_word(op: BinaryOperator) -> Word
     }
 }
 
-/// The place of an operator of two operands among all operators, the tightest first.
-fn place_of_two(op: BinaryOperator) -> u8
-    ensures { result ≡ s.place_of_two op }
-{
-    match op {
-        BinaryOperator::Multiply | BinaryOperator::Divide | BinaryOperator::Remainder => 3,
-        BinaryOperator::Add | BinaryOperator::Subtract => 4,
-        BinaryOperator::ShiftLeft | BinaryOperator::ShiftRight | BinaryOperator::ShiftUnsigned => 5,
-        BinaryOperator::Less
-        | BinaryOperator::Greater
-        | BinaryOperator::AtMost
-        | BinaryOperator::AtLeast
-        | BinaryOperator::InstanceOf
-        | BinaryOperator::In => 6,
-        BinaryOperator::Equal
-        | BinaryOperator::StrictEqual
-        | BinaryOperator::Unequal
-        | BinaryOperator::StrictUnequal => 7,
-        BinaryOperator::BitAnd => 8,
-        BinaryOperator::BitXor => 9,
-        BinaryOperator::BitOr => 10,
-        BinaryOperator::And => 11,
-        BinaryOperator::Or | BinaryOperator::Coalesce => 12,
-    }
-}
-
-/// The place of an operator of one operand.
-fn place_of_one(op: UnaryOperator) -> u8
-    ensures { result ≡ s.place_of_one op }
-{
-    match op {
-        UnaryOperator::Increment | UnaryOperator::Decrement => 1,
-        UnaryOperator::BitNot | UnaryOperator::Not | UnaryOperator::TypeOf => 2,
-    }
-}
-
-/// The place of what makes an expression.
-fn place_of(expr: &Expr) -> u8
-    ensures { result ≡ s.place (plain_expr expr.now) }
-{
-    match expr {
-        Expr::Unary(op, _) => place_of_one(*op),
-        Expr::Binary(op, _, _) => place_of_two(*op),
-        Expr::Cond(_, _, _) => CHOICE,
-        _ => 0,
-    }
-}
-
-/// Whether an expression stands in parentheses before a dot.
-fn is_wrapped(expr: &Expr) -> bool
-    ensures { result ≡ s.is_wrapped (plain_expr expr.now) }
-{
-    match expr {
-        Expr::Num(_) | Expr::Unary(_, _) | Expr::Binary(_, _, _) | Expr::Cond(_, _, _) => true,
-        _ => false,
-    }
-}
-
-/// An operator before its operand: `typeof` with a space, and `++` stands behind it.
+// An operator before its operand: `typeof` with a space, and `++` stands behind it.
 fn push_before(alloc: Global, op: UnaryOperator, words: &mut Seq<Word>) -> Result<(), AllocError>
     ensures words { OnOk result (words.new ≡ words.old ++ s.before_operand op) }
 {
@@ -319,7 +260,7 @@ fn push_before(alloc: Global, op: UnaryOperator, words: &mut Seq<Word>) -> Resul
     }
 }
 
-/// An operator behind its operand: `++` alone.
+// An operator behind its operand: `++` alone.
 fn push_behind(op: UnaryOperator, words: &mut Seq<Word>) -> Result<(), AllocError>
     ensures words { OnOk result (words.new ≡ words.old ++ s.behind_operand op) }
 {
@@ -329,7 +270,7 @@ fn push_behind(op: UnaryOperator, words: &mut Seq<Word>) -> Result<(), AllocErro
     }
 }
 
-/// A word between two operands, with its spaces.
+// A word between two operands, with its spaces.
 fn push_between(alloc: Global, word: Word, words: &mut Seq<Word>) -> Result<(), AllocError>
     ensures words { OnOk result (words.new ≡ words.old ++ space ∷ word ∷ space ∷ []) }
 {
@@ -338,7 +279,7 @@ fn push_between(alloc: Global, word: Word, words: &mut Seq<Word>) -> Result<(), 
     push_gap(alloc, " ", words)
 }
 
-/// `{ `
+// `{ `
 fn push_open(alloc: Global, words: &mut Seq<Word>) -> Result<(), AllocError>
     ensures words { OnOk result (words.new ≡ words.old ++ f.open_brace ∷ space ∷ []) }
 {
@@ -346,7 +287,7 @@ fn push_open(alloc: Global, words: &mut Seq<Word>) -> Result<(), AllocError>
     push_gap(alloc, " ", words)
 }
 
-/// ` }`
+// ` }`
 fn push_close(alloc: Global, words: &mut Seq<Word>) -> Result<(), AllocError>
     ensures words { OnOk result (words.new ≡ words.old ++ space ∷ f.close_brace ∷ []) }
 {
@@ -354,7 +295,7 @@ fn push_close(alloc: Global, words: &mut Seq<Word>) -> Result<(), AllocError>
     push_punct(punct::CLOSE_BRACE, words)
 }
 
-/// `new `
+// `new `
 fn push_new(alloc: Global, words: &mut Seq<Word>) -> Result<(), AllocError>
     ensures words { OnOk result (words.new ≡ words.old ++ f.new_word ∷ space ∷ []) }
 {
@@ -375,31 +316,26 @@ fn push_expr(alloc: Global, expr: &Expr, words: &mut Seq<Word>) -> Result<(), Al
         Expr::Module(name) => push_word(Word::Refer(name.copy(alloc)?, false), words),
         Expr::Host(name) => push_word(Word::Host(name.copy(alloc)?, false), words),
         Expr::Wasm(name) => push_export(alloc, name, words),
-        Expr::Member(object, name) => {
-            push_operand(alloc, object.get(), is_wrapped(object.get()), words)?;
-            push_field(alloc, name, words)
-        }
+        Expr::Member(object, name) => push_member(alloc, object.get(), name, words),
         Expr::At(object, index) => {
-            push_operand(alloc, object.get(), 0 < place_of(object.get()), words)?;
+            push_operand(alloc, Position::Callee, object.get(), words)?;
             push_index(alloc, index.get(), words)
         }
         Expr::Call(f, arguments) => {
-            push_operand(alloc, f.get(), 0 < place_of(f.get()), words)?;
+            push_operand(alloc, Position::Callee, f.get(), words)?;
             push_arguments(alloc, arguments.as_slice(), words)
         }
         Expr::New(f, arguments) => {
-            push_new(alloc, words)?;
-            push_operand(alloc, f.get(), 0 < place_of(f.get()), words)?;
+            push_class(alloc, f.get(), words)?;
             push_arguments(alloc, arguments.as_slice(), words)
         }
         Expr::Unary(op, operand) => push_unary(alloc, *op, operand.get(), words),
         Expr::Binary(op, left, right) => {
-            let place = place_of_two(*op);
-            push_operand(alloc, left.get(), place < place_of(left.get()), words)?;
-            push_right(alloc, binary_word(*op), place, right.get(), words)
+            push_operand(alloc, Position::Left(*op), left.get(), words)?;
+            push_right(alloc, *op, right.get(), words)
         }
         Expr::Cond(test, first, second) => {
-            push_operand(alloc, test.get(), CHOICE < place_of(test.get()), words)?;
+            push_operand(alloc, Position::Choice, test.get(), words)?;
             push_branch(alloc, punct::QUESTION, first.get(), words)?;
             push_branch(alloc, punct::COLON, second.get(), words)
         }
@@ -407,26 +343,59 @@ fn push_expr(alloc: Global, expr: &Expr, words: &mut Seq<Word>) -> Result<(), Al
     }
 }
 
-/// An operand, in parentheses or not.
+// An expression in parentheses.
+#[cycle(exprs)]
+fn push_wrapped(alloc: Global, expr: &Expr, words: &mut Seq<Word>) -> Result<(), AllocError>
+    ensures words { OnOk result (words.new ≡ words.old ++ parenthesised (s.term_words (plain_expr expr.now))) }
+{
+    push_punct(punct::OPEN_PAREN, words)?;
+    push_expr(alloc, expr, words)?;
+    push_punct(punct::CLOSE_PAREN, words)
+}
+
+// An operand, in parentheses where its position asks for them.
 #[cycle(exprs)]
 fn push_operand(
     alloc: Global,
+    position: Position,
     operand: &Expr,
-    is_wrapped: bool,
     words: &mut Seq<Word>,
 ) -> Result<(), AllocError>
-    ensures words { OnOk result (words.new ≡ words.old ++ s.in_brackets is_wrapped (s.term_words (plain_expr operand.now))) }
+    ensures words { let e = plain_expr operand.now in
+        OnOk result (words.new ≡ words.old ++ s.operand_words position e (s.term_words e)) }
 {
-    if is_wrapped {
-        push_punct(punct::OPEN_PAREN, words)?;
-        push_expr(alloc, operand, words)?;
-        push_punct(punct::CLOSE_PAREN, words)
-    } else {
+    if takes(position, operand) {
         push_expr(alloc, operand, words)
+    } else {
+        push_wrapped(alloc, operand, words)
     }
 }
 
-/// `[index]`
+// `object.name`
+#[cycle(exprs)]
+fn push_member(
+    alloc: Global,
+    object: &Expr,
+    name: &Text,
+    words: &mut Seq<Word>,
+) -> Result<(), AllocError>
+    ensures words { OnOk result (words.new ≡ words.old ++ s.term_words (t.Field (plain_expr object.now) name.now)) }
+{
+    push_operand(alloc, Position::Object, object, words)?;
+    push_field(alloc, name, words)
+}
+
+// `new e`, without its arguments.
+#[cycle(exprs)]
+fn push_class(alloc: Global, class: &Expr, words: &mut Seq<Word>) -> Result<(), AllocError>
+    ensures words { let e = plain_expr class.now in
+        OnOk result (words.new ≡ words.old ++ f.new_word ∷ space ∷ s.operand_words p.Class e (s.term_words e)) }
+{
+    push_new(alloc, words)?;
+    push_operand(alloc, Position::Class, class, words)
+}
+
+// `[index]`
 #[cycle(exprs)]
 fn push_index(alloc: Global, index: &Expr, words: &mut Seq<Word>) -> Result<(), AllocError>
     ensures words { let inside = s.term_words (plain_expr index.now) in
@@ -457,7 +426,7 @@ pub fn push_arguments(
     Ok(())
 }
 
-/// An operator and its operand.
+// An operator and its operand.
 #[cycle(exprs)]
 fn push_unary(
     alloc: Global,
@@ -468,27 +437,26 @@ fn push_unary(
     ensures words { OnOk result (words.new ≡ words.old ++ s.term_words (t.One op (plain_expr operand.now))) }
 {
     push_before(alloc, op, words)?;
-    push_operand(alloc, operand, place_of_one(op) < place_of(operand), words)?;
+    push_operand(alloc, Position::Operand(op), operand, words)?;
     push_behind(op, words)
 }
 
-/// An operator's word and the operand on its right, after a space.
+// An operator's word and the operand on its right, after a space.
 #[cycle(exprs)]
 fn push_right(
     alloc: Global,
-    word: Word,
-    place: u8,
+    op: BinaryOperator,
     operand: &Expr,
     words: &mut Seq<Word>,
 ) -> Result<(), AllocError>
     ensures words { let e = plain_expr operand.now in
-        OnOk result (words.new ≡ words.old ++ space ∷ word ∷ space ∷ s.on_right place e (s.term_words e)) }
+        OnOk result (words.new ≡ words.old ++ space ∷ f.binary_word op ∷ space ∷ s.operand_words (p.Right op) e (s.term_words e)) }
 {
-    push_between(alloc, word, words)?;
-    push_operand(alloc, operand, place <= place_of(operand), words)
+    push_between(alloc, binary_word(op), words)?;
+    push_operand(alloc, Position::Right(op), operand, words)
 }
 
-/// `? e` or `: e`, after a space.
+// `? e` or `: e`, after a space.
 #[cycle(exprs)]
 fn push_branch(
     alloc: Global,
@@ -497,12 +465,13 @@ fn push_branch(
     words: &mut Seq<Word>,
 ) -> Result<(), AllocError>
     ensures words { let e = plain_expr branch.now in
-        OnOk result (words.new ≡ words.old ++ space ∷ w.Punct mark ∷ space ∷ s.on_right s.place_of_choice e (s.term_words e)) }
+        OnOk result (words.new ≡ words.old ++ space ∷ w.Punct mark ∷ space ∷ s.operand_words p.Choice e (s.term_words e)) }
 {
-    push_right(alloc, Word::Punct(mark), CHOICE, branch, words)
+    push_between(alloc, Word::Punct(mark), words)?;
+    push_operand(alloc, Position::Choice, branch, words)
 }
 
-/// `{ key: e, .. }`
+// `{ key: e, .. }`
 #[cycle(exprs)]
 fn push_record(
     alloc: Global,
@@ -535,7 +504,18 @@ pub fn push_const(alloc: Global, name: &Text, words: &mut Seq<Word>) -> Result<(
     Ok(())
 }
 
-/// `const name = e;`
+// An expression at the start of a statement.
+fn push_starting(alloc: Global, expr: &Expr, words: &mut Seq<Word>) -> Result<(), AllocError>
+    ensures words { OnOk result (words.new ≡ words.old ++ s.starting_words (plain_expr expr.now)) }
+{
+    if begins_with_brace(expr) {
+        push_wrapped(alloc, expr, words)
+    } else {
+        push_expr(alloc, expr, words)
+    }
+}
+
+// `const name = e;`
 fn push_let(
     alloc: Global,
     name: &Text,
@@ -545,18 +525,26 @@ fn push_let(
     ensures words { OnOk result (words.new ≡ words.old ++ s.line_words (t.Bind name.now (plain_expr value.now))) }
 {
     push_const(alloc, name, words)?;
-    push_do(alloc, value, words)
+    push_value(alloc, value, words)
 }
 
-/// `e;`
-fn push_do(alloc: Global, value: &Expr, words: &mut Seq<Word>) -> Result<(), AllocError>
+// `e;` behind what stands before it in its statement.
+fn push_value(alloc: Global, value: &Expr, words: &mut Seq<Word>) -> Result<(), AllocError>
     ensures words { OnOk result (words.new ≡ words.old ++ (s.term_words (plain_expr value.now) ++ f.semicolon ∷ [])) }
 {
     push_expr(alloc, value, words)?;
     push_punct(punct::SEMICOLON, words)
 }
 
-/// `let name;`
+// `e;` as a statement.
+fn push_do(alloc: Global, value: &Expr, words: &mut Seq<Word>) -> Result<(), AllocError>
+    ensures words { OnOk result (words.new ≡ words.old ++ s.line_words (t.Run (plain_expr value.now))) }
+{
+    push_starting(alloc, value, words)?;
+    push_punct(punct::SEMICOLON, words)
+}
+
+// `let name;`
 fn push_unset(alloc: Global, name: &Text, words: &mut Seq<Word>) -> Result<(), AllocError>
     ensures words { OnOk result (words.new ≡ words.old ++ s.line_words (t.Hold name.now)) }
 {
@@ -566,7 +554,7 @@ fn push_unset(alloc: Global, name: &Text, words: &mut Seq<Word>) -> Result<(), A
     push_punct(punct::SEMICOLON, words)
 }
 
-/// ` = `
+// ` = `
 fn push_equals(alloc: Global, words: &mut Seq<Word>) -> Result<(), AllocError>
     ensures words { OnOk result (words.new ≡ words.old ++ space ∷ f.equals ∷ space ∷ []) }
 {
@@ -575,7 +563,7 @@ fn push_equals(alloc: Global, words: &mut Seq<Word>) -> Result<(), AllocError>
     push_gap(alloc, " ", words)
 }
 
-/// `target = e;`
+// `target = e;`
 fn push_set(
     alloc: Global,
     target: &Expr,
@@ -584,12 +572,12 @@ fn push_set(
 ) -> Result<(), AllocError>
     ensures words { OnOk result (words.new ≡ words.old ++ s.line_words (t.Put (plain_expr target.now) (plain_expr value.now))) }
 {
-    push_expr(alloc, target, words)?;
+    push_starting(alloc, target, words)?;
     push_equals(alloc, words)?;
-    push_do(alloc, value, words)
+    push_value(alloc, value, words)
 }
 
-/// A keyword and a space.
+// A keyword and a space.
 fn push_keyword(alloc: Global, key: u8, words: &mut Seq<Word>) -> Result<(), AllocError>
     ensures words { OnOk result (words.new ≡ words.old ++ w.Key key ∷ space ∷ []) }
 {
@@ -597,7 +585,7 @@ fn push_keyword(alloc: Global, key: u8, words: &mut Seq<Word>) -> Result<(), All
     push_gap(alloc, " ", words)
 }
 
-/// `throw e;` or `return e;`
+// `throw e;` or `return e;`
 fn push_leaving(
     alloc: Global,
     key: u8,
@@ -608,10 +596,10 @@ fn push_leaving(
         OnOk result (words.new ≡ words.old ++ (w.Key key ∷ space ∷ value_words ++ f.semicolon ∷ [])) }
 {
     push_keyword(alloc, key, words)?;
-    push_do(alloc, value, words)
+    push_value(alloc, value, words)
 }
 
-/// `return;` or `return e;`
+// `return;` or `return e;`
 fn push_return(alloc: Global, value: &Option<Expr>, words: &mut Seq<Word>) -> Result<(), AllocError>
     ensures words { OnOk result (words.new ≡ words.old ++ s.line_words (plain_return value.now)) }
 {
@@ -624,16 +612,16 @@ fn push_return(alloc: Global, value: &Option<Expr>, words: &mut Seq<Word>) -> Re
     }
 }
 
-/// `if (e) `
+// `if (e) `
 fn push_test(alloc: Global, test: &Expr, words: &mut Seq<Word>) -> Result<(), AllocError>
     ensures words { OnOk result (words.new ≡ words.old ++ s.after_if (plain_expr test.now) []) }
 {
     push_keyword(alloc, key::IF, words)?;
-    push_operand(alloc, test, true, words)?;
+    push_wrapped(alloc, test, words)?;
     push_gap(alloc, " ", words)
 }
 
-/// ` finally `
+// ` finally `
 fn push_finally(alloc: Global, words: &mut Seq<Word>) -> Result<(), AllocError>
     ensures words { OnOk result (words.new ≡ words.old ++ space ∷ f.finally_word ∷ space ∷ []) }
 {
@@ -641,7 +629,7 @@ fn push_finally(alloc: Global, words: &mut Seq<Word>) -> Result<(), AllocError>
     push_keyword(alloc, key::FINALLY, words)
 }
 
-/// ` catch (name) `
+// ` catch (name) `
 fn push_catch(alloc: Global, name: &Text, words: &mut Seq<Word>) -> Result<(), AllocError>
     ensures words { OnOk result (words.new ≡ words.old ++ s.catch_start name.now) }
 {
@@ -688,7 +676,7 @@ fn push_line(alloc: Global, line: &Stmt, words: &mut Seq<Word>) -> Result<(), Al
     }
 }
 
-/// The statements, with a line feed between two of them.
+// The statements, with a line feed between two of them.
 #[cycle(stmts)]
 fn push_lines(alloc: Global, body: &[Stmt], words: &mut Seq<Word>) -> Result<(), AllocError>
     ensures words { OnOk result (words.new ≡ words.old ++ s.lines_words (plain_stmts body.now)) }
@@ -702,7 +690,7 @@ fn push_lines(alloc: Global, body: &[Stmt], words: &mut Seq<Word>) -> Result<(),
     Ok(())
 }
 
-/// The statements in braces, on lines of their own.
+// The statements in braces, on lines of their own.
 #[cycle(stmts)]
 fn push_block(alloc: Global, body: &[Stmt], words: &mut Seq<Word>) -> Result<(), AllocError>
     ensures words { OnOk result (words.new ≡ words.old ++ s.block_words (plain_stmts body.now)) }

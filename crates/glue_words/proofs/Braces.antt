@@ -5,9 +5,9 @@ use Rattle.std.proofs.lemmas.Bool.Decides.{nat_tests}
 use Rattle.glue_words.specs.declared.word.Word.{Word}
 use Rattle.glue_words.specs.declared.word.Word.TheVariants.{Punct, Refer}
 use Rattle.glue_words.specs.declared.punct.TheConstants as punct
-use Rattle.glue_words.specs.Facts.{Levels, Last, Below, with_names, opening, blank, closing, leveled, levels_in}
+use Rattle.glue_words.specs.Facts.{Levels, Last, Below, with_names, opening, blank, leveled, levels_in}
 use Rattle.glue_words.specs.Facts.{depth_behind, names_outside}
-use Rattle.glue_words.specs.Loading.{depth_after, depth_of, late_names}
+use Rattle.glue_words.specs.LateNames.{closing, depth_after, depth_of, late_names}
 
 -- ---- how many braces are open
 

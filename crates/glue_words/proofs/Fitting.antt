@@ -21,17 +21,55 @@ use Rattle.glue_words.specs.Names.{bound_name, used_name, hosted_name, local_bou
 use Rattle.glue_words.specs.Names.{bound_in, used_in, hosted_in, local_bound_in, local_in, spliced_in, bound_names}
 use Rattle.glue_words.specs.Spacing.{is_misread, is_loose_access, is_export_access, is_line_note, is_line_gap}
 use Rattle.glue_words.specs.Spacing.{is_wasm, each_next, begins_apart}
-use Rattle.glue_words.specs.Linking.{EachItem, AreAmong, KeepsLocals, TakesExports, TakesKeys, StandAlone}
-use Rattle.glue_words.specs.Linking.{is_access_place, is_named_access, ends_in_gap}
-use Rattle.glue_words.specs.Fitting.{Context, Belongs, AllItems, AreLinked, the_module, is_gap_word, are_free_ends}
-use Rattle.glue_words.specs.Fitting.{is_closed, Fits}
+use Rattle.glue_words.specs.Linking.{EachItem, AreAmong, KeepsLocals, TakesExports, TakesKeys}
+use Rattle.glue_words.specs.Linking.{is_access_place, is_named_access}
+use Rattle.glue_words.proofs.Belonging.{StandAlone, ends_in_gap, Context, Belongs, AllItems, AreLinked}
 use Rattle.glue_words.proofs.Among.{among_both, among_parts, apart_by, apart_parts}
 use Rattle.glue_words.proofs.ByKind.{stands_by_kind, is_sound}
 use Rattle.glue_words.proofs.Spaced.{alone_by_kind, alone_spaced, alone_exported}
 use Rattle.glue_words.proofs.Linked.{names-cons, bound_once_from, resolved_from}
-use Rattle.glue_words.specs.Facts.{Facts, facts, may_meet, opened_name, gated_name, prop_name, may_misread, is_use}
+use Rattle.glue_words.specs.Facts.{Facts, Ends, facts, may_meet, opened_name, gated_name, prop_name, may_misread, is_use}
 use Rattle.glue_words.specs.Facts.{meets_well, is_proper, pairs_in, all_pairs, last_of, ends_of}
 use Rattle.glue_words.proofs.Joined.{open_or, open_turn}
+
+-- ---- when facts fit
+
+-- the only name whose exports are taken
+abbrev pub the_module : List (List ℕ)
+the_module = codes "wasm" ∷ []
+
+abbrev pub is_gap_word : Word → Bool
+is_gap_word (Gap text) = true
+is_gap_word word = false
+
+-- words of these ends stand between any others: they don't begin with the access of an export, and end with a gap
+abbrev pub are_free_ends : Ends → Bool
+are_free_ends None = false
+are_free_ends (Some ends) = not (is_export_access ends.0) && is_gap_word ends.1
+
+-- no note is open behind the turn
+abbrev pub is_closed : Option Bool → Bool
+is_closed None = true
+is_closed (Some b) = not b
+
+-- what kinds alone decide
+abbrev pub stands_alone : Facts → Bool
+stands_alone f = ((f.proper && f.spaced) && (f.outside && is_closed f.turn)) && are_free_ends f.ends
+
+-- facts of words that may stand in a file of such names
+pub record Fits (c : Context) (f : Facts) : Type 0 where
+  pub alone : stands_alone f ≡ true
+  pub idents : list_all is_ident (f.binds ++ (f.uses ++ (f.hosts ++ f.local_binds))) ≡ true
+  pub props : list_all is_prop f.props ≡ true
+  pub resolved : AreAmong f.uses c.declared
+  pub known : AreAmong f.hosts c.hosts
+  pub local : AreAmong f.locals f.local_binds
+  pub apart : AreApart f.local_binds (f.uses ++ f.hosts)
+  pub taken : AreAmong f.takes c.exports
+  pub described : AreAmong f.keys c.keys
+  pub formed : list_all is_computed f.keys ≡ true
+  pub opened : AreApart f.opened the_module
+  pub gated : AreAmong f.gated the_module
 
 -- ---- words are as their kinds say
 

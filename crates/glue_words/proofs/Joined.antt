@@ -12,11 +12,11 @@ use Rattle.glue_words.specs.declared.word.Word.TheVariants.{Host, LocalBind, Loc
 use Rattle.glue_words.specs.declared.punct.TheConstants as punct
 use Rattle.glue_words.specs.declared.key.TheConstants as key
 use Rattle.glue_words.specs.Names.{bound_name, used_name, hosted_name, local_bound_name, local_name, wasm_name}
-use Rattle.glue_words.specs.Names.{spliced_key}
+use Rattle.glue_words.specs.Names.{spliced_key, outer_name, is_export_key}
 use Rattle.glue_words.specs.Spacing.{is_open_after, is_open, notes_stand}
 use Rattle.glue_words.proofs.Spaced.{notes_stand-append}
-use Rattle.glue_words.specs.Facts.{Facts, facts, joined, used_now_name, hosted_now_name, outer_name, prop_name}
-use Rattle.glue_words.specs.Facts.{opened_name, gated_name, meets_well, is_proper, is_export_key, pairs_in, all_pairs}
+use Rattle.glue_words.specs.Facts.{Facts, facts, joined, used_now_name, hosted_now_name, prop_name}
+use Rattle.glue_words.specs.Facts.{opened_name, gated_name, meets_well, is_proper, pairs_in, all_pairs}
 use Rattle.glue_words.specs.Facts.{last_of, ends_of, Ends, turn_of, later, turn_in, seam_names, seam_stands}
 use Rattle.glue_words.specs.Facts.{joined_ends, stands_behind, trail_of, trail_in, lead_in, names_behind, hoisted_in}
 use Rattle.glue_words.specs.Facts.{joined_lead, event_of, Levels, Last, Below, with_names, opening, opening_by, blank}

@@ -10,9 +10,19 @@ use Rattle.values.proofs.Members.{distinct_both}
 use Rattle.glue_words.specs.declared.item.Item.{Item}
 use Rattle.glue_words.specs.declared.word.Word.{Word}
 use Rattle.glue_words.specs.Words.{words_of}
-use Rattle.glue_words.specs.Names.{bound_name, used_name, hosted_name, bound_in, used_in, hosted_in, bound_names, used_names, hosted_names}
+use Rattle.glue_words.specs.Names.{bound_name, used_name, hosted_name, bound_in, used_in, hosted_in, bound_names}
 use Rattle.glue_words.specs.Linking.{EachItem, AreAmong, IsBoundOnce, IsResolved, BindsOnce, Resolves}
 use Rattle.glue_words.proofs.Among.{among_both, among_parts, apart_swap, apart_both, apart_parts, apart_joined, apart_split, distinct_parts}
+
+-- ---- names
+
+-- the names of the module's scope that items use, in order
+abbrev pub used_names : List Item → List (List ℕ)
+used_names items = used_in (words_of items)
+
+-- the host's names that items use, in order
+abbrev pub hosted_names : List Item → List (List ℕ)
+hosted_names items = hosted_in (words_of items)
 
 -- ---- any part
 

@@ -4,13 +4,13 @@ use Rattle.glue_words.specs.declared.punct.TheConstants as punct
 use Rattle.glue_words.specs.Words.{space}
 use Rattle.glue_words.specs.declared.word.Word.{Word}
 use Rattle.glue_words.specs.declared.word.Word.TheVariants.{Punct, Local, LocalBind}
-use Rattle.glue_words.specs.Functions.{further_parameters, parameter_words, further_arguments, argument_words}
-use Rattle.glue_words.specs.Functions.{parenthesised}
+use Rattle.glue_words.specs.Functions.{further_parameters, parameter_words, parenthesised}
 use Rattle.glue_words.specs.Spacing.{joins}
 use Rattle.glue_words.specs.Tables.{punct_text}
 use Rattle.glue_words.specs.Facts.{facts, joined}
+use Rattle.glue_words.proofs.Lists.{further_arguments, argument_words}
 use Rattle.glue_words.proofs.Joined.{facts-append}
-use Rattle.glue_words.proofs.Spread.{of_locals}
+use Rattle.glue_words.proofs.LocalFacts.{of_locals}
 
 -- the first word behind a name of a list
 abbrev behind : List (List ℕ) → Word

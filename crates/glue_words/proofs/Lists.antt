@@ -11,7 +11,7 @@ use Rattle.glue_words.specs.Words.{space}
 use Rattle.glue_words.specs.declared.word.Word.{Word}
 use Rattle.glue_words.specs.declared.word.Word.TheVariants.{Punct, LocalBind, Local}
 use Rattle.glue_words.specs.Ident.{is_ident}
-use Rattle.glue_words.specs.Functions.{further_parameters, parameter_words, further_arguments, argument_words, parenthesised}
+use Rattle.glue_words.specs.Functions.{further_parameters, parameter_words, parenthesised}
 use Rattle.glue_words.specs.Names.{local_bound_in, local_in}
 use Rattle.glue_words.specs.Spacing.{joins, each_next}
 use Rattle.glue_words.specs.Tables.{punct_text}
@@ -20,6 +20,16 @@ use Rattle.glue_words.proofs.Spaced.{is_no_note}
 
 and_true : (a b : Bool) → a ≡ true → b ≡ true → (a && b) ≡ true
 and_true a b h k = ap (λ x. x && b) h ∙ k
+
+-- the further arguments, each after `, `
+abbrev pub further_arguments : List (List ℕ) → List Word
+further_arguments [] = []
+further_arguments (name ∷ names) = Punct punct.COMMA ∷ space ∷ Local name ∷ further_arguments names
+
+-- arguments that are local names, with `, ` between them
+abbrev pub argument_words : List (List ℕ) → List Word
+argument_words [] = []
+argument_words (name ∷ names) = Local name ∷ further_arguments names
 
 -- ---- names
 

@@ -7,7 +7,7 @@ use Rattle.glue_words.specs.declared.word.Word.TheVariants.{Note}
 use Rattle.glue_words.specs.Words.{line_feed}
 use Rattle.glue_words.specs.Facts.{facts, joined}
 use Rattle.glue_words.proofs.Joined.{joined_are}
-use Rattle.glue_words.proofs.Spread.{of_locals}
+use Rattle.glue_words.proofs.LocalFacts.{of_locals}
 
 abbrev pub note_lines : List (List ℕ) → List Word
 note_lines [] = []

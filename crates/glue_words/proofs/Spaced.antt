@@ -13,7 +13,8 @@ use Rattle.glue_words.specs.declared.item.Item.{Item}
 use Rattle.glue_words.specs.Words.{words_of, text_of}
 use Rattle.glue_words.specs.Limits.{keeps_limits, is_gap, first_passes, last_passes}
 use Rattle.glue_words.specs.Spacing.{is_ident_byte, is_export_access, meets, stands, first_word, front_word, each_next, begins_apart, is_open_after, is_open, note_stands, notes_stand}
-use Rattle.glue_words.specs.Linking.{EachItem, AreSpaced, TakesExports, StandAlone, ends_in_gap, is_named_access, IsSpaced, IsExported}
+use Rattle.glue_words.specs.Linking.{EachItem, AreSpaced, TakesExports, is_named_access, IsSpaced, IsExported}
+use Rattle.glue_words.proofs.Belonging.{StandAlone, ends_in_gap}
 use Rattle.glue_words.proofs.ByKind.{stands_by_kind, is_sound, is_sound_next, is_plain, all_sound_from_plain, gap_last, gap_all, each_from_kind, limits_from_sound}
 
 and_true : (a b : Bool) → a ≡ true → b ≡ true → (a && b) ≡ true

@@ -14,6 +14,8 @@ use Rattle.glue_words.specs.declared.key.TheConstants as key
 use Rattle.glue_words.specs.Tables.{punct_table, key_table, regex_table}
 use Rattle.glue_words.specs.Limits.{is_gap, is_template}
 use Rattle.glue_words.specs.Names.{bound_in, used_in, hosted_in, local_bound_in, local_in, wasm_in, spliced_in}
+use Rattle.glue_words.specs.Names.{outer_name, is_export_key}
+use Rattle.glue_words.specs.LateNames.{closing}
 use Rattle.glue_words.specs.Spacing.{joins, is_big_number, is_export_access, is_line_note, is_line_gap, notes_stand}
 use Rattle.glue_words.specs.Linking.{is_access_place}
 
@@ -28,11 +30,6 @@ used_now_name word = None
 abbrev pub hosted_now_name : Word → Option (List ℕ)
 hosted_now_name (Host name true) = Some name
 hosted_now_name word = None
-
--- a name for the outside
-abbrev pub outer_name : Word → Option (List ℕ)
-outer_name (Outer name) = Some name
-outer_name word = None
 
 -- the name of a property
 abbrev pub prop_name : Word → Option (List ℕ)
@@ -132,10 +129,6 @@ is_proper (Regex place) = nat_lt place (length regex_table)
 is_proper (Gap text) = is_gap text
 is_proper (Tpl text) = is_template text
 is_proper word = true
-
-abbrev pub is_export_key : Word → Bool
-is_export_key (Key place) = place == key.EXPORT
-is_export_key word = false
 
 -- ---- neighbours
 
@@ -269,11 +262,6 @@ leveled word levels = levels
 abbrev pub levels_in : List Word → Levels
 levels_in [] = Last [] 0
 levels_in (word ∷ words) = leveled word (levels_in words)
-
--- one brace less
-abbrev pub closing : ℕ → ℕ
-closing zero = zero
-closing (suc depth) = depth
 
 -- how many braces are open behind words, where so many are open before them
 abbrev pub depth_behind : ℕ → Levels → ℕ

@@ -1,7 +1,7 @@
--- Lists of parameters and of arguments.
+-- Lists of parameters, and words in parentheses.
 use Rattle.std.specs.Prelude.{ℕ, List, [], ◌∷◌, ◌++◌}
 use Rattle.glue_words.specs.declared.word.Word.{Word}
-use Rattle.glue_words.specs.declared.word.Word.TheVariants.{Punct, LocalBind, Local}
+use Rattle.glue_words.specs.declared.word.Word.TheVariants.{Punct, LocalBind}
 use Rattle.glue_words.specs.declared.punct.TheConstants as punct
 use Rattle.glue_words.specs.Words.{space}
 
@@ -14,16 +14,6 @@ further_parameters (name ∷ names) = Punct punct.COMMA ∷ space ∷ LocalBind 
 abbrev pub parameter_words : List (List ℕ) → List Word
 parameter_words [] = []
 parameter_words (name ∷ names) = LocalBind name ∷ further_parameters names
-
--- the further arguments, each after `, `
-abbrev pub further_arguments : List (List ℕ) → List Word
-further_arguments [] = []
-further_arguments (name ∷ names) = Punct punct.COMMA ∷ space ∷ Local name ∷ further_arguments names
-
--- arguments that are local names, with `, ` between them
-abbrev pub argument_words : List (List ℕ) → List Word
-argument_words [] = []
-argument_words (name ∷ names) = Local name ∷ further_arguments names
 
 -- words in parentheses
 abbrev pub parenthesised : List Word → List Word

@@ -1,16 +1,11 @@
 pub mod Facts
-pub mod Fitting
 pub mod Functions
 pub mod Ident
+pub mod LateNames
 pub mod Limits
 pub mod Linking
 pub mod Literal
-pub mod LiteralAt
-pub mod Loading
-pub mod Marked
 pub mod Names
-pub mod Reads
 pub mod Spacing
-pub mod StandIns
 pub mod Tables
 pub mod Words

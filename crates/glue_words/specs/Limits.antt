@@ -1,5 +1,5 @@
 -- What each kind of word may hold.
-use Rattle.std.specs.Prelude.{ℕ, Bool, true, false, ◌&&◌, ◌||◌, ◌==◌, nat_lt, List, [], ◌∷◌, length, IsTrue, if◌then◌else◌}
+use Rattle.std.specs.Prelude.{ℕ, Bool, true, false, ◌&&◌, ◌||◌, ◌==◌, nat_lt, List, [], ◌∷◌, length, if◌then◌else◌}
 use Rattle.std.specs.List.{list_all}
 use Rattle.std.specs.Str.{chars}
 use Rattle.glue_words.specs.Ident.{is_ident, is_rest}
@@ -81,10 +81,6 @@ keeps_limits (Prop name) = is_prop name
 keeps_limits (Wasm name) = true
 keeps_limits (Outer name) = true
 keeps_limits (Splice text) = true
-
--- a word keeps its limits
-abbrev pub KeepsLimits : Word → Type 0
-KeepsLimits word = IsTrue (keeps_limits word)
 
 -- a computed property key: it begins with `[` and ends with `]`
 abbrev pub is_computed : List ℕ → Bool

@@ -1,5 +1,5 @@
 -- Items that are linked. Each part is a fact about an item with the items before and after it.
-use Rattle.std.specs.Prelude.{◌≡◌, ℕ, Bool, true, false, not, ◌||◌, ◌==◌, List, [], ◌∷◌, ◌++◌, Option, Some, None, IsTrue}
+use Rattle.std.specs.Prelude.{ℕ, Bool, true, false, not, ◌||◌, ◌==◌, List, [], ◌∷◌, ◌++◌, Option, Some, IsTrue}
 use Rattle.std.specs.List.{list_all}
 use Rattle.values.specs.Lists.{IsIn, AreDistinct, AreApart}
 use Rattle.glue_words.specs.Names.{bound_in, used_in, hosted_in, local_bound_in, local_in, wasm_in, spliced_in, bound_names}
@@ -7,7 +7,7 @@ use Rattle.glue_words.specs.Words.{words_of}
 use Rattle.glue_words.specs.Limits.{keeps_limits, is_computed}
 use Rattle.glue_words.specs.Spacing.{stands, each_next, front_word, begins_apart, is_open, notes_stand, is_wasm}
 use Rattle.glue_words.specs.declared.word.Word.{Word}
-use Rattle.glue_words.specs.declared.word.Word.TheVariants.{Punct, Gap, Refer}
+use Rattle.glue_words.specs.declared.word.Word.TheVariants.{Punct, Refer}
 use Rattle.glue_words.specs.declared.item.Item.{Item}
 use Rattle.glue_words.specs.declared.punct.TheConstants as punct
 
@@ -63,19 +63,6 @@ pub record AreSpaced (inside : Bool) (words : List Word) (next : Option Word) : 
   pub spaced : IsTrue (each_next stands words next)
   pub apart : IsTrue (begins_apart words)
   pub notes : IsTrue (notes_stand inside words)
-
--- the words end with a gap
-abbrev pub ends_in_gap : List Word → Bool
-ends_in_gap [] = false
-ends_in_gap (Gap text ∷ []) = true
-ends_in_gap (word ∷ []) = false
-ends_in_gap (word ∷ other ∷ words) = ends_in_gap (other ∷ words)
-
--- the words are spaced wherever they stand: they end with a gap, and leave no note open
-pub record StandAlone (words : List Word) : Type 0 where
-  pub spaced : AreSpaced false words None
-  pub ends : IsTrue (ends_in_gap words)
-  pub closed : is_open false words ≡ false
 
 -- the names that the item declares are new, distinct, and no host's
 abbrev pub IsBoundOnce : List (List ℕ) → List Item → Item → List Item → Type 0

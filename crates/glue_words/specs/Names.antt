@@ -1,8 +1,10 @@
--- The names that words hold, by the kind of the word.
-use Rattle.std.specs.Prelude.{ℕ, List, Option, Some, None}
+-- The names that words hold, by the kind of the word, and the keyword that publishes them.
+use Rattle.std.specs.Prelude.{ℕ, Bool, false, ◌==◌, List, Option, Some, None}
 use Rattle.std.specs.List.{filter_map}
 use Rattle.glue_words.specs.declared.word.Word.{Word}
-use Rattle.glue_words.specs.declared.word.Word.TheVariants.{Bind, Refer, Host, LocalBind, Local, Wasm, Splice}
+use Rattle.glue_words.specs.declared.word.Word.TheVariants.{Key, Bind, Refer, Host, LocalBind, Local, Wasm, Splice}
+use Rattle.glue_words.specs.declared.word.Word.TheVariants.{Outer}
+use Rattle.glue_words.specs.declared.key.TheConstants as key
 use Rattle.glue_words.specs.declared.item.Item.{Item}
 use Rattle.glue_words.specs.Words.{words_of}
 
@@ -41,6 +43,11 @@ abbrev pub spliced_key : Word → Option (List ℕ)
 spliced_key (Splice text) = Some text
 spliced_key word = None
 
+-- a name for the outside
+abbrev pub outer_name : Word → Option (List ℕ)
+outer_name (Outer name) = Some name
+outer_name word = None
+
 -- the same of words, in order
 abbrev pub bound_in : List Word → List (List ℕ)
 bound_in words = filter_map bound_name words
@@ -67,10 +74,7 @@ spliced_in words = filter_map spliced_key words
 abbrev pub bound_names : List Item → List (List ℕ)
 bound_names items = bound_in (words_of items)
 
--- the names of the module's scope that items use, in order
-abbrev pub used_names : List Item → List (List ℕ)
-used_names items = used_in (words_of items)
-
--- the host's names that items use, in order
-abbrev pub hosted_names : List Item → List (List ℕ)
-hosted_names items = hosted_in (words_of items)
+-- the word is the keyword `export`
+abbrev pub is_export_key : Word → Bool
+is_export_key (Key place) = place == key.EXPORT
+is_export_key word = false

@@ -3,7 +3,7 @@ ghost use Rattle.std.specs.Prelude.{◌≡◌, ◌||◌, ◌==◌, ◌++◌, ◌
 ghost use Rattle.std.specs.List.{list_all};
 ghost use Rattle.std.specs.Str.{chars};
 ghost use Rattle.std.specs.String.{string_bytes};
-ghost use Rattle.glue_words.specs.Ident.{is_reserved as reserved, is_first as first, is_rest as rest, kept_char as kept, has_ident_form as has_form, is_ident, cleaned_name, to_ident};
+ghost use Rattle.glue_words.specs.Ident as spec;
 
 use std::alloc::{AllocError, Global};
 use unicode_ident::{is_xid_continue, is_xid_start};
@@ -61,28 +61,28 @@ pub const RESERVED: [&str; 48] = [
 ];
 
 fn is_reserved(name: &str) -> bool
-    ensures { result ≡ reserved name.now }
+    ensures { result ≡ spec.is_reserved name.now }
 {
     RESERVED.contains(&name)
 }
 
 /// Whether an identifier may begin with the character.
 fn is_first(ch: char) -> bool
-    ensures { result ≡ first ch }
+    ensures { result ≡ spec.is_first ch }
 {
     ch == '$' || ch == '_' || is_xid_start(ch)
 }
 
 /// Whether an identifier may go on with the character.
 fn is_rest(ch: char) -> bool
-    ensures { result ≡ rest ch }
+    ensures { result ≡ spec.is_rest ch }
 {
     ch == '$' || ch == '_' || is_xid_continue(ch)
 }
 
 /// Whether each character may continue an identifier.
 fn all_rest(text: &str) -> bool
-    ensures { result ≡ list_all rest (chars text.now) }
+    ensures { result ≡ list_all spec.is_rest (chars text.now) }
 {
     text.chars().all(is_rest)
 }
@@ -90,7 +90,7 @@ fn all_rest(text: &str) -> bool
 /// Whether the name has a first character and others that may follow it.
 #[tactic(auto, using(std::proofs::lemmas::Str::chars_past_char))]
 fn has_ident_form(name: &str) -> bool
-    ensures { result ≡ has_form (chars name.now) }
+    ensures { result ≡ spec.has_ident_form (chars name.now) }
 {
     let mut others = name.chars();
     match others.next() {
@@ -104,21 +104,21 @@ fn has_ident_form(name: &str) -> bool
 /// It begins with `$`, `_` or a character that Unicode lets begin one, and goes on with those that may continue one.
 #[tactic(auto, unfolding(crate::specs::Ident::is_ident))]
 pub fn is_valid_ident(name: &str) -> bool
-    ensures ident { result ≡ is_ident name.now }
+    ensures ident { result ≡ spec.is_ident name.now }
 {
     !is_reserved(name) && has_ident_form(name)
 }
 
 /// The character, or `_` where no identifier holds it.
 fn kept_char(ch: char) -> char
-    ensures { result ≡ kept ch }
+    ensures { result ≡ spec.kept_char ch }
 {
     if is_rest(ch) { ch } else { '_' }
 }
 
 #[tactic(auto, unfolding(crate::specs::Ident::cleaned_name))]
 fn cleaned(alloc: Global, name: &str) -> Result<String, AllocError>
-    ensures { IfOk result (λ s. string_bytes s ≡ cleaned_name name.now) }
+    ensures { IfOk result (λ s. string_bytes s ≡ spec.cleaned_name name.now) }
 {
     name.chars().map(kept_char).collect(alloc)
 }
@@ -126,8 +126,8 @@ fn cleaned(alloc: Global, name: &str) -> Result<String, AllocError>
 /// The name made an identifier: `_` for each character that no identifier holds, and `_` in front where that is none yet.
 #[tactic(auto, unfolding(crate::specs::Ident::to_ident))]
 pub fn to_valid_ident(alloc: Global, name: &str) -> Result<String, AllocError>
-    ensures value { IfOk result (λ s. string_bytes s ≡ to_ident name.now) }
-    ensures ident { IfOk result (λ s. IsTrue (is_ident (string_bytes s))) }
+    ensures value { IfOk result (λ s. string_bytes s ≡ spec.to_ident name.now) }
+    ensures ident { IfOk result (λ s. IsTrue (spec.is_ident (string_bytes s))) }
 {
     let clean = cleaned(alloc, name)?;
     if is_valid_ident(clean.as_str()) {

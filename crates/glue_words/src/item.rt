@@ -41,7 +41,7 @@ pub enum Role {
     Namespace(Seq<Text>),
     /// The assignment of a thing to a longer path: the path, the thing, and the name that it is bound to.
     Assign(Seq<Text>, Thing, Text),
-    /// A function that other items call, by its key.
+    /// A function that other items call, by the name that it is bound to.
     Helper(Text),
     /// Another part of the file's body.
     Body,

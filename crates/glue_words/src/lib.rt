@@ -5,16 +5,13 @@
 //! is declared or the host's, and neighbouring words stand apart. The proofs show that a string literal is read back
 //! as its text, and when words stand apart by their kinds.
 //!
-//! Words are put together by `WordBuilder`, or stand as a text in the marked notation (`b@name` declares, `u@name`
-//! uses, and so on), which `specs/Marked.antt` defines: `marked` reads exactly that (clause `reads`), and `shipped`
-//! reads texts that are known to be in it. `renamed_words` and `spread_words` put names and words for the stand-ins
-//! of a text. Punctuation and keywords go by the names of `punct` and `key`.
+//! Words are put together by `WordBuilder`. Punctuation and keywords go by the names of `punct` and `key`.
 //!
 //! `specs/Facts.antt` says what words hold and how they stand, as one record that computes and is put together from
 //! the parts'. Items whose facts fit are linked (`proofs/Fitting.antt`).
 //!
 //! It stands on `values`, and on the tables of Unicode in `unicode_ident`. It knows nothing of descriptions,
-//! adapters or targets.
+//! adapters or targets, nor of the notation in which words are written as a text.
 #![tactic(auto)]
 
 mod builder;
@@ -23,17 +20,8 @@ mod ident;
 mod item;
 pub mod key;
 mod literal;
-mod literal_bytes;
-mod mark_fault;
-mod mark_kind;
-mod mark_length;
-mod mark_reader;
-mod mark_text;
-mod mark_word;
 mod printing;
 pub mod punct;
-mod shipped_words;
-mod stand_ins;
 mod tables;
 mod word;
 
@@ -42,10 +30,6 @@ pub use computed::is_computed_key;
 pub use ident::{is_valid_ident, to_valid_ident};
 pub use item::{Item, Role, Thing};
 pub use literal::js_string_literal;
-pub use mark_fault::MarkFault;
-pub use mark_reader::marked;
 pub use printing::print;
-pub use shipped_words::shipped;
-pub use stand_ins::{renamed_words, spread_words};
 pub use tables::{key_text, punct_text, regex_text};
 pub use word::{NoteKind, Word};

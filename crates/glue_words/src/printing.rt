@@ -4,7 +4,7 @@ ghost use Rattle.std.specs.List.{flat_map};
 ghost use Rattle.std.specs.String.{string_bytes};
 ghost use Rattle.std.specs.Fmt.{signed_decimal};
 ghost use Rattle.glue_words.specs.Literal.{literal};
-ghost use Rattle.glue_words.specs.Words.{access, note_body, note_char, note_text as text_of_note, outer, printed, text_of};
+ghost use Rattle.glue_words.specs.Words as spec;
 
 use crate::ident::is_valid_ident;
 use crate::item::Item;
@@ -16,7 +16,7 @@ use std::alloc::{AllocError, Global};
 /// Writes the characters of a note: `* /` for `*/`, and a space for the end of a line.
 #[tactic(auto, unfolding(crate::specs::Words::note_body))]
 fn push_note_body(out: &mut String, text: &str) -> Result<(), AllocError>
-    ensures { IfOk result (λ _. string_bytes out.new ≡ string_bytes out.old ++ note_body text.now) }
+    ensures { IfOk result (λ _. string_bytes out.new ≡ string_bytes out.old ++ spec.note_body text.now) }
 {
     let mut after_star = false;
     for ch in text.chars() {
@@ -27,7 +27,7 @@ fn push_note_body(out: &mut String, text: &str) -> Result<(), AllocError>
 }
 
 fn push_note_char(out: &mut String, after_star: bool, ch: char) -> Result<(), AllocError>
-    ensures { IfOk result (λ _. string_bytes out.new ≡ string_bytes out.old ++ note_char after_star ch) }
+    ensures { IfOk result (λ _. string_bytes out.new ≡ string_bytes out.old ++ spec.note_char after_star ch) }
 {
     match ch {
         '/' if after_star => out.push_str(" /"),
@@ -38,14 +38,14 @@ fn push_note_char(out: &mut String, after_star: bool, ch: char) -> Result<(), Al
 
 /// Writes a mark and the characters of a note behind it.
 fn push_marked(out: &mut String, mark: &str, text: &str) -> Result<(), AllocError>
-    ensures { IfOk result (λ _. string_bytes out.new ≡ string_bytes out.old ++ mark.now ++ note_body text.now) }
+    ensures { IfOk result (λ _. string_bytes out.new ≡ string_bytes out.old ++ mark.now ++ spec.note_body text.now) }
 {
     out.push_str(mark)?;
     push_note_body(out, text)
 }
 
 fn push_note(out: &mut String, kind: NoteKind, text: &str) -> Result<(), AllocError>
-    ensures { IfOk result (λ _. string_bytes out.new ≡ string_bytes out.old ++ text_of_note kind text.now) }
+    ensures { IfOk result (λ _. string_bytes out.new ≡ string_bytes out.old ++ spec.note_text kind text.now) }
 {
     match kind {
         NoteKind::Open => out.push_str("/**"),
@@ -68,7 +68,7 @@ fn push_literal(alloc: Global, out: &mut String, text: &str) -> Result<(), Alloc
 
 #[tactic(auto, unfolding(crate::specs::Words::access))]
 fn push_access(alloc: Global, out: &mut String, name: &str) -> Result<(), AllocError>
-    ensures { IfOk result (λ _. string_bytes out.new ≡ string_bytes out.old ++ access name.now) }
+    ensures { IfOk result (λ _. string_bytes out.new ≡ string_bytes out.old ++ spec.access name.now) }
 {
     if is_valid_ident(name) {
         out.push('.')?;
@@ -81,7 +81,7 @@ fn push_access(alloc: Global, out: &mut String, name: &str) -> Result<(), AllocE
 
 #[tactic(auto, unfolding(crate::specs::Words::outer))]
 fn push_outer(alloc: Global, out: &mut String, name: &str) -> Result<(), AllocError>
-    ensures { IfOk result (λ _. string_bytes out.new ≡ string_bytes out.old ++ outer name.now) }
+    ensures { IfOk result (λ _. string_bytes out.new ≡ string_bytes out.old ++ spec.outer name.now) }
 {
     if is_valid_ident(name) {
         return out.push_str(name);
@@ -98,7 +98,7 @@ fn push_number(alloc: Global, out: &mut String, value: i64) -> Result<(), AllocE
 
 /// Writes the text of a word.
 fn push_word(alloc: Global, out: &mut String, word: &Word) -> Result<(), AllocError>
-    ensures { IfOk result (λ _. string_bytes out.new ≡ string_bytes out.old ++ text_of word.now) }
+    ensures { IfOk result (λ _. string_bytes out.new ≡ string_bytes out.old ++ spec.text_of word.now) }
 {
     match word {
         Word::Punct(place) => out.push_str(punct_text(*place)),
@@ -122,7 +122,7 @@ fn push_word(alloc: Global, out: &mut String, word: &Word) -> Result<(), AllocEr
 }
 
 fn push_words(alloc: Global, out: &mut String, words: &[Word]) -> Result<(), AllocError>
-    ensures { IfOk result (λ _. string_bytes out.new ≡ string_bytes out.old ++ flat_map text_of words.now) }
+    ensures { IfOk result (λ _. string_bytes out.new ≡ string_bytes out.old ++ flat_map spec.text_of words.now) }
 {
     for word in words {
         push_word(alloc, out, word)?;
@@ -132,7 +132,7 @@ fn push_words(alloc: Global, out: &mut String, words: &[Word]) -> Result<(), All
 
 /// The text of items: the texts of their words, in order. Want of memory is its only error.
 pub fn print(alloc: Global, items: &[Item]) -> Result<String, AllocError>
-    ensures text { IfOk result (λ text. string_bytes text ≡ printed items.now) }
+    ensures text { IfOk result (λ text. string_bytes text ≡ spec.printed items.now) }
 {
     let mut out = String::new(alloc);
     for item in items {

@@ -1,6 +1,6 @@
 //! The fixed texts, by their places.
 ghost use Rattle.std.specs.Prelude.{◌≡◌, [], map, slice_index_or};
-ghost use Rattle.glue_words.specs.Tables.{punct_text as punct_at, key_text as key_at, regex_text as regex_at};
+ghost use Rattle.glue_words.specs.Tables as spec;
 
 /// Punctuation, in the order of the places of `punct`.
 const PUNCTUATION: [&str; 45] = [
@@ -12,7 +12,7 @@ const PUNCTUATION: [&str; 45] = [
 /// The punctuation at a place, and the empty text past the last.
 #[tactic(auto, unfolding(crate::specs::Tables::punct_text))]
 pub fn punct_text(place: u8) -> &'static str
-    ensures text { result.now ≡ punct_at place }
+    ensures text { result.now ≡ spec.punct_text place }
 {
     text_at(&PUNCTUATION, place)
 }
@@ -67,7 +67,7 @@ const KEYWORDS: [&str; 43] = [
 /// The keyword at a place, and the empty text past the last.
 #[tactic(auto, unfolding(crate::specs::Tables::key_text))]
 pub fn key_text(place: u8) -> &'static str
-    ensures text { result.now ≡ key_at place }
+    ensures text { result.now ≡ spec.key_text place }
 {
     text_at(&KEYWORDS, place)
 }
@@ -78,7 +78,7 @@ const REGEXES: [&str; 2] = ["/\\.js$/", "/\\[object ([^\\]]+)\\]/"];
 /// The regular expression at a place, and the empty text from 2 up.
 #[tactic(auto, unfolding(crate::specs::Tables::regex_text))]
 pub fn regex_text(place: u8) -> &'static str
-    ensures text { result.now ≡ regex_at place }
+    ensures text { result.now ≡ spec.regex_text place }
 {
     text_at(&REGEXES, place)
 }

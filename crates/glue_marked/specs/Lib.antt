@@ -1,0 +1,4 @@
+pub mod LiteralAt
+pub mod Marked
+pub mod Reads
+pub mod StandIns
