@@ -1,4 +1,2 @@
-pub mod Lists
-pub mod Rows
 pub mod Sections
 pub mod Utf8

@@ -1,4 +1,1 @@
-pub mod Reading
-pub mod Thin
-pub mod Document
 pub mod Lowering

@@ -9,8 +9,8 @@ ghost use Rattle.wasm_core.specs.Edits.{without_custom};
 ghost use Rattle.glue_lower.specs.Lowering.{described_by, glue_sections, listed, lowered, lowered_of, section_name};
 
 use crate::document::read_description;
-use crate::reads::LowerFault;
-use glue_shared::{Description, Lowered, NonstandardWitSection, Settings, WasmBindgenAux};
+use glue_json::{Counts, LowerFault};
+use glue_shared::{Description, Lowered, Settings};
 use std::alloc::Global;
 use wasm_core::{Custom, Module};
 
@@ -80,7 +80,7 @@ impl Lowering for JsonLowering {
 // The section that holds the description, or none. Fails where there are two.
 fn glue_section(customs: &[Custom]) -> Result<Option<&Custom>, LowerFault>
     ensures ok { IfOk result (λ s. glue_sections customs.now ≡ listed (option_map (λ c. c.now) s)) }
-    ensures failed { result ≡ Err LowerFault.Failed → described_by (glue_sections customs.now) ≡ None }
+    ensures failed { result ≡ Err LowerFault.Failed → (c : _) → described_by c (glue_sections customs.now) ≡ None }
     ensures memory { result ≢ Err LowerFault.OutOfMemory }
 {
     let mut found = None;
@@ -95,37 +95,29 @@ fn glue_section(customs: &[Custom]) -> Result<Option<&Custom>, LowerFault>
     Ok(found)
 }
 
-// What the custom sections describe.
-fn read_customs(alloc: Global, customs: &[Custom]) -> Result<Option<Description>, LowerFault>
-    ensures ok { IfOk result (λ d. described_by (glue_sections customs.now) ≡ Some d) }
-    ensures failed { result ≡ Err LowerFault.Failed → described_by (glue_sections customs.now) ≡ None }
+// What the custom sections describe, of a module with so many entries.
+fn read_customs(
+    alloc: Global,
+    counts: &Counts,
+    customs: &[Custom],
+) -> Result<Description, LowerFault>
+    ensures ok { IfOk result (λ d. described_by counts.now (glue_sections customs.now) ≡ Some d) }
+    ensures failed { result ≡ Err LowerFault.Failed → described_by counts.now (glue_sections customs.now) ≡ None }
 {
     match glue_section(customs)? {
-        Some(section) => read_description(alloc, section.bytes.as_slice()),
-        None => Ok(Some(Description::empty(alloc))),
+        Some(section) => read_description(alloc, counts, section.bytes.as_slice()),
+        None => Ok(Description::empty(alloc)),
     }
 }
 
-// The module without the section, with its description or with an empty one.
-fn with_description(alloc: Global, module: Module, description: Option<Description>) -> Lowered
+// The module without the section, with its description.
+fn with_description(module: Module, description: Description) -> Lowered
     ensures { result ≡ lowered (without_custom section_name «module») description }
 {
     let mut module = module;
     module.remove_custom("__wbg_glue");
-    match description {
-        Some(Description { wit, aux }) => Lowered {
-            module,
-            wit,
-            aux,
-            is_read: true,
-        },
-        None => Lowered {
-            module,
-            wit: NonstandardWitSection::empty(alloc),
-            aux: WasmBindgenAux::empty(alloc),
-            is_read: false,
-        },
-    }
+    let Description { wit, aux } = description;
+    Lowered { module, wit, aux }
 }
 
 // The module without the section, and its description.
@@ -134,8 +126,8 @@ fn read_module(alloc: Global, settings: &Settings, module: Module) -> Result<Low
     ensures ok { IfOk result (λ l. lowered_of settings.now «module» ≡ Some l) }
     ensures failed { result ≡ Err LowerFault.Failed → lowered_of settings.now «module» ≡ None }
 {
-    match read_customs(alloc, module.customs()) {
-        Ok(description) => Ok(with_description(alloc, module, description)),
+    match read_customs(alloc, &Counts::of(&module), module.customs()) {
+        Ok(description) => Ok(with_description(module, description)),
         Err(fault) => {
             drop(module);
             Err(fault)

@@ -1,9 +1,9 @@
 -- What a description keeps of a module: the entries that its ids name.
 use Rattle.std.specs.Prelude.{ℕ, ◌+◌, ◌^◌, Bool, true, false, List, [], ◌∷◌, ◌++◌, Option, Some, None, option_map, slice_get, nat_lt, if◌then◌else◌}
 use Rattle.std.specs.List.{flat_map, filter}
-use Rattle.wasm_ops.specs.declared.ids.ImportId.{ImportId}
-use Rattle.wasm_file.specs.declared.entries.ExportItem.{ExportItem}
-use Rattle.wasm_file.specs.declared.entries.ExportItem.TheVariants as items
+use Rattle.wasm_core.specs.ids.ImportId.{ImportId}
+use Rattle.wasm_core.specs.entries.ExportItem.{ExportItem}
+use Rattle.wasm_core.specs.entries.ExportItem.TheVariants as items
 use Rattle.wasm_core.specs.declared.types.Import.{Import}
 use Rattle.wasm_core.specs.declared.types.ImportKind.{ImportKind}
 use Rattle.wasm_core.specs.declared.types.ImportKind.TheVariants as kinds

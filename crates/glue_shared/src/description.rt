@@ -21,8 +21,6 @@ pub struct Lowered {
     pub module: Module,
     pub wit: NonstandardWitSection,
     pub aux: WasmBindgenAux,
-    /// Whether all that is described is of a form that is built. Where it is false `wit` and `aux` are empty.
-    pub is_read: bool,
 }
 
 impl NonstandardWitSection {

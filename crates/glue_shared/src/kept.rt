@@ -1,9 +1,9 @@
 //! What a description keeps of a module.
 ghost use Rattle.std.specs.Prelude.{◌≡◌, ◌∷◌, [], ◌++◌, option_map, slice_get, Some, IfOk, OnOk};
 ghost use Rattle.std.specs.List.{flat_map, filter};
-ghost use Rattle.wasm_file.specs.declared.entries.ExportItem.TheVariants as items;
+ghost use Rattle.wasm_core.specs.entries.ExportItem.TheVariants as items;
 ghost use Rattle.glue_shared.specs.Names.{code_of};
-ghost use Rattle.glue_shared.specs.Roots.{adapter_items, brought_in as what_it_brings, first_place, import_items, instruction_items, is_entry, is_live_item as the_live_test, kind_item as the_item, listed, memory_at, named_items, part_items, roots_of};
+ghost use Rattle.glue_shared.specs.Roots as spec;
 
 use crate::adapter::{Adapter, AdapterId, AdapterKind, Instruction, NonstandardWitSection};
 use crate::aux::WasmBindgenAux;
@@ -15,7 +15,7 @@ use wasm_core::{
 
 // Adds an item, if there is one.
 fn push_listed(out: &mut Vec<ExportItem>, item: Option<ExportItem>) -> Result<(), AllocError>
-    ensures pushed { OnOk result (out.new.items ≡ out.old.items ++ listed item) }
+    ensures pushed { OnOk result (out.new.items ≡ out.old.items ++ spec.listed item) }
 {
     match item {
         None => Ok(()),
@@ -60,7 +60,7 @@ fn push_written(
     realloc: Option<FuncId>,
     memory: MemoryId,
 ) -> Result<(), AllocError>
-    ensures pushed { OnOk result (out.new.items ≡ out.old.items ++ items.Func malloc ∷ (listed (option_map items.Func realloc) ++ items.Memory memory ∷ [])) }
+    ensures pushed { OnOk result (out.new.items ≡ out.old.items ++ items.Func malloc ∷ (spec.listed (option_map items.Func realloc) ++ items.Memory memory ∷ [])) }
 {
     out.push(ExportItem::Func(malloc))?;
     push_listed(out, func_item(realloc))?;
@@ -70,7 +70,7 @@ fn push_written(
 
 // Adds what an instruction names.
 fn push_instruction(out: &mut Vec<ExportItem>, instruction: &Instruction) -> Result<(), AllocError>
-    ensures pushed { OnOk result (out.new.items ≡ out.old.items ++ instruction_items instruction.now) }
+    ensures pushed { OnOk result (out.new.items ≡ out.old.items ++ spec.instruction_items instruction.now) }
 {
     match instruction {
         Instruction::StringToMemory(malloc, realloc, memory)
@@ -99,7 +99,7 @@ fn push_instruction(out: &mut Vec<ExportItem>, instruction: &Instruction) -> Res
 
 // Adds what code names.
 fn push_code(out: &mut Vec<ExportItem>, code: &[Instruction]) -> Result<(), AllocError>
-    ensures pushed { OnOk result (out.new.items ≡ out.old.items ++ flat_map instruction_items code.now) }
+    ensures pushed { OnOk result (out.new.items ≡ out.old.items ++ flat_map spec.instruction_items code.now) }
 {
     for instruction in code {
         push_instruction(out, instruction)?;
@@ -109,7 +109,7 @@ fn push_code(out: &mut Vec<ExportItem>, code: &[Instruction]) -> Result<(), Allo
 
 // Adds what an adapter's code names.
 fn push_adapter(out: &mut Vec<ExportItem>, adapter: &Adapter) -> Result<(), AllocError>
-    ensures pushed { OnOk result (out.new.items ≡ out.old.items ++ flat_map instruction_items (code_of (Some adapter.now))) }
+    ensures pushed { OnOk result (out.new.items ≡ out.old.items ++ flat_map spec.instruction_items (code_of (Some adapter.now))) }
 {
     match &adapter.kind {
         AdapterKind::Local(code) => push_code(out, code.as_slice()),
@@ -119,7 +119,7 @@ fn push_adapter(out: &mut Vec<ExportItem>, adapter: &Adapter) -> Result<(), Allo
 
 // Adds what the adapters name.
 fn push_adapters(out: &mut Vec<ExportItem>, wit: &NonstandardWitSection) -> Result<(), AllocError>
-    ensures pushed { OnOk result (out.new.items ≡ out.old.items ++ flat_map adapter_items wit.now.adapters) }
+    ensures pushed { OnOk result (out.new.items ≡ out.old.items ++ flat_map spec.adapter_items wit.now.adapters) }
 {
     for (_, adapter) in wit.adapters.iter() {
         push_adapter(out, adapter)?;
@@ -129,7 +129,7 @@ fn push_adapters(out: &mut Vec<ExportItem>, wit: &NonstandardWitSection) -> Resu
 
 // The entry that an import brings in.
 fn kind_item(kind: ImportKind) -> ExportItem
-    ensures item { result ≡ the_item kind }
+    ensures item { result ≡ spec.kind_item kind }
 {
     match kind {
         ImportKind::Func(id) => ExportItem::Func(id),
@@ -142,7 +142,7 @@ fn kind_item(kind: ImportKind) -> ExportItem
 
 // What the import at a place brings in, where it is there.
 fn brought_in(module: &Module, id: ImportId) -> Option<ExportItem>
-    ensures item { result ≡ what_it_brings (slice_get «module».now.imports id.0) }
+    ensures item { result ≡ spec.brought_in (slice_get «module».now.imports id.0) }
 {
     match module.imports().get(id.0 as usize) {
         Some(Some(import)) => Some(kind_item(import.kind)),
@@ -157,7 +157,7 @@ fn push_imports(
     module: &Module,
     pairs: &[(ImportId, AdapterId)],
 ) -> Result<(), AllocError>
-    ensures pushed { OnOk result (out.new.items ≡ out.old.items ++ flat_map (import_items «module».now) pairs.now) }
+    ensures pushed { OnOk result (out.new.items ≡ out.old.items ++ flat_map (spec.import_items «module».now) pairs.now) }
 {
     for pair in pairs {
         push_listed(out, brought_in(module, pair.0))?;
@@ -167,7 +167,7 @@ fn push_imports(
 
 // Adds the items of a list, where there are any.
 fn push_all(out: &mut Vec<ExportItem>, parts: &[Option<ExportItem>]) -> Result<(), AllocError>
-    ensures pushed { OnOk result (out.new.items ≡ out.old.items ++ flat_map listed parts.now) }
+    ensures pushed { OnOk result (out.new.items ≡ out.old.items ++ flat_map spec.listed parts.now) }
 {
     for part in parts {
         push_listed(out, *part)?;
@@ -177,7 +177,7 @@ fn push_all(out: &mut Vec<ExportItem>, parts: &[Option<ExportItem>]) -> Result<(
 
 // Adds the parts that a description names.
 fn push_parts(out: &mut Vec<ExportItem>, aux: &WasmBindgenAux) -> Result<(), AllocError>
-    ensures pushed { OnOk result (out.new.items ≡ out.old.items ++ flat_map listed (part_items aux.now)) }
+    ensures pushed { OnOk result (out.new.items ≡ out.old.items ++ flat_map spec.listed (spec.part_items aux.now)) }
 {
     let stack_pointer = match aux.stack_pointer {
         None => None,
@@ -203,7 +203,7 @@ fn push_parts(out: &mut Vec<ExportItem>, aux: &WasmBindgenAux) -> Result<(), All
 
 // The place of the first memory that is there.
 fn first_memory(memories: &[Option<Memory>]) -> Option<usize>
-    ensures place { result ≡ first_place 0 memories.now }
+    ensures place { result ≡ spec.first_place 0 memories.now }
 {
     let mut place = 0;
     for memory in memories {
@@ -217,7 +217,7 @@ fn first_memory(memories: &[Option<Memory>]) -> Option<usize>
 
 // Adds the first memory, where there is one that an id can name.
 fn push_memory(out: &mut Vec<ExportItem>, memories: &[Option<Memory>]) -> Result<(), AllocError>
-    ensures pushed { OnOk result (out.new.items ≡ out.old.items ++ memory_at (first_place 0 memories.now)) }
+    ensures pushed { OnOk result (out.new.items ≡ out.old.items ++ spec.memory_at (spec.first_place 0 memories.now)) }
 {
     match first_memory(memories) {
         Some(place) if place < 4_294_967_296 => {
@@ -230,7 +230,7 @@ fn push_memory(out: &mut Vec<ExportItem>, memories: &[Option<Memory>]) -> Result
 
 // Whether there is an entry at a place.
 fn has_entry<T>(entries: &[Option<T>], place: u32) -> bool
-    ensures test { result ≡ is_entry (slice_get entries.now place) }
+    ensures test { result ≡ spec.is_entry (slice_get entries.now place) }
 {
     match entries.get(place as usize) {
         Some(entry) => entry.is_some(),
@@ -240,7 +240,7 @@ fn has_entry<T>(entries: &[Option<T>], place: u32) -> bool
 
 // Whether an item is there.
 fn is_live_item(module: &Module, item: ExportItem) -> bool
-    ensures test { result ≡ the_live_test «module».now item }
+    ensures test { result ≡ spec.is_live_item «module».now item }
 {
     match item {
         ExportItem::Func(id) => has_entry(module.funcs(), id.0),
@@ -254,7 +254,7 @@ fn is_live_item(module: &Module, item: ExportItem) -> bool
 // What the ids of a description name, and the first memory.
 #[tactic(auto, unfolding(crate::specs::Roots::named_items))]
 fn named(alloc: Global, lowered: &Lowered) -> Result<Vec<ExportItem>, AllocError>
-    ensures named { IfOk result (λ v. v.items ≡ named_items lowered.now.«module» lowered.now.wit lowered.now.aux) }
+    ensures named { IfOk result (λ v. v.items ≡ spec.named_items lowered.now.«module» lowered.now.wit lowered.now.aux) }
 {
     let mut found = Vec::new(alloc);
     push_adapters(&mut found, &lowered.wit)?;
@@ -270,7 +270,7 @@ fn named(alloc: Global, lowered: &Lowered) -> Result<Vec<ExportItem>, AllocError
 
 // Keeps the items that are there.
 fn keep_live(found: &mut Vec<ExportItem>, module: &Module)
-    ensures kept { found.new.items ≡ filter (the_live_test «module».now) found.old.items }
+    ensures kept { found.new.items ≡ filter (spec.is_live_item «module».now) found.old.items }
 {
     found.retain(|item| is_live_item(module, *item));
 }
@@ -279,7 +279,7 @@ fn keep_live(found: &mut Vec<ExportItem>, module: &Module)
 /// the exports and from the start function has to stay in the module.
 #[tactic(auto, unfolding(crate::specs::Roots::roots_of))]
 pub fn roots(alloc: Global, lowered: &Lowered) -> Result<Vec<ExportItem>, AllocError>
-    ensures roots { IfOk result (λ v. v.items ≡ roots_of lowered.now) }
+    ensures roots { IfOk result (λ v. v.items ≡ spec.roots_of lowered.now) }
 {
     let mut found = named(alloc, lowered)?;
     keep_live(&mut found, &lowered.module);

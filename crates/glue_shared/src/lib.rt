@@ -11,6 +11,7 @@ mod aux;
 mod description;
 mod import;
 mod kept;
+mod name_map;
 mod name_tests;
 mod names;
 mod own;
@@ -27,6 +28,7 @@ pub use aux::{
 pub use description::{Description, Lowered};
 pub use import::{AuxImport, AuxValue, Intrinsic, JsImport, JsImportName};
 pub use kept::roots;
+pub use name_map::NameMap;
 pub use name_tests::{is_fixed_name, is_host_name, live_count};
 pub use names::{EMSCRIPTEN_HOSTS, HELPER_NAMES, HOSTS, MEMORY_NAMES, TABLE_NAMES, TARGET_NAMES};
 pub use own::own_imports;

@@ -1,6 +1,6 @@
 use Rattle.std.proofs.Common.{sym, ap}
 use Rattle.std.specs.Prelude.{option_map}
-use Rattle.wasm_file.specs.declared.entries.ExportItem.TheVariants as items
+use Rattle.wasm_core.specs.entries.ExportItem.TheVariants as items
 use Rattle.glue_shared.proofs.kept.func_item.Goals as goal
 
 pub returns-in-Some : goal.returns-in-Some

@@ -1,4 +1,0 @@
-use Rattle.glue_lower.proofs.adapters.read_kind.Goals as goal
-
-pub returns-in-Some-call-clause-ok : goal.returns-in-Some-call-clause-ok
-returns-in-Some-call-clause-ok c = tt
