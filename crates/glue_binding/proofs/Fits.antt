@@ -2,7 +2,7 @@
 use Rattle.std.proofs.Common.{◌≡◌, ℕ, ◌≤◌, List, [], ◌∷◌, ◌++◌, length, map, refl, ap, sym, ◌∙◌, subst, Bool, true, false, append_assoc}
 use Rattle.std.proofs.lemmas.Bool.{and_parts}
 use Rattle.std.proofs.lemmas.List.{append-nil}
-use Rattle.std.specs.Prelude.{Option, Some, None, ◌&&◌, nat_lt, codes}
+use Rattle.std.specs.Prelude.{Option, Some, None, ◌&&◌, not, nat_le, codes}
 use Rattle.std.specs.List.{list_all, flat_map}
 use Rattle.glue_words.specs.declared.word.Word.{Word}
 use Rattle.glue_words.specs.declared.word.Word.TheVariants as w
@@ -10,7 +10,10 @@ use Rattle.glue_words.specs.Ident.{is_ident}
 use Rattle.glue_words.specs.Limits.{is_prop}
 use Rattle.glue_words.proofs.Idents.{ascii_ident}
 use Rattle.glue_tree.specs.Term.{Term, Outside, Field, Apply, Terms, Line, Bind, Run, Lines, NoLines}
-use Rattle.glue_tree.specs.Spelling.{term_words, line_words, in_parens, parts_of, place, is_wrapped, in_brackets, const_start}
+use Rattle.glue_tree.specs.Operands.{place, place_of_member, place_of_call, place_of_taken, is_number, takes}
+use Rattle.glue_tree.specs.Operands.{begins_with_brace}
+use Rattle.glue_tree.specs.declared.operand.Position.TheVariants as p
+use Rattle.glue_tree.specs.Spelling.{term_words, line_words, in_parens, parts_of, parens_if, const_start}
 use Rattle.glue_tree.specs.FixedWords.{dot, semicolon}
 use Rattle.glue_tree.proofs.Fit.{fit, all_fit, is_line, line_fit, lines_fit}
 use Rattle.glue_tree.proofs.Spacing.{line, line_is}
@@ -30,18 +33,27 @@ abbrev pub chain : Term → List (List ℕ) → Term
 chain e [] = e
 chain e (field ∷ fields) = chain (Field e field) fields
 
-chain_words : (e : Term) (fields : List (List ℕ)) → is_wrapped e ≡ false
+-- what is no number and no call stands before a dot as it is
+bare : (e : Term) → is_number e ≡ false → place e ≡ place_of_member → takes p.Object e ≡ true
+bare e n h = rw (n, h) refl
+
+chain_words : (e : Term) (fields : List (List ℕ)) → is_number e ≡ false → place e ≡ place_of_member
     → term_words (chain e fields) ≡ term_words e ++ flat_map (λ field. dot ∷ w.Prop field ∷ []) fields
-chain_words e [] h = sym (append-nil (term_words e))
-chain_words e (field ∷ fields) h =
+chain_words e [] n h = sym (append-nil (term_words e))
+chain_words e (field ∷ fields) n h =
     let rest = flat_map (λ (name : List ℕ). dot ∷ w.Prop name ∷ []) fields in
-    chain_words (Field e field) fields refl
-    ∙ ap (λ b. (in_brackets b (term_words e) ++ dot ∷ w.Prop field ∷ []) ++ rest) h
+    chain_words (Field e field) fields refl (ap place_of_taken h)
+    ∙ ap (λ b. (parens_if (not b) (term_words e) ++ dot ∷ w.Prop field ∷ []) ++ rest) (bare e n h)
     ∙ append_assoc (term_words e) (dot ∷ w.Prop field ∷ []) rest
 
-chain_place : (e : Term) (fields : List (List ℕ)) → place e ≡ 0 → place (chain e fields) ≡ 0
+chain_place : (e : Term) (fields : List (List ℕ)) → place e ≡ place_of_member → place (chain e fields) ≡ place_of_member
 chain_place e [] h = h
-chain_place e (field ∷ fields) h = chain_place (Field e field) fields refl
+chain_place e (field ∷ fields) h = chain_place (Field e field) fields (ap place_of_taken h)
+
+chain_brace : (e : Term) (fields : List (List ℕ)) → begins_with_brace e ≡ false
+    → begins_with_brace (chain e fields) ≡ false
+chain_brace e [] h = h
+chain_brace e (field ∷ fields) h = chain_brace (Field e field) fields (rw h refl)
 
 chain_fit : (e : Term) (fields : List (List ℕ)) → fit e ≡ true → list_all is_prop fields ≡ true
     → fit (chain e fields) ≡ true
@@ -58,13 +70,21 @@ import_line (Some bound) global fields es = Bind bound (Apply (chain (Outside gl
 call_spelled : (global : List ℕ) (fields : List (List ℕ)) (es : Terms)
     → term_words (Apply (chain (Outside global) fields) es) ≡ import_words global fields ++ in_parens (parts_of es)
 call_spelled global fields es =
-    ap (λ n. in_brackets (nat_lt 0 n) (term_words (chain (Outside global) fields)) ++ in_parens (parts_of es))
+    ap (λ n. parens_if (not (nat_le n place_of_call)) (term_words (chain (Outside global) fields))
+    ++ in_parens (parts_of es))
     (chain_place (Outside global) fields refl)
-    ∙ ap (λ (ws : List Word). ws ++ in_parens (parts_of es)) (chain_words (Outside global) fields refl)
+    ∙ ap (λ (ws : List Word). ws ++ in_parens (parts_of es)) (chain_words (Outside global) fields refl refl)
+
+call_brace : (global : List ℕ) (fields : List (List ℕ)) (es : Terms)
+    → begins_with_brace (Apply (chain (Outside global) fields) es) ≡ false
+call_brace global fields es = rw (chain_brace (Outside global) fields refl) refl
 
 pub import_spelled : (bound : Option (List ℕ)) (global : List ℕ) (fields : List (List ℕ)) (es : Terms)
     → line_words (import_line bound global fields es) ≡ import_line_words bound global fields es
-import_spelled None global fields es = ap (λ (ws : List Word). ws ++ semicolon ∷ []) (call_spelled global fields es)
+import_spelled None global fields es =
+    ap (λ b. parens_if b (term_words (Apply (chain (Outside global) fields) es)) ++ semicolon ∷ [])
+    (call_brace global fields es)
+    ∙ ap (λ (ws : List Word). ws ++ semicolon ∷ []) (call_spelled global fields es)
 import_spelled (Some bound) global fields es = ap (λ (ws : List Word). const_start bound ++ (ws ++ semicolon ∷ []))
     (call_spelled global fields es)
 

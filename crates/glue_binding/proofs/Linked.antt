@@ -15,7 +15,8 @@ use Rattle.glue_words.specs.declared.word.Word.TheVariants as w
 use Rattle.glue_words.specs.Ident.{is_ident}
 use Rattle.glue_words.specs.Limits.{is_computed}
 use Rattle.glue_words.specs.Names.{bound_name, bound_in, used_name, hosted_name, local_name, local_bound_name, wasm_name, spliced_key, used_in, hosted_in, local_in, local_bound_in, wasm_in, spliced_in}
-use Rattle.glue_words.specs.Linking.{AreAmong, KeepsLocals, Resolves, TakesExports, TakesKeys, StandAlone}
+use Rattle.glue_words.specs.Linking.{AreAmong, KeepsLocals, Resolves, TakesExports, TakesKeys}
+use Rattle.glue_words.proofs.Belonging.{StandAlone}
 use Rattle.glue_words.proofs.Among.{among_left, among_right, among_both, among_trans, apart_by, apart_swap, apart_among, apart_joined, apart_split}
 use Rattle.glue_scope.proofs.Drawn.{length-drawn, drawn_new, drawn_distinct, drawn_idents, with_names_there}
 use Rattle.glue_tree.specs.Plainly.{plain_stmts}

@@ -14,10 +14,8 @@ use values::{Seq, Text};
 /// The JavaScript function of an adapter's steps, with parameters that are drawn for the wanted names.
 ///
 /// Where a step names a parameter that isn't there, or finds no operand, `null` stands for it, in the text as in the
-/// meaning; the
-/// steps of a checked adapter never come there. The only error is want of memory. Documentation and TypeScript
-/// signature are
-/// empty.
+/// meaning; the steps of a checked adapter never come there. The only error is want of memory. Documentation and
+/// TypeScript signature are empty.
 pub fn bind<N: Names>(
     alloc: Global,
     steps: &[Step],
@@ -42,7 +40,7 @@ pub fn bind<N: Names>(
     })
 }
 
-/// An empty text.
+// An empty text.
 fn empty(alloc: Global) -> Text
     ensures { result ≡ [] }
 {

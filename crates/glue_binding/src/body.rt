@@ -41,7 +41,7 @@ pub fn body_of(
     join(alloc, pieces)
 }
 
-/// The pieces of the steps.
+// The pieces of the steps.
 fn pieces_of(
     alloc: Global,
     steps: &[Step],
@@ -58,7 +58,7 @@ fn pieces_of(
     body.finish(alloc)
 }
 
-/// The parameter at a place, or the operand that stands for a lacking one.
+// The parameter at a place, or the operand that stands for a lacking one.
 fn param(alloc: Global, params: &[Text], place: u32) -> Result<Operand, AllocError>
     ensures operand { IfOk result (λ o. plain_operand o ≡ item_at s.Missing (map s.Local params.now) place) }
 {
@@ -68,7 +68,7 @@ fn param(alloc: Global, params: &[Text], place: u32) -> Result<Operand, AllocErr
     }
 }
 
-/// The row of a number that is read as unsigned.
+// The row of a number that is read as unsigned.
 fn to_unsigned(alloc: Global, body: &mut Body) -> Result<(), AllocError>
     ensures after { OnOk result (IsAfter (row_of ToUnsigned [] body.old) body.old body.new) }
 {
@@ -77,7 +77,7 @@ fn to_unsigned(alloc: Global, body: &mut Body) -> Result<(), AllocError>
 }
 
 impl Body {
-    /// No operands and no pieces, and these names to come.
+    // No operands and no pieces, and these names to come.
     fn new(alloc: Global, temps: Seq<Text>) -> Body
         ensures stack { stack_of result.stack ≡ [] }
         ensures names { newest_first result.coming ≡ temps }
@@ -142,7 +142,7 @@ impl Body {
         self.ahead(Stmt::Let(name, value))
     }
 
-    /// The row of a step.
+    // The row of a step.
     fn add(&mut self, alloc: Global, step: &Step, params: &[Text]) -> Result<(), AllocError>
         ensures after { OnOk result (IsAfter (row_of step.now params.now self.old) self.old self.new) }
     {
@@ -179,7 +179,7 @@ impl Body {
         }
     }
 
-    /// The pieces, with the newest operand returned where there is one.
+    // The pieces, with the newest operand returned where there is one.
     #[tactic(auto, unfolding(crate::specs::Body::stack_of))]
     fn finish(self, alloc: Global) -> Result<Seq<Piece>, AllocError>
         ensures pieces { IfOk result (λ pieces. plain_pieces pieces ≡ plain_pieces self.pieces

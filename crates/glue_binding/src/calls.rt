@@ -14,7 +14,7 @@ use glue_tree::{Expr, Stmt};
 use std::alloc::{AllocError, Global};
 use values::{Boxed, Duplicate, Seq, Text};
 
-/// `wasm.name(args)`
+// `wasm.name(args)`
 fn export_call(alloc: Global, name: &Text, args: &[Operand]) -> Result<Expr, AllocError>
     ensures expr { IfOk result (λ e. plain_expr e ≡ s.export_call name.now (map plain_operand args.now)) }
 {
@@ -42,7 +42,7 @@ pub fn call_export(
     }
 }
 
-/// The call of an import with these arguments, its answer bound to a local if there is one.
+// The call of an import with these arguments, its answer bound to a local if there is one.
 fn embed(
     alloc: Global,
     body: &mut Body,

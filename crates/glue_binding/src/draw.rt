@@ -25,7 +25,7 @@ pub fn draw<N: Names>(
     Ok(names)
 }
 
-/// `ret`, for a call that has a result.
+// `ret`, for a call that has a result.
 fn push_result(alloc: Global, has_result: bool, wanted: &mut Seq<Text>) -> Result<(), AllocError>
     ensures wanted { OnOk result (wanted.new ≡ wanted.old ++ s.result_of has_result) }
 {
@@ -35,7 +35,7 @@ fn push_result(alloc: Global, has_result: bool, wanted: &mut Seq<Text>) -> Resul
     Ok(())
 }
 
-/// `v` and the number.
+// `v` and the number.
 fn push_numbered(alloc: Global, count: usize, wanted: &mut Seq<Text>) -> Result<(), AllocError>
     ensures wanted { OnOk result (wanted.new ≡ wanted.old ++ numbered (codes "v") count ∷ []) }
 {
@@ -43,7 +43,7 @@ fn push_numbered(alloc: Global, count: usize, wanted: &mut Seq<Text>) -> Result<
     Ok(())
 }
 
-/// The temporaries that a step wants, where so many before it have a numbered one.
+// The temporaries that a step wants, where so many before it have a numbered one.
 fn push_wanted(
     alloc: Global,
     step: &Step,
@@ -64,7 +64,7 @@ fn push_wanted(
     }
 }
 
-/// How many steps have a numbered temporary after this one, where so many have one before it.
+// How many steps have a numbered temporary after this one, where so many have one before it.
 fn counted(step: &Step, count: usize) -> usize
     requires { count < 2 ^ 64 - 1 }
     ensures count { result ≡ s.counted step.now count }

@@ -6,24 +6,20 @@ ghost use Rattle.glue_words.specs.declared.word.Word.TheVariants as w;
 ghost use Rattle.glue_binding.specs.Spelling as s;
 
 use glue_tree::{Expr, push_arguments, push_const};
-use glue_words::Word;
+use glue_words::{Word, punct};
 use std::alloc::{AllocError, Global};
 use values::{Duplicate, Seq, Text};
 
-const DOT: u8 = 6;
-
-const SEMICOLON: u8 = 8;
-
-/// `.field`
+// `.field`
 fn push_field(alloc: Global, field: &Text, words: &mut Seq<Word>) -> Result<(), AllocError>
     ensures words { OnOk result (words.new ≡ words.old ++ dot ∷ w.Prop field.now ∷ []) }
 {
-    words.push(Word::Punct(DOT))?;
+    words.push(Word::Punct(punct::DOT))?;
     words.push(Word::Prop(field.copy(alloc)?))?;
     Ok(())
 }
 
-/// `global.field.field`
+// `global.field.field`
 fn push_import(
     alloc: Global,
     global: &Text,
@@ -39,7 +35,7 @@ fn push_import(
     Ok(())
 }
 
-/// `global.field.field(args);`
+// `global.field.field(args);`
 fn push_call(
     alloc: Global,
     global: &Text,
@@ -52,7 +48,7 @@ fn push_call(
 {
     push_import(alloc, global, fields, words)?;
     push_arguments(alloc, args, words)?;
-    words.push(Word::Punct(SEMICOLON))?;
+    words.push(Word::Punct(punct::SEMICOLON))?;
     Ok(())
 }
 

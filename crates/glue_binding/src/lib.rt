@@ -1,11 +1,9 @@
 //! From the steps of an adapter to its JavaScript function.
 //!
 //! `bind` gives the function, and `IsBoundFunction` of `specs/Binding.antt` is its promise: which names its parameters
-//! and
-//! temporaries have, which statements it has, which words they have, and that for all arguments and all answers of the
-//! outside the
-//! statements do what the steps do. A file holds the rows of one family of steps. Stands on the statements of
-//! `glue_tree` and on the scopes of `glue_scope`.
+//! and temporaries have, which statements it has, which words they have, and that for all arguments and all answers of
+//! the outside the statements do what the steps do. A file holds the rows of one family of steps. Stands on the
+//! statements of `glue_tree` and on the scopes of `glue_scope`.
 #![tactic(auto)]
 
 mod binding;

@@ -14,14 +14,14 @@ use glue_tree::{Expr, Stmt, UnaryOperator};
 use std::alloc::{AllocError, Global};
 use values::{Boxed, Seq, Text};
 
-/// A helper by its name.
+// A helper by its name.
 fn helper(alloc: Global, key: &str) -> Result<Expr, AllocError>
     ensures { IfOk result (λ e. plain_expr e ≡ t.Name key.now) }
 {
     Ok(Expr::Module(Text::from_str(alloc, key)?))
 }
 
-/// `helper(operand)`
+// `helper(operand)`
 fn helper_call(alloc: Global, key: &str, operand: &Operand) -> Result<Expr, AllocError>
     ensures { IfOk result (λ e. plain_expr e ≡ s.helper_call key.now (plain_operand operand.now)) }
 {
@@ -31,7 +31,7 @@ fn helper_call(alloc: Global, key: &str, operand: &Operand) -> Result<Expr, Allo
     Ok(Expr::Call(f, args))
 }
 
-/// `heap[stack_pointer++] = undefined;`
+// `heap[stack_pointer++] = undefined;`
 fn given_back(alloc: Global) -> Result<Stmt, AllocError>
     ensures { IfOk result (λ line. plain_stmt line ≡ s.gives_back_line) }
 {
@@ -42,7 +42,7 @@ fn given_back(alloc: Global) -> Result<Stmt, AllocError>
     Ok(Stmt::Set(Expr::At(heap, place), undefined))
 }
 
-/// `if (flag) { throw takeObject(handle); }`
+// `if (flag) { throw takeObject(handle); }`
 fn throwing(alloc: Global, flag: &Operand, handle: &Operand) -> Result<Stmt, AllocError>
     ensures { IfOk result (λ line. plain_stmt line ≡ s.throw_line (plain_operand flag.now) (plain_operand handle.now)) }
 {

@@ -21,7 +21,7 @@ pub enum Operand {
     Unsigned(Boxed<Operand>),
 }
 
-/// `e >>> 0`
+// `e >>> 0`
 fn unsigned(alloc: Global, e: Expr) -> Result<Expr, AllocError>
     ensures { IfOk result (λ v. plain_expr v ≡ t.Two ShiftUnsigned (plain_expr e) (t.Lit (pos 0))) }
 {
@@ -41,7 +41,7 @@ pub fn to_expr(alloc: Global, operand: &Operand) -> Result<Expr, AllocError>
     }
 }
 
-/// Appends the expression of an operand.
+// Appends the expression of an operand.
 fn push_operand(alloc: Global, operand: &Operand, exprs: &mut Seq<Expr>) -> Result<(), AllocError>
     ensures exprs { OnOk result (map plain_expr exprs.new ≡ map plain_expr exprs.old
         ++ term_of (plain_operand operand.now) ∷ []) }

@@ -27,7 +27,7 @@ pub fn one(alloc: Global, line: Stmt) -> Result<Seq<Stmt>, AllocError>
     Ok(lines)
 }
 
-/// `try { rest } finally { line }`, where the last of the rest comes first.
+// `try { rest } finally { line }`, where the last of the rest comes first.
 #[tactic(auto, unfolding(crate::specs::Body::behind))]
 fn cleaned(alloc: Global, line: Stmt, rest: Vec<Stmt>) -> Result<Stmt, AllocError>
     ensures { IfOk result (λ whole. plain_stmt whole ≡ t.Always (behind rest.items)
@@ -38,7 +38,7 @@ fn cleaned(alloc: Global, line: Stmt, rest: Vec<Stmt>) -> Result<Stmt, AllocErro
     Ok(Stmt::Finally(Seq::from_vec(body), one(alloc, line)?))
 }
 
-/// A piece in front of statements of which the last comes first.
+// A piece in front of statements of which the last comes first.
 #[tactic(auto, unfolding(crate::specs::Body::behind))]
 fn put_in_front(alloc: Global, piece: Piece, rest: Vec<Stmt>) -> Result<Vec<Stmt>, AllocError>
     ensures { IfOk result (λ lines. behind lines.items ≡ nested (plain_piece piece ∷ []) (behind rest.items)) }

@@ -11,7 +11,7 @@ use glue_words::Word;
 use std::alloc::{AllocError, Global};
 use values::Seq;
 
-/// Binds the name from outside that a word uses.
+// Binds the name from outside that a word uses.
 fn reserve_word<N: Names>(scope: &mut N, word: &Word) -> Result<(), AllocError>
     ensures bound { OnOk result (N.bound scope.new ≡ with_names (N.bound scope.old) (outer_of word.now)) }
 {
@@ -28,7 +28,7 @@ fn reserve_word<N: Names>(scope: &mut N, word: &Word) -> Result<(), AllocError>
     }
 }
 
-/// Binds the names from outside that words use.
+// Binds the names from outside that words use.
 fn reserve_words<N: Names>(scope: &mut N, words: &[Word]) -> Result<(), AllocError>
     ensures bound { OnOk result (N.bound scope.new ≡ with_names (N.bound scope.old) (outer_list words.now)) }
 {
@@ -39,8 +39,7 @@ fn reserve_words<N: Names>(scope: &mut N, words: &[Word]) -> Result<(), AllocErr
 }
 
 /// Binds the names from outside that the function of the steps uses, whatever its parameters and temporaries are
-/// called: they
-/// are read off its words, spelled with no names drawn.
+/// called: they are read off its words, spelled with no names drawn. The only error is want of memory.
 pub fn reserve_seed<N: Names>(
     alloc: Global,
     scope: &mut N,

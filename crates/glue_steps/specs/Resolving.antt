@@ -3,13 +3,13 @@ use Rattle.std.specs.Prelude.{ℕ, ◌==◌, nat_lt, nat_le, ◌^◌, ◌&&◌, 
 use Rattle.std.specs.List.{list_all}
 use Rattle.std.specs.Ordering.{nat_cmp}
 use Rattle.values.specs.Map.{look_up}
-use Rattle.wasm_ops.specs.declared.types.FuncType.{FuncType}
-use Rattle.wasm_ops.specs.declared.types.ValType.{ValType}
-use Rattle.wasm_ops.specs.declared.types.ValType.TheVariants.{I32}
+use Rattle.wasm_core.specs.types.FuncType.{FuncType}
+use Rattle.wasm_core.specs.types.ValType.{ValType}
+use Rattle.wasm_core.specs.types.ValType.TheVariants.{I32}
 use Rattle.wasm_core.specs.declared.types.Func.{Func}
-use Rattle.wasm_file.specs.declared.entries.Export.{Export}
-use Rattle.wasm_file.specs.declared.entries.ExportItem.{ExportItem}
-use Rattle.wasm_file.specs.declared.entries.ExportItem.TheVariants as items
+use Rattle.wasm_core.specs.entries.Export.{Export}
+use Rattle.wasm_core.specs.entries.ExportItem.{ExportItem}
+use Rattle.wasm_core.specs.entries.ExportItem.TheVariants as items
 use Rattle.wasm_core.specs.Contents.{Contents}
 use Rattle.glue_shared.specs.declared.adapter.Adapter.{Adapter}
 use Rattle.glue_shared.specs.declared.adapter.AdapterKind.{AdapterKind}

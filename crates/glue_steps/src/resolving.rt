@@ -2,7 +2,7 @@
 ghost use Rattle.std.specs.Prelude.{◌≡◌, Some, None, IfOk, length};
 ghost use Rattle.std.specs.List.{list_all};
 ghost use Rattle.std.specs.Option.{option_copied};
-ghost use Rattle.glue_steps.specs.Resolving.{small, is_some_item, type_of, own_type_of, is_i32 as i32_test, is_number_type as number_type_test, typed_call as the_typed_call, call_of, export_step as the_export_step, host_step as the_host_step, import_step_of, described_import as the_described_import, called_import as the_called_import, import_step as the_import_step, step_of as the_step_of, steps_of as the_steps_of, code_steps as the_code_steps, adapter_steps as the_adapter_steps};
+ghost use Rattle.glue_steps.specs.Resolving as spec;
 
 use crate::step::Step;
 use glue_shared::{
@@ -15,7 +15,7 @@ use wasm_core::{Export, ExportId, ExportItem, FuncId, FuncType, Module, ValType}
 
 // The count, where it fits 32 bits.
 fn fitting(count: usize) -> Option<u32>
-    ensures fits { result ≡ small count }
+    ensures fits { result ≡ spec.small count }
 {
     if count < 4_294_967_296 {
         Some(count as u32)
@@ -26,7 +26,7 @@ fn fitting(count: usize) -> Option<u32>
 
 /// The type of a function of the module, where it is there.
 pub fn function_type(module: &Module, func: FuncId) -> Option<&FuncType>
-    ensures found { option_copied result ≡ type_of «module».now func.0 }
+    ensures found { option_copied result ≡ spec.type_of «module».now func.0 }
 {
     let entry = module.funcs().get(func.0 as usize)?.as_ref()?;
     module.types().get(entry.ty.0 as usize)?.as_ref()
@@ -34,7 +34,7 @@ pub fn function_type(module: &Module, func: FuncId) -> Option<&FuncType>
 
 // The type of a function that isn't imported.
 fn own_function_type(module: &Module, func: FuncId) -> Option<&FuncType>
-    ensures found { option_copied result ≡ own_type_of «module».now func.0 }
+    ensures found { option_copied result ≡ spec.own_type_of «module».now func.0 }
 {
     let entry = module.funcs().get(func.0 as usize)?.as_ref()?;
     if entry.import.is_some() {
@@ -45,28 +45,28 @@ fn own_function_type(module: &Module, func: FuncId) -> Option<&FuncType>
 }
 
 fn is_i32(ty: ValType) -> bool
-    ensures test { result ≡ i32_test ty }
+    ensures test { result ≡ spec.is_i32 ty }
 {
     matches!(ty, ValType::I32)
 }
 
 // Whether each of the types is a 32-bit integer.
 fn are_i32(types: &[ValType]) -> bool
-    ensures test { result ≡ list_all i32_test types.now }
+    ensures test { result ≡ list_all spec.is_i32 types.now }
 {
     types.iter().all(|ty| is_i32(*ty))
 }
 
 /// Whether a type takes 32-bit integers, and gives one or none.
 pub fn is_number_type(ty: &FuncType) -> bool
-    ensures test { result ≡ number_type_test ty.now }
+    ensures test { result ≡ spec.is_number_type ty.now }
 {
     are_i32(ty.params.as_slice()) && are_i32(ty.results.as_slice()) && ty.results.len() <= 1
 }
 
 // The call of a function of a type over 32-bit integers, by the name of its export.
 fn typed_call(alloc: Global, name: &Text, ty: &FuncType) -> Result<Option<Step>, AllocError>
-    ensures step { IfOk result (λ step. step ≡ the_typed_call name.now ty.now) }
+    ensures step { IfOk result (λ step. step ≡ spec.typed_call name.now ty.now) }
 {
     if !is_number_type(ty) {
         return Ok(None);
@@ -83,7 +83,7 @@ fn typed_call(alloc: Global, name: &Text, ty: &FuncType) -> Result<Option<Step>,
 
 // The call of an export, where it is a function of the module's own.
 fn export_call(alloc: Global, module: &Module, export: &Export) -> Result<Option<Step>, AllocError>
-    ensures step { IfOk result (λ step. step ≡ call_of «module».now export.now.name export.now.item) }
+    ensures step { IfOk result (λ step. step ≡ spec.call_of «module».now export.now.name export.now.item) }
 {
     match export.item {
         ExportItem::Func(func) => match own_function_type(module, func) {
@@ -96,7 +96,7 @@ fn export_call(alloc: Global, module: &Module, export: &Export) -> Result<Option
 
 // The call of the export at a place.
 fn export_step(alloc: Global, module: &Module, id: ExportId) -> Result<Option<Step>, AllocError>
-    ensures step { IfOk result (λ step. step ≡ the_export_step «module».now id.0) }
+    ensures step { IfOk result (λ step. step ≡ spec.export_step «module».now id.0) }
 {
     match module.exports().get(id.0 as usize) {
         Some(Some(export)) => export_call(alloc, module, export),
@@ -111,7 +111,7 @@ fn host_step(
     adapter: &Adapter,
     js: &JsImport,
 ) -> Result<Option<Step>, AllocError>
-    ensures step { IfOk result (λ step. step ≡ the_host_step id adapter.now js.now.name js.now.fields) }
+    ensures step { IfOk result (λ step. step ≡ spec.host_step id adapter.now js.now.name js.now.fields) }
 {
     match &js.name {
         JsImportName::Global { name } => match fitting(adapter.args.len()) {
@@ -135,7 +135,7 @@ fn described_step(
     adapter: &Adapter,
     import: &AuxImport,
 ) -> Result<Option<Step>, AllocError>
-    ensures step { IfOk result (λ step. step ≡ import_step_of id adapter.now import.now) }
+    ensures step { IfOk result (λ step. step ≡ spec.import_step_of id adapter.now import.now) }
 {
     match import {
         AuxImport::Value(AuxValue::Bare(js)) => host_step(alloc, id, adapter, js),
@@ -145,7 +145,7 @@ fn described_step(
 
 // What the description says of an import adapter.
 fn described_import(entries: &[(AdapterId, AuxImport)], id: AdapterId) -> Option<&AuxImport>
-    ensures found { option_copied result ≡ the_described_import entries.now id }
+    ensures found { option_copied result ≡ spec.described_import entries.now id }
 {
     entries
         .iter()
@@ -160,7 +160,7 @@ fn called_import(
     id: AdapterId,
     adapter: &Adapter,
 ) -> Result<Option<Step>, AllocError>
-    ensures step { IfOk result (λ step. step ≡ the_called_import lowered.now id adapter.now adapter.now.kind) }
+    ensures step { IfOk result (λ step. step ≡ spec.called_import lowered.now id adapter.now adapter.now.kind) }
 {
     match adapter.kind {
         AdapterKind::Import(AdapterJsImportKind::Normal) => match described_import(
@@ -176,7 +176,7 @@ fn called_import(
 
 // The call of an adapter, where it is an import adapter.
 fn import_step(alloc: Global, lowered: &Lowered, id: AdapterId) -> Result<Option<Step>, AllocError>
-    ensures step { IfOk result (λ step. step ≡ the_import_step lowered.now id) }
+    ensures step { IfOk result (λ step. step ≡ spec.import_step lowered.now id) }
 {
     match lowered.wit.adapters.get(&id) {
         None => Ok(None),
@@ -190,7 +190,7 @@ fn step_of(
     lowered: &Lowered,
     instruction: &Instruction,
 ) -> Result<Option<Step>, AllocError>
-    ensures step { IfOk result (λ step. step ≡ the_step_of lowered.now instruction.now) }
+    ensures step { IfOk result (λ step. step ≡ spec.step_of lowered.now instruction.now) }
 {
     match instruction {
         Instruction::ArgGet(place) => Ok(Some(Step::Parameter(*place))),
@@ -211,7 +211,7 @@ fn steps_of(
     lowered: &Lowered,
     code: &[Instruction],
 ) -> Result<Option<Seq<Step>>, AllocError>
-    ensures steps { IfOk result (λ steps. steps ≡ the_steps_of lowered.now code.now) }
+    ensures steps { IfOk result (λ steps. steps ≡ spec.steps_of lowered.now code.now) }
 {
     let mut steps = Seq::new(alloc);
     for instruction in code {
@@ -229,7 +229,7 @@ pub fn adapter_steps(
     lowered: &Lowered,
     id: AdapterId,
 ) -> Result<Option<Seq<Step>>, AllocError>
-    ensures steps { IfOk result (λ steps. steps ≡ the_adapter_steps lowered.now id) }
+    ensures steps { IfOk result (λ steps. steps ≡ spec.adapter_steps lowered.now id) }
 {
     match lowered.wit.adapters.get(&id) {
         None => Ok(None),
