@@ -1,18 +1,17 @@
 -- Names that stand twice are those that were seen before.
-use Rattle.std.proofs.Common.{◌≡◌, ℕ, List, [], ◌∷◌, Bool, true, false, refl, sym, ap, ◌∙◌}
+use Rattle.std.proofs.Common.{◌≡◌, ℕ, List, [], ◌∷◌, map, Bool, true, false, refl, sym, ap, ◌∙◌}
 use Rattle.std.specs.Prelude.{Option, Some, None, ◌||◌}
-use Rattle.std.specs.List.{list_any, filter_map}
+use Rattle.std.specs.List.{list_any, filter_map, cons_option}
 use Rattle.std.specs.Str.{bytes_eq}
 use Rattle.std.specs.Ordering.{nat_cmp, eq_by_cmp, is_eq}
 use Rattle.std.specs.Cmp.{Equal-is, tied_itself}
 use Rattle.std.specs.Cmp.Lexicographic.{slice_cmp, nat_list_cmp_total}
 use Rattle.std.proofs.lemmas.Slice.Eq.{bytes_eq-Decides}
 use Rattle.std.specs.FinSet as set
-use Rattle.wasm_file.specs.declared.entries.Export.{Export}
 use Rattle.glue_scope.specs.Scope.{Bound}
+use Rattle.glue_shared.specs.declared.aux.AuxExport.{AuxExport}
 use Rattle.glue_check.specs.Check.{is_among, has_double}
-use Rattle.glue_check.specs.Doubles.{repeats}
-use Rattle.glue_check.specs.Exported.{export_name}
+use Rattle.glue_check.specs.Doubles.{is_met, with_name, repeats}
 
 same_truth : (a b : Bool) → (a ≡ true → b ≡ true) → (b ≡ true → a ≡ true) → a ≡ b
 same_truth true b f g = sym (f refl)
@@ -50,18 +49,34 @@ seen_more seen name (n ∷ names) =
     ∙ ap (λ (b : Bool). (bytes_eq n name || set.contains seen n) || b) (seen_more seen name names)
     ∙ swap (bytes_eq n name) (set.contains seen n) (is_among name names) (any_seen seen names)
 
-repeats_are : (seen : Bound) (exports : List (Option Export)) → repeats seen exports ≡ (any_seen seen (filter_map export_name exports) || has_double (filter_map export_name exports))
-repeats_are seen [] = refl
-repeats_are seen (None ∷ exports) = repeats_are seen exports
-repeats_are seen (Some e ∷ exports) =
-    let names = filter_map export_name exports in
-    ap (λ (b : Bool). set.contains seen e.name || b) (repeats_are (set.insert seen e.name) exports ∙ ap (λ (b : Bool). b || has_double names) (seen_more seen e.name names))
-    ∙ move (set.contains seen e.name) (is_among e.name names) (any_seen seen names) (has_double names)
+module _ {A : Type 0} (name : A → Option (List ℕ)) where
+  repeats_are : (seen : Bound) (xs : List A) → repeats name seen xs ≡ (any_seen seen (filter_map name xs) || has_double (filter_map name xs))
+  repeats_are seen [] = refl
+  repeats_are seen (x ∷ xs) = by (name x) (λ more. repeats_are more xs)
+    where
+      by : (o : Option (List ℕ))
+          → ((more : Bound) → repeats name more xs ≡ (any_seen more (filter_map name xs) || has_double (filter_map name xs)))
+          → (is_met seen o || repeats name (with_name seen o) xs)
+          ≡ (any_seen seen (cons_option o (filter_map name xs)) || has_double (cons_option o (filter_map name xs)))
+      by None rest = rest seen
+      by (Some n) rest =
+          let names = filter_map name xs in
+          ap (λ (b : Bool). set.contains seen n || b) (rest (set.insert seen n) ∙ ap (λ (b : Bool). b || has_double names) (seen_more seen n names))
+          ∙ move (set.contains seen n) (is_among n names) (any_seen seen names) (has_double names)
 
 none_seen : (names : List (List ℕ)) → any_seen set.empty names ≡ false
 none_seen [] = refl
 none_seen (n ∷ names) = ap (λ (b : Bool). b || any_seen set.empty names) (set.contains-empty (slice_cmp nat_cmp) n) ∙ none_seen names
 
 -- from no names on, a name is met exactly where one stands twice
-pub all_repeats : (exports : List (Option Export)) → repeats set.empty exports ≡ has_double (filter_map export_name exports)
-all_repeats exports = repeats_are set.empty exports ∙ ap (λ (b : Bool). b || has_double (filter_map export_name exports)) (none_seen (filter_map export_name exports))
+pub all_repeats : {A : Type 0} (name : A → Option (List ℕ)) (xs : List A) → repeats name set.empty xs ≡ has_double (filter_map name xs)
+all_repeats name xs =
+    repeats_are name set.empty xs ∙ ap (λ (b : Bool). b || has_double (filter_map name xs)) (none_seen (filter_map name xs))
+
+-- items that each have a name
+each_named : {A : Type 0} (name : A → List ℕ) (xs : List A) → filter_map (λ (x : A). Some (name x)) xs ≡ map name xs
+each_named name [] = refl
+each_named name (x ∷ xs) = ap (λ (names : List (List ℕ)). name x ∷ names) (each_named name xs)
+
+pub public_repeats : (exports : List AuxExport) → repeats (λ (e : AuxExport). Some e.name) set.empty exports ≡ has_double (map (λ (e : AuxExport). e.name) exports)
+public_repeats exports = all_repeats (λ (e : AuxExport). Some e.name) exports ∙ ap has_double (each_named (λ (e : AuxExport). e.name) exports)

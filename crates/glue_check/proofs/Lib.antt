@@ -1,3 +1,2 @@
 mod Doubles
 pub mod Named
-mod Passing

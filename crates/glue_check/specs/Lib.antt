@@ -1,3 +1,2 @@
 pub mod Check
 pub mod Doubles
-pub mod Exported
