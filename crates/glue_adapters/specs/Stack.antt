@@ -1,0 +1,130 @@
+-- The kinds of values that an adapter's code keeps on its stack.
+use Rattle.std.specs.Prelude.{ℕ, ◌-◌, nat_le, Bool, true, false, ◌&&◌, if◌then◌else◌, List, [], ◌∷◌, ◌++◌, length, map, take, drop, slice_get, Option, Some, None, option_map, option_and_then}
+use Rattle.std.specs.Ordering.{nat_cmp}
+use Rattle.values.specs.Map.{look_up}
+use Rattle.wasm_core.specs.types.FuncType.{FuncType}
+use Rattle.wasm_core.specs.types.ValType.{ValType}
+use Rattle.wasm_core.specs.types.ValType.TheVariants as types
+use Rattle.wasm_core.specs.entries.Export.{Export}
+use Rattle.wasm_core.specs.entries.ExportItem.{ExportItem}
+use Rattle.wasm_core.specs.entries.ExportItem.TheVariants as items
+use Rattle.wasm_core.specs.Contents.{Contents}
+use Rattle.glue_shared.specs.declared.adapter.Adapter.{Adapter}
+use Rattle.glue_shared.specs.declared.adapter.AdapterType.{AdapterType}
+use Rattle.glue_shared.specs.declared.adapter.AdapterType.TheVariants as adapter_types
+use Rattle.glue_shared.specs.declared.adapter.Instruction.{Instruction}
+use Rattle.glue_shared.specs.declared.adapter.Instruction.TheVariants as instr
+use Rattle.glue_shared.specs.declared.description.Lowered.{Lowered}
+use Rattle.glue_steps.specs.Resolving.{entry_at, type_of}
+use Rattle.glue_adapters.specs.declared.kind.Kind.{Kind}
+use Rattle.glue_adapters.specs.declared.kind.Kind.TheVariants as kind
+use Rattle.glue_adapters.specs.declared.stack.Effect.{Effect}
+
+-- ---- stacks, the top last
+
+-- one kind
+abbrev pub same_kind : Kind → Kind → Bool
+same_kind kind.I32 kind.I32 = true
+same_kind kind.I64 kind.I64 = true
+same_kind kind.Js kind.Js = true
+same_kind a b = false
+
+-- the same kinds in the same order
+abbrev pub same_kinds : List Kind → List Kind → Bool
+same_kinds [] [] = true
+same_kinds [] (y ∷ ys) = false
+same_kinds (x ∷ xs) [] = false
+same_kinds (x ∷ xs) (y ∷ ys) = same_kind x y && same_kinds xs ys
+
+-- the stack once the kinds that it ends in were popped and others pushed; none where it ends in others
+abbrev pub after : Effect → List Kind → Option (List Kind)
+after effect stack =
+    let depth = length stack - length effect.pops in
+    if same_kinds (drop depth stack) effect.pops then Some (take depth stack ++ effect.pushes) else None
+
+-- ---- the kinds of types
+
+-- the kind of a WebAssembly type, where JavaScript can pass it
+abbrev pub kind_of : ValType → Option Kind
+kind_of types.I32 = Some kind.I32
+kind_of types.I64 = Some kind.I64
+kind_of types.ExternRef = Some kind.Js
+kind_of other = None
+
+-- a kind before others, where there are all of them
+abbrev pub with_kind : Option Kind → Option (List Kind) → Option (List Kind)
+with_kind None kinds = None
+with_kind (Some k) kinds = option_map (λ ks. k ∷ ks) kinds
+
+-- the kinds of WebAssembly types, where JavaScript can pass each
+abbrev pub kinds_of : List ValType → Option (List Kind)
+kinds_of [] = Some []
+kinds_of (ty ∷ tys) = with_kind (kind_of ty) (kinds_of tys)
+
+-- the kind that an import adapter takes for an argument of this type
+abbrev pub argument_kind : AdapterType → Kind
+argument_kind adapter_types.I32 = kind.I32
+argument_kind adapter_types.I64 = kind.I64
+argument_kind other = kind.Js
+
+-- a JavaScript value for each of the types
+abbrev pub js_kinds : List AdapterType → List Kind
+js_kinds tys = map (λ ty. kind.Js) tys
+
+-- ---- what is called
+
+-- the type of a function that is exported as this item
+abbrev pub item_type : Contents → ExportItem → Option FuncType
+item_type m (items.Func func) = type_of m func.0
+item_type m other = None
+
+-- the type of the function that is exported at a place
+abbrev pub export_type : Contents → ℕ → Option FuncType
+export_type m id = option_and_then (λ (e : Export). item_type m e.item) (entry_at m.exports id)
+
+-- ---- the table of instructions
+
+-- these are popped, and those are pushed
+abbrev pub effect_of : List Kind → List Kind → Effect
+effect_of pops pushes = record { pops = pops; pushes = pushes }
+
+-- a call pops the parameters and pushes the result, of which there is at most one
+abbrev pub call_effect : FuncType → Option Effect
+call_effect ty =
+    if nat_le (length ty.results) 1
+    then option_and_then (λ pops. option_map (λ pushes. effect_of pops pushes) (kinds_of ty.results)) (kinds_of ty.params)
+    else None
+
+-- one JavaScript value, where an adapter has results
+abbrev pub answer_kinds : List AdapterType → List Kind
+answer_kinds [] = []
+answer_kinds (ty ∷ tys) = kind.Js ∷ []
+
+-- a call of an import adapter pops its arguments and pushes its answer, which is one value however many results it has
+abbrev pub adapter_effect : Adapter → Effect
+adapter_effect a = effect_of (map argument_kind a.args) (answer_kinds a.results)
+
+-- what an instruction pops and pushes in an adapter whose parameters are of these kinds; none where it isn't built or names nothing
+unfoldable pub effect : Lowered → List Kind → Instruction → Option Effect
+effect l params (instr.ArgGet n) = option_map (λ k. effect_of [] (k ∷ [])) (slice_get params n)
+effect l params instr.Int32ToWasm = Some (effect_of (kind.Js ∷ []) (kind.I32 ∷ []))
+effect l params (instr.WasmToInt32 unsigned) = Some (effect_of (kind.I32 ∷ []) (kind.Js ∷ []))
+effect l params (instr.CallExport id) = option_and_then call_effect (export_type l.«module» id.0)
+effect l params (instr.CallAdapter id) = option_map adapter_effect (look_up nat_cmp l.wit.adapters id)
+effect l params other = None
+
+-- ---- the whole code
+
+-- the stack after a code that begins with this one
+abbrev pub stack_after : (Instruction → Option Effect) → List Kind → List Instruction → Option (List Kind)
+stack_after effects stack [] = Some stack
+stack_after effects stack (i ∷ code) = option_and_then (λ next. stack_after effects next code) (option_and_then (λ e. after e stack) (effects i))
+
+-- the stack holds these in the end
+abbrev pub leaves : List Kind → Option (List Kind) → Bool
+leaves results None = false
+leaves results (Some stack) = same_kinds stack results
+
+-- the stack never lacks a value nor has another kind, and holds the results in the end
+abbrev pub is_well_stacked : Lowered → List Kind → List Kind → List Instruction → Bool
+is_well_stacked l params results code = leaves results (stack_after (effect l params) [] code)

@@ -1,0 +1,4 @@
+pub mod After
+pub mod Apart
+pub mod Clashes
+pub mod First

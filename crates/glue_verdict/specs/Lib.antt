@@ -1,0 +1,5 @@
+pub mod Answers
+pub mod Naming
+pub mod Publishing
+pub mod Unbuilt
+pub mod Verdict
