@@ -1,11 +1,9 @@
+mod Arranged
 pub mod Built
+mod Common
+mod Edited
+pub mod Facts
 mod Fits
-mod Fixed
-mod Forms
-mod Functions
-mod ItemLists
-mod Linkage
+mod Lists
 pub mod Made
 mod Own
-mod Public
-mod Wanted

@@ -1,6 +1,6 @@
 -- Each own import has exactly one definition, and each function that is printed is that of its adapter.
-use Rattle.std.specs.Prelude.{◌≡◌, ℕ, List, [], Option, Some, None}
-use Rattle.std.specs.List.{filter_map}
+use Rattle.std.specs.Prelude.{◌≡◌, ℕ, List, [], ◌∷◌, Some}
+use Rattle.std.specs.List.{flat_map}
 use Rattle.values.specs.Lists.{IsIn, AreDistinct}
 use Rattle.wasm_core.specs.Contents.{Contents}
 use Rattle.wasm_core.specs.declared.types.Import.{Import}
@@ -17,13 +17,13 @@ use Rattle.glue_shared.specs.Names.{own_imports}
 use Rattle.glue_steps.specs.Resolving.{entry_at}
 use Rattle.glue_context.specs.Items.{IsFunctionOf, declare_item, define_item}
 
--- the import that an item defines
-abbrev pub defined_place : Role → Option ℕ
-defined_place (role.Define place) = Some place
-defined_place other = None
+-- the imports that an item of a role defines: one, or none
+abbrev pub defined_by : Role → List ℕ
+defined_by (role.Define place) = place ∷ []
+defined_by other = []
 
 abbrev pub defined_places : List Item → List ℕ
-defined_places items = filter_map (λ (item : Item). defined_place item.role) items
+defined_places items = flat_map (λ (item : Item). defined_by item.role) items
 
 -- the item defines the import, by its name in the written module, as the function of the adapter that implements it
 pub record IsDefinition (l : Lowered) (written : Contents) (place : ℕ) (item : Item) : Type 0 where

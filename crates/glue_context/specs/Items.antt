@@ -1,10 +1,13 @@
 -- The items of the glue file: what the description declares, the frame with the definitions of imports, and loading.
-use Rattle.std.specs.Prelude.{◌≡◌, ℕ, zero, suc, ◌+◌, Bool, ◌&&◌, is_some, List, [], ◌∷◌, ◌++◌, length, codes, Option, Some, None}
+use Rattle.std.specs.Prelude.{◌≡◌, ℕ, zero, suc, ◌+◌, Bool, false, ◌&&◌, is_some, List, [], ◌∷◌, ◌++◌, length, codes, Option, Some, None}
 use Rattle.std.specs.List.{flat_map}
 use Rattle.std.specs.Fmt.{decimal}
-use Rattle.std.specs.Ordering.{nat_cmp}
+use Rattle.std.specs.Ordering.{nat_cmp, ordering_then, is_lt}
+use Rattle.std.specs.Cmp.Lexicographic.{slice_cmp}
+use Rattle.std.specs.List.Sorted.{IsPermutation}
+use Rattle.std.specs.declared.cmp.Ordering.{Ordering}
 use Rattle.values.specs.Map.{look_up}
-use Rattle.wasm_ops.specs.declared.ids.ImportId.{ImportId}
+use Rattle.wasm_core.specs.ids.ImportId.{ImportId}
 use Rattle.wasm_core.specs.declared.types.Import.{Import}
 use Rattle.glue_words.specs.declared.word.Word.{Word}
 use Rattle.glue_words.specs.declared.word.Word.TheVariants as w
@@ -103,6 +106,39 @@ is_bindable l e = is_some (adapter_steps l e.adapter)
 abbrev pub is_definable : Lowered → ImportId × ℕ → Bool
 is_definable l pair = is_some (entry_at l.«module».imports pair.0.0) && is_some (adapter_steps l pair.1)
 
+-- ---- the order in which they stand
+
+-- no item comes before the one in front of it
+abbrev pub Rises : {A : Type 0} → (A → A → Ordering) → List A → Type 0
+Rises order [] = Unit {0}
+Rises order (x ∷ []) = Unit {0}
+Rises order (x ∷ y ∷ xs) = (is_lt (order y x) ≡ false) × Rises order (y ∷ xs)
+
+-- the same items, each as often, in this order
+pub record IsArranged {A : Type 0} (order : A → A → Ordering) (xs arranged : List A) : Type 0 where
+  pub same : IsPermutation xs arranged
+  pub rises : Rises order arranged
+
+-- texts by their bytes
+abbrev pub text_order : List ℕ → List ℕ → Ordering
+text_order = slice_cmp nat_cmp
+
+-- exports by name
+abbrev pub export_order : AuxExport → AuxExport → Ordering
+export_order a b = text_order a.name b.name
+
+-- the name of the import of a pair, where one stands
+abbrev pub name_of : Option Import → List ℕ
+name_of None = []
+name_of (Some i) = i.name
+
+abbrev pub pair_name : Lowered → ImportId × ℕ → List ℕ
+pair_name l pair = name_of (import_at l pair)
+
+-- pairs by the import's name, and then by the adapter's id
+abbrev pub pair_order : Lowered → ImportId × ℕ → ImportId × ℕ → Ordering
+pair_order l a b = ordering_then (text_order (pair_name l a) (pair_name l b)) (nat_cmp a.1 b.1)
+
 -- the items by groups, in the order in which they are printed: the declarations of exports, the frame's start, the definitions of
 -- imports, the frame's end, and loading
 abbrev pub item_groups : List ℕ → List Item → List Item → List (List Item)
@@ -112,10 +148,15 @@ item_groups stem declares defines = declares ∷ (frame_start stem ∷ []) ∷ d
 abbrev pub all_items : List ℕ → List Item → List Item → List Item
 all_items stem declares defines = flat_map (λ (group : List Item). group) (item_groups stem declares defines)
 
--- the items that settings and a description ask for
+-- the items that settings and a description ask for: the declarations stand by name, the definitions by the import's name and then
+-- by the adapter's id
 pub record IsGlue (settings : Settings) (l : Lowered) (items : List Item) : Type 0 where
+  pub exports : List AuxExport
+  pub by_name : IsArranged export_order l.aux.exports exports
+  pub pairs : List (ImportId × ℕ)
+  pub by_import : IsArranged (pair_order l) l.wit.implements pairs
   pub declares : List Item
   pub defines : List Item
-  pub declared : Matches (IsDeclareItem l) l.aux.exports declares
-  pub defined : Matches (IsDefineItem l) l.wit.implements defines
+  pub declared : Matches (IsDeclareItem l) exports declares
+  pub defined : Matches (IsDefineItem l) pairs defines
   pub all : items ≡ all_items settings.stem declares defines

@@ -1,4 +1,5 @@
 pub mod Defined
+pub mod Edits
 pub mod Items
 pub mod Keys
 pub mod Linked

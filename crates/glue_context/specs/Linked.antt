@@ -7,7 +7,7 @@ use Rattle.glue_words.specs.Names.{bound_in}
 use Rattle.glue_words.specs.Linking.{EachItem, IsBoundOnce, IsResolved, IsLocal, IsExported, IsDescribed, IsSpaced}
 use Rattle.glue_shared.specs.declared.settings.Settings.{Settings}
 use Rattle.wasm_core.specs.Contents.{Contents}
-use Rattle.glue_check.specs.Exported.{export_names}
+use Rattle.glue_steps.specs.Exported.{export_names}
 use Rattle.glue_targets.specs.RoleWords.{role_words}
 
 -- one of these texts, where there are any to choose from

@@ -4,6 +4,7 @@ use Rattle.glue_shared.specs.declared.settings.Settings.{Settings}
 use Rattle.glue_shared.specs.declared.settings.Target.{Target}
 use Rattle.glue_shared.specs.declared.settings.Target.TheVariants as target
 
+-- the files are for Deno
 abbrev pub is_deno : Target → Bool
 is_deno target.Deno = true
 is_deno t = false

@@ -1,26 +1,32 @@
--- The module that is written: its own imports are moved to the glue file's module.
-use Rattle.std.specs.Prelude.{ℕ, List, [], ◌∷◌, ◌++◌, codes, Option, Some, None}
+-- The module that is written: what is changed in the collected one is told by settings and description.
+use Rattle.std.specs.Prelude.{ℕ, List, [], ◌++◌, codes, false, Option, None, option_map, filter_map}
+use Rattle.wasm_core.specs.ids.ImportId.{ImportId}
 use Rattle.wasm_core.specs.Contents.{Contents}
-use Rattle.wasm_core.specs.Edits.{with_import}
 use Rattle.wasm_core.specs.declared.types.Import.{Import}
 use Rattle.glue_shared.specs.declared.settings.Settings.{Settings}
 use Rattle.glue_shared.specs.declared.description.Lowered.{Lowered}
 use Rattle.glue_shared.specs.Names.{own_imports}
 use Rattle.glue_steps.specs.Resolving.{entry_at}
+use Rattle.glue_context.specs.declared.edits.Edits.{Edits}
+use Rattle.glue_context.specs.Edits.{edited}
 
 -- the module that own imports move to
 abbrev pub glue_module : List ℕ → List ℕ
 glue_module stem = codes "./" ++ (stem ++ codes "_bg.js")
 
--- the import at a place moved to the glue file's module, under its name
-abbrev pub moved_one : List ℕ → ℕ → Option Import → Contents → Contents
-moved_one stem place None m = m
-moved_one stem place (Some i) m = with_import place (glue_module stem) i.name m
+-- an import that stands comes from the glue file's module, under its name
+abbrev pub move_of : List ℕ → List (Option Import) → ℕ → Option (ImportId × List ℕ × List ℕ)
+move_of stem imports place = option_map (λ (i : Import). (record { 0 = place }, glue_module stem, i.name)) (entry_at imports place)
 
-abbrev pub moved : List ℕ → List ℕ → Contents → Contents
-moved stem [] m = m
-moved stem (place ∷ places) m = moved stem places (moved_one stem place (entry_at m.imports place) m)
+-- what is changed: own imports move to the glue file's module
+abbrev pub edits_of : Settings → Lowered → Edits
+edits_of settings l = record {
+  imports = filter_map (move_of settings.stem l.«module».imports) (own_imports settings l.«module» l.wit l.aux);
+  exports = [];
+  shim = None;
+  start = false;
+}
 
--- the module that is written: each own import moved, and nothing else changed
+-- the module that is written
 abbrev pub rewritten : Settings → Lowered → Contents
-rewritten settings l = moved settings.stem (own_imports settings l.«module» l.wit l.aux) l.«module»
+rewritten settings l = edited (edits_of settings l) l.«module»

@@ -1,8 +1,8 @@
 //! The items of the glue file, group by group: what the description declares, the frame with the definitions of imports, and loading.
-ghost use Rattle.std.specs.Prelude.{◌≡◌, ◌++◌, ◌∷◌, [], ◌+◌, length, codes, IfOk, OnOk, Some, None, is_some, true};
+ghost use Rattle.std.specs.Prelude.{◌≡◌, ◌++◌, ◌∷◌, [], ◌+◌, length, codes, map, IfOk, OnOk, Some, None, is_some, true};
 ghost use Rattle.std.specs.Fmt.{decimal};
-ghost use Rattle.std.specs.List.{flat_map, list_all};
-ghost use Rattle.glue_steps.specs.Resolving.{adapter_steps as steps_of};
+ghost use Rattle.std.specs.List.{list_all};
+ghost use Rattle.glue_steps.specs.Resolving as resolving;
 ghost use Rattle.glue_context.specs.Items as spec;
 
 use glue_binding::bind;
@@ -13,6 +13,7 @@ use glue_targets::{frame_end, frame_start, loading_item};
 use glue_tree::JsFunction;
 use glue_words::{Item, Role, Thing, Word, WordBuilder, key, punct};
 use std::alloc::{AllocError, Global};
+use std::cmp::Ordering;
 use values::{Duplicate, Seq, Text};
 use wasm_core::{Import, ImportId};
 
@@ -63,6 +64,7 @@ fn define_function(
 }
 
 // `arg` and the numbers below a count.
+#[tactic(auto, using(crate::proofs::Lists::name_steps))]
 fn default_names(alloc: Global, count: usize) -> Result<Seq<Text>, AllocError>
     ensures names { IfOk result (λ names. names ≡ spec.default_names count 0) }
 {
@@ -96,8 +98,8 @@ fn argument_count(lowered: &Lowered, id: AdapterId) -> usize
 
 // The steps of an adapter that is known to have some.
 fn known_steps(alloc: Global, lowered: &Lowered, id: AdapterId) -> Result<Seq<Step>, AllocError>
-    requires told { is_some (steps_of lowered.now id) ≡ true }
-    ensures steps { IfOk result (λ steps. steps_of lowered.now id ≡ Some steps) }
+    requires told { is_some (resolving.adapter_steps lowered.now id) ≡ true }
+    ensures steps { IfOk result (λ steps. resolving.adapter_steps lowered.now id ≡ Some steps) }
 {
     match adapter_steps(alloc, lowered, id)? {
         Some(steps) => Ok(steps),
@@ -112,7 +114,7 @@ fn adapter_function<N: Names>(
     id: AdapterId,
     names: &Seq<Text>,
 ) -> Result<JsFunction, AllocError>
-    requires told { is_some (steps_of lowered.now id) ≡ true }
+    requires told { is_some (resolving.adapter_steps lowered.now id) ≡ true }
     ensures function { IfOk result (λ function. spec.IsFunctionOf lowered.now id names.now function) }
 {
     let steps = known_steps(alloc, lowered, id)?;
@@ -150,7 +152,7 @@ fn define_by<N: Names>(
     import: &Import,
 ) -> Result<Item, AllocError>
     requires stands { spec.import_at lowered.now pair.now ≡ Some import.now }
-    requires told { is_some (steps_of lowered.now pair.now.1) ≡ true }
+    requires told { is_some (resolving.adapter_steps lowered.now pair.now.1) ≡ true }
     ensures item { IfOk result (λ item. spec.IsDefineItem lowered.now pair.now item) }
 {
     let none = Seq::new(alloc);
@@ -174,47 +176,103 @@ fn define_import<N: Names>(
     }
 }
 
-// The declarations of the exports.
-fn declare_exports<N: Names>(alloc: Global, lowered: &Lowered) -> Result<Seq<Item>, AllocError>
-    requires bindable { list_all (spec.is_bindable lowered.now) lowered.now.aux.exports ≡ true }
-    ensures items { IfOk result (λ items. spec.Matches (spec.IsDeclareItem lowered.now) lowered.now.aux.exports items) }
+// The exports one by one.
+fn each_export(alloc: Global, exports: &[AuxExport]) -> Result<Vec<&AuxExport>, AllocError>
+    ensures list { IfOk result (λ list. map (λ e. e.now) list.items ≡ exports.now) }
+{
+    exports.iter().collect(alloc)
+}
+
+// The exports by name.
+fn exports_by_name(alloc: Global, exports: &[AuxExport]) -> Result<Vec<&AuxExport>, AllocError>
+    ensures sorted { IfOk result (λ sorted. spec.IsArranged spec.export_order exports.now (map (λ e. e.now) sorted.items)) }
+{
+    let mut sorted = each_export(alloc, exports)?;
+    sorted.sort_by(|a, b| a.name.cmp(&b.name))?;
+    Ok(sorted)
+}
+
+// The name of the import of a pair, where one stands.
+fn pair_name<'a>(lowered: &'a Lowered, pair: &(ImportId, AdapterId)) -> &'a str
+    ensures name { result.now ≡ spec.pair_name lowered.now pair.now }
+{
+    match lowered.module.imports().get(pair.0.0 as usize) {
+        Some(Some(import)) => import.name.as_str(),
+        _ => "",
+    }
+}
+
+// Whether a pair comes before another, or after it.
+fn pair_order(lowered: &Lowered, a: &(ImportId, AdapterId), b: &(ImportId, AdapterId)) -> Ordering
+    ensures order { result ≡ spec.pair_order lowered.now a.now b.now }
+{
+    match pair_name(lowered, a).cmp(pair_name(lowered, b)) {
+        Ordering::Equal => a.1.0.cmp(&b.1.0),
+        order => order,
+    }
+}
+
+// The pairs by the import's name, and then by the adapter's id.
+fn pairs_by_import(
+    alloc: Global,
+    lowered: &Lowered,
+) -> Result<Vec<(ImportId, AdapterId)>, AllocError>
+    ensures sorted { IfOk result (λ sorted. spec.IsArranged (spec.pair_order lowered.now) lowered.now.wit.implements sorted.items) }
+{
+    let mut sorted = Vec::from_slice(alloc, lowered.wit.implements.as_slice())?;
+    sorted.sort_by(|a, b| pair_order(lowered, a, b))?;
+    Ok(sorted)
+}
+
+// The declarations of these exports.
+#[tactic(auto, using(crate::proofs::Lists::item_steps))]
+fn declare_exports<N: Names>(
+    alloc: Global,
+    lowered: &Lowered,
+    exports: &[&AuxExport],
+) -> Result<Seq<Item>, AllocError>
+    requires bindable { list_all (spec.is_bindable lowered.now) (map (λ e. e.now) exports.now) ≡ true }
+    ensures items { IfOk result (λ items. spec.Matches (spec.IsDeclareItem lowered.now) (map (λ e. e.now) exports.now) items) }
 {
     let mut items = Seq::new(alloc);
-    for export in lowered.aux.exports.as_slice() {
+    for export in exports {
         items.push(declare_export::<N>(alloc, lowered, export)?)?;
     }
     Ok(items)
 }
 
-// The definitions of the imports.
-fn define_imports<N: Names>(alloc: Global, lowered: &Lowered) -> Result<Seq<Item>, AllocError>
-    requires definable { list_all (spec.is_definable lowered.now) lowered.now.wit.implements ≡ true }
-    ensures items { IfOk result (λ items. spec.Matches (spec.IsDefineItem lowered.now) lowered.now.wit.implements items) }
+// The definitions of the imports of these pairs.
+#[tactic(auto, using(crate::proofs::Lists::item_steps))]
+fn define_imports<N: Names>(
+    alloc: Global,
+    lowered: &Lowered,
+    pairs: &[(ImportId, AdapterId)],
+) -> Result<Seq<Item>, AllocError>
+    requires definable { list_all (spec.is_definable lowered.now) pairs.now ≡ true }
+    ensures items { IfOk result (λ items. spec.Matches (spec.IsDefineItem lowered.now) pairs.now items) }
 {
     let mut items = Seq::new(alloc);
-    for pair in lowered.wit.implements.as_slice() {
+    for pair in pairs {
         items.push(define_import::<N>(alloc, lowered, pair)?)?;
     }
     Ok(items)
 }
 
-// A group of one item.
-fn alone(alloc: Global, item: Item) -> Result<Seq<Item>, AllocError>
-    ensures group { IfOk result (λ group. group ≡ item ∷ []) }
+// The items of all groups, one group behind the other.
+fn put_together(
+    declares: Seq<Item>,
+    start: Item,
+    defines: Seq<Item>,
+    end: Item,
+    loading: Item,
+) -> Result<Seq<Item>, AllocError>
+    ensures items { IfOk result (λ items. items ≡ declares ++ (start ∷ (defines ++ (end ∷ loading ∷ [])))) }
 {
-    let mut group = Seq::new(alloc);
-    group.push(item)?;
-    Ok(group)
-}
-
-// The groups, one behind the other.
-fn joined(alloc: Global, groups: Vec<Seq<Item>>) -> Result<Seq<Item>, AllocError>
-    ensures items { IfOk result (λ items. items ≡ flat_map (λ group. group) groups.items) }
-{
-    let mut items = Seq::new(alloc);
-    for group in groups {
-        items.append(group)?;
-    }
+    let mut items = declares;
+    items.push(start)?;
+    items.append(defines)?;
+    items.push(end)?;
+    items.push(loading)?;
     Ok(items)
 }
 
@@ -229,11 +287,12 @@ pub fn glue_items<N: Names>(
     requires definable { list_all (spec.is_definable lowered.now) lowered.now.wit.implements ≡ true }
     ensures items { IfOk result (λ items. spec.IsGlue settings.now lowered.now items) }
 {
-    let declares = declare_exports::<N>(alloc, lowered)?;
-    let start = alone(alloc, frame_start(alloc, settings)?)?;
-    let defines = define_imports::<N>(alloc, lowered)?;
-    let end = alone(alloc, frame_end(alloc, settings)?)?;
-    let loading = alone(alloc, loading_item(alloc, settings)?)?;
-    let groups = vec![in alloc; declares, start, defines, end, loading]?;
-    joined(alloc, groups)
+    let exports = exports_by_name(alloc, lowered.aux.exports.as_slice())?;
+    let pairs = pairs_by_import(alloc, lowered)?;
+    let declares = declare_exports::<N>(alloc, lowered, exports.as_slice())?;
+    let start = frame_start(alloc, settings)?;
+    let defines = define_imports::<N>(alloc, lowered, pairs.as_slice())?;
+    let end = frame_end(alloc, settings)?;
+    let loading = loading_item(alloc, settings)?;
+    put_together(declares, start, defines, end, loading)
 }

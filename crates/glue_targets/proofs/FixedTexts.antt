@@ -6,13 +6,14 @@ use Rattle.glue_words.specs.declared.item.Item.{Item}
 use Rattle.glue_words.specs.declared.item.Role.{Role}
 use Rattle.glue_words.specs.declared.item.Role.TheVariants as role
 use Rattle.glue_words.specs.Facts.{facts}
-use Rattle.glue_words.specs.Fitting.{Context, Fits}
+use Rattle.glue_words.proofs.Belonging.{Context}
+use Rattle.glue_words.proofs.Fitting.{Fits}
 use Rattle.glue_words.specs.Linking.{AreAmong}
-use Rattle.glue_words.specs.Marked.{read_marked}
+use Rattle.glue_marked.specs.Marked.{read_marked}
 use Rattle.glue_words.specs.Names.{bound_in, used_in, hosted_in}
-use Rattle.glue_words.specs.Reads.{words_in}
-use Rattle.glue_words.proofs.Reading.{reading}
-use Rattle.glue_words.proofs.StandIns.{renamed_text_fits}
+use Rattle.glue_marked.specs.Reads.{words_in}
+use Rattle.glue_marked.proofs.Reading.{reading}
+use Rattle.glue_marked.proofs.StandIns.{renamed_text_fits}
 use Rattle.glue_shared.specs.declared.settings.Settings.{Settings}
 use Rattle.glue_shared.specs.declared.settings.Target.{Target}
 use Rattle.glue_shared.specs.declared.settings.Target.TheVariants as target

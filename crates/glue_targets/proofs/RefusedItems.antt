@@ -1,13 +1,9 @@
 -- Items that are refused, each beside items that are right.
 use Rattle.std.proofs.Common.{◌≡◌, ℕ, inl, inr, List, [], ◌∷◌, ◌++◌, refl, Bool, true, false, true≢false}
-use Rattle.std.proofs.Common.{ap, sym, subst}
+use Rattle.std.proofs.Common.{ap, sym, ◌∙◌, subst}
 use Rattle.std.specs.Prelude.{◌⊎◌, Option, Some, None, codes, bytes_eq}
 use Rattle.std.specs.List.{list_any, flat_map}
 use Rattle.std.specs.Str.{chars}
-use Rattle.ucd_table.specs.Rows.{in_ranges}
-use Rattle.ucd_derived.specs.Binary.{is_xid_start, is_xid_continue}
-use Rattle.ucd_derived.specs.XidStartRanges.{xid_start_ranges}
-use Rattle.ucd_derived.specs.XidContinueRanges.{xid_continue_ranges}
 use Rattle.values.specs.Lists.{IsIn}
 use Rattle.glue_words.specs.declared.word.Word.{Word}
 use Rattle.glue_words.specs.declared.word.Word.TheVariants as w
@@ -18,18 +14,22 @@ use Rattle.glue_words.specs.declared.item.Thing.TheVariants as thing
 use Rattle.glue_words.specs.declared.item.Role.{Role}
 use Rattle.glue_words.specs.declared.item.Role.TheVariants as role
 use Rattle.glue_words.specs.Ident.{is_ident}
-use Rattle.glue_words.specs.Reads.{words_in}
-use Rattle.glue_words.specs.Tables.{punct_text}
+use Rattle.glue_marked.specs.Reads.{words_in}
+use Rattle.glue_words.specs.Names.{bound_in, hosted_in}
+use Rattle.glue_words.specs.Tables.{punct_text, key_text}
 use Rattle.glue_words.specs.Words.{text_of, space}
-use Rattle.glue_words.proofs.Reading.{reading}
+use Rattle.glue_words.proofs.Computing.{spelling}
+use Rattle.glue_marked.proofs.Reading.{reading}
 use Rattle.glue_shared.specs.declared.aux.WasmBindgenAux.{WasmBindgenAux}
 use Rattle.glue_shared.specs.declared.import.JsImport.{JsImport}
 use Rattle.glue_shared.specs.declared.import.JsImportName.TheVariants.{Global, Module}
 use Rattle.glue_shared.specs.declared.settings.Settings.{Settings}
 use Rattle.glue_shared.specs.declared.settings.Target.TheVariants as target
 use Rattle.glue_shared.specs.Names.{fixed_public_names, further_names, published_names}
-use Rattle.glue_targets.specs.Published.{IsImportBound, IsNamed, own_host, entries_from, fixed_published}
-use Rattle.glue_targets.specs.RoleWords.{role_words, clause_words, publish_texts, root_words, statement_end}
+use Rattle.glue_targets.specs.Published.{IsImportBound, IsNamed, Enters, IsVendorConstant, own_host, entries_from}
+use Rattle.glue_targets.specs.Published.{fixed_published}
+use Rattle.glue_targets.specs.RoleWords.{role_words, clause_words, publish_texts, root_words, inner_texts, roots_of}
+use Rattle.glue_targets.specs.RoleWords.{statement_end}
 
 -- ---- an inner namespace: `||=` below a re-exported root, `=` below one of the glue file's own
 
@@ -52,31 +52,58 @@ own_root = record { role = role.Namespace (codes "ns" ∷ []); words = root_word
 abbrev pub inner : Role
 inner = role.Namespace (codes "ns" ∷ codes "inner" ∷ [])
 
+abbrev is_nil : List (List ℕ) → Bool
+is_nil [] = true
+is_nil (x ∷ xs) = false
+
 module _ (settings : Settings) where
   reexported_right : is_one_of (codes "ns1.inner ||= {};\n") (role_words settings false (reexported_root ∷ []) inner [])
       ≡ true
-  unfolding punct_text is_ident chars in_ranges is_xid_start is_xid_continue xid_start_ranges xid_continue_ranges
+  unfolding spelling
   reexported_right = refl
 
   reexported_refused : is_one_of (codes "ns1.inner = {};\n") (role_words settings false (reexported_root ∷ []) inner [])
       ≡ false
-  unfolding punct_text is_ident chars in_ranges is_xid_start is_xid_continue xid_start_ranges xid_continue_ranges
+  unfolding spelling
   reexported_refused = refl
 
   own_right : is_one_of (codes "ns.inner = {};\n") (role_words settings false (own_root ∷ []) inner []) ≡ true
-  unfolding punct_text is_ident chars in_ranges is_xid_start is_xid_continue xid_start_ranges xid_continue_ranges
+  unfolding spelling
   own_right = refl
 
   own_refused : is_one_of (codes "ns.inner ||= {};\n") (role_words settings false (own_root ∷ []) inner []) ≡ false
-  unfolding punct_text is_ident chars in_ranges is_xid_start is_xid_continue xid_start_ranges xid_continue_ranges
+  unfolding spelling
   own_refused = refl
+
+-- ---- only what stands for an import may be a name of the host
+
+abbrev path : List (List ℕ)
+path = codes "ns" ∷ codes "inner" ∷ []
+
+import_root_right : flat_map hosted_in (inner_texts path (roots_of (codes "ns") (reexported_root ∷ [])))
+    ≡ codes "ns1" ∷ codes "ns1" ∷ []
+unfolding spelling
+import_root_right = refl
+
+own_root_right : flat_map hosted_in (inner_texts path (roots_of (codes "ns") (own_root ∷ []))) ≡ []
+unfolding spelling
+own_root_right = refl
+
+import_right : flat_map hosted_in (publish_texts true (codes "f") (thing.Imported (codes "f")) (codes "console"))
+    ≡ codes "console" ∷ codes "console" ∷ []
+import_right = refl
+
+own_right_alone : flat_map hosted_in (publish_texts true (codes "f") thing.Reset (codes "console")) ≡ []
+own_right_alone = refl
 
 -- ---- a name that is published may be evaluated now or later
 
-later_right : IsIn (clause_words (codes "f") (w.Refer (codes "f1") false)) (publish_texts true (codes "f") (codes "f1"))
+later_right : IsIn (clause_words (codes "f") (w.Refer (codes "f1") false))
+    (publish_texts true (codes "f") thing.Reset (codes "f1"))
 later_right = inl refl
 
-now_right : IsIn (clause_words (codes "f") (w.Refer (codes "f1") true)) (publish_texts true (codes "f") (codes "f1"))
+now_right : IsIn (clause_words (codes "f") (w.Refer (codes "f1") true))
+    (publish_texts true (codes "f") thing.Reset (codes "f1"))
 now_right = inr (inl refl)
 
 -- ---- a re-export is published under a name of its own import
@@ -95,6 +122,7 @@ module _ (settings : Settings) (aux : WasmBindgenAux) (given : aux.reexports ≡
       js = console;
       «typescript» = false;
       described = subst (IsIn (codes "f", console, false)) (sym given) (inl refl);
+      whole = refl;
       names = inr (inl refl);
     }
 
@@ -111,6 +139,17 @@ module _ (settings : Settings) (aux : WasmBindgenAux) (given : aux.reexports ≡
     other_host_refused n =
         elim (subst (IsIn (codes "f", n.js, n.«typescript»)) given n.described) [
           | inl e ↦ other_name (subst (Names [] (codes "document")) (ap (λ r. r.1) e) n.names)
+          | inr none ↦ absurd none
+        ]
+
+-- a re-export of a field of it is refused
+module _ (settings : Settings) (aux : WasmBindgenAux)
+    (given : aux.reexports ≡ (codes "f", record { name = Global (codes "console"); fields = codes "log" ∷ [] }, false) ∷ [])
+  where
+    field_refused : IsNamed settings aux [] (publishes (codes "console")) → ⊥
+    field_refused n =
+        elim (subst (IsIn (codes "f", n.js, n.«typescript»)) given n.described) [
+          | inl e ↦ true≢false (sym (ap is_nil n.whole) ∙ ap (λ (r : List ℕ × JsImport × Bool). is_nil r.1.fields) e)
           | inr none ↦ absurd none
         ]
 
@@ -135,12 +174,13 @@ module _ (settings : Settings) (aux : WasmBindgenAux) (given : aux.reexports ≡
     js = from_module;
     «typescript» = false;
     described = subst (IsIn (codes "f", from_module, false)) (sym given) (inl refl);
+    whole = refl;
     names = inl (record {
       item = import_line (codes "f") (codes "f1");
       stands = inl refl;
       binds = record {
         line = refl;
-        from = inr (inr (inr (inr (inr (inr (inr (inr (inr (inr (inr (inr (inr (inr (inl refl))))))))))))));
+        from = refl;
         entry = inl refl;
       };
     });
@@ -156,7 +196,7 @@ module _ (settings : Settings) (aux : WasmBindgenAux) (given : aux.reexports ≡
   other_entry (inl bound) =
       elim bound.stands [
         | inl e ↦
-            elim (subst (λ (i : Item). IsIn (codes "f", codes "g1") (entries_from None i.words)) e bound.binds.entry) [
+            elim (subst (λ (i : Item). IsIn (codes "f", codes "g1") (entries_from false [] i.words)) e bound.binds.entry) [
               | inl same ↦ true≢false (ap (λ (p : List ℕ × List ℕ). bytes_eq (codes "f") p.0) same)
               | inr none ↦ absurd none
             ]
@@ -171,6 +211,89 @@ module _ (settings : Settings) (aux : WasmBindgenAux) (given : aux.reexports ≡
         | inl e ↦ other_entry (subst Entered (ap (λ r. r.1) e) n.names)
         | inr none ↦ absurd none
       ]
+
+-- ---- an import line, and what its entries bind
+
+abbrev entries_in : List ℕ → List (List ℕ × List ℕ)
+entries_in text = entries_from false [] (words_in text)
+
+entries_right : entries_in (codes "import { o@a as b@c, b@d } from \"m\";\n")
+    ≡ (codes "a", codes "c") ∷ (codes "d", codes "d") ∷ []
+unfolding reading
+entries_right = refl
+
+required_right : entries_in (codes "const { o@a: b@c, b@d } = g@require(\"m\");\n")
+    ≡ (codes "a", codes "c") ∷ (codes "d", codes "d") ∷ []
+unfolding reading
+required_right = refl
+
+-- what a keyword takes, and what stands outside the braces, isn't the name that is bound
+default_refused : entries_in (codes "import b@e, { default as b@f } from \"m\";\n") ≡ (codes "default", codes "f") ∷ []
+unfolding reading key_text
+default_refused = refl
+
+whole_module_refused : entries_in (codes "import * as b@m from \"m\";\n") ≡ []
+unfolding reading
+whole_module_refused = refl
+
+-- a line names one module
+two_modules_refused : (name bound : List ℕ) → Enters (codes "m") name bound (record {
+  role = role.Import;
+  words = words_in (codes "import { b@a } from \"n\";\nimport { b@b } from \"m\";\n");
+}) → ⊥
+unfolding reading
+two_modules_refused name bound h = true≢false (ap (λ (texts : List (List ℕ)). list_any (bytes_eq (codes "n")) texts) h.from)
+
+-- ---- the constant of a name with prefixes
+
+abbrev vendor_words : List Word
+vendor_words =
+    words_in (codes "const b@lx = (typeof g@x !== \"undefined\" ? g@x : (typeof g@wx !== \"undefined\" ? g@wx : g@undefined));\n")
+
+abbrev vendor_line : Role → Item
+vendor_line r = record { role = r; words = vendor_words }
+
+abbrev vendor_hosts : List (List ℕ)
+vendor_hosts = codes "x" ∷ codes "wx" ∷ []
+
+vendor_bound : bound_in vendor_words ≡ codes "lx" ∷ []
+unfolding reading
+vendor_bound = refl
+
+abbrev vendor_hosted : List (List ℕ)
+vendor_hosted = codes "x" ∷ codes "x" ∷ codes "wx" ∷ codes "wx" ∷ codes "undefined" ∷ []
+
+vendor_names : hosted_in vendor_words ≡ vendor_hosted
+unfolding reading
+vendor_names = refl
+
+vendor_only : (name : List ℕ) → IsIn name vendor_hosted → IsIn name (codes "undefined" ∷ vendor_hosts)
+vendor_only name (inl e) = inr (inl e)
+vendor_only name (inr (inl e)) = inr (inl e)
+vendor_only name (inr (inr (inl e))) = inr (inr (inl e))
+vendor_only name (inr (inr (inr (inl e)))) = inr (inr (inl e))
+vendor_only name (inr (inr (inr (inr (inl e))))) = inl e
+vendor_only name (inr (inr (inr (inr (inr none))))) = absurd none
+
+vendor_all : (name : List ℕ) → IsIn name vendor_hosts → IsIn name vendor_hosted
+vendor_all name (inl e) = inl e
+vendor_all name (inr (inl e)) = inr (inr (inl e))
+vendor_all name (inr (inr none)) = absurd none
+
+vendor_right : IsVendorConstant vendor_hosts (codes "lx") (vendor_line role.Import)
+vendor_right = record {
+  line = refl;
+  binds = vendor_bound;
+  only = λ name h. vendor_only name (subst (IsIn name) vendor_names h);
+  all = λ name h. subst (IsIn name) (sym vendor_names) (vendor_all name h);
+}
+
+abbrev is_import : Role → Bool
+is_import role.Import = true
+is_import r = false
+
+vendor_body_refused : IsVendorConstant vendor_hosts (codes "lx") (vendor_line role.Body) → ⊥
+vendor_body_refused h = true≢false (sym (ap is_import h.line))
 
 -- ---- names beside the public tree
 
@@ -191,8 +314,44 @@ clause_right : fixed_published (record {
   role = role.Loading;
   words = words_in (codes "const b@path = 1;\nexport { u@initSync, u@path as default };\n");
 } ∷ []) ≡ codes "initSync" ∷ codes "default" ∷ []
-unfolding reading
+unfolding reading key_text
 clause_right = refl
+
+-- whatever its role, an item's clauses are seen, a helper's and an import line's too
+helper_seen : fixed_published (record {
+  role = role.Helper (codes "k");
+  words = words_in (codes "export function b@f() {\n}\n");
+} ∷ []) ≡ codes "f" ∷ []
+unfolding reading
+helper_seen = refl
+
+passed_on_seen : fixed_published (record {
+  role = role.Import;
+  words = words_in (codes "export { a, o@b as default, o@c as p@d, o@e as \"f g\" } from \"m\";\n");
+} ∷ []) ≡ codes "a" ∷ codes "default" ∷ codes "d" ∷ codes "f g" ∷ []
+unfolding reading key_text
+passed_on_seen = refl
+
+-- no list of names has what a whole module gives
+whole_module_seen : fixed_published (record {
+  role = role.Import;
+  words = words_in (codes "export * from \"m\";\nconst b@x = 1;\n");
+} ∷ []) ≡ codes "*" ∷ []
+unfolding reading
+whole_module_seen = refl
+
+-- an exported declaration ends with its semicolon, and names all its constants
+constants_right : fixed_published (record {
+  role = role.Body;
+  words = words_in (codes "export const b@x = u@f(1, () => { 2; }), b@y = 3;\nconst b@z = 4;\n");
+} ∷ []) ≡ codes "x" ∷ codes "y" ∷ []
+unfolding reading
+constants_right = refl
+
+nothing_right : fixed_published (record { role = role.Body; words = words_in (codes "export {};\nconst b@z = 4;\n") } ∷ [])
+    ≡ []
+unfolding reading
+nothing_right = refl
 
 -- on the bundler own imports are published, and `__wasm` stands in the entry
 bundler_right : (browser_only : Bool) (own wasm : List (List ℕ))
@@ -220,5 +379,5 @@ assigned_root_refused settings = refl
 assigned_right : (settings : Settings) → is_one_of (codes "ns.f = f1;\n")
     (role_words settings false (own_root ∷ []) (role.Assign (codes "ns" ∷ codes "f" ∷ []) thing.Reset (codes "f1")) [])
     ≡ true
-unfolding punct_text is_ident chars in_ranges is_xid_start is_xid_continue xid_start_ranges xid_continue_ranges
+unfolding spelling
 assigned_right settings = refl

@@ -1,5 +1,5 @@
 -- What items publish.
-use Rattle.std.specs.Prelude.{◌≡◌, ℕ, ◌==◌, Bool, true, false, ◌⊎◌, List, [], ◌∷◌, ◌++◌, map, codes, Option}
+use Rattle.std.specs.Prelude.{◌≡◌, ℕ, zero, suc, ◌+◌, ◌-◌, ◌==◌, Bool, true, false, not, ◌⊎◌, List, [], ◌∷◌, ◌++◌, map, codes, Option}
 use Rattle.std.specs.Prelude.{Some, None, if◌then◌else◌}
 use Rattle.std.specs.Fmt.{decimal}
 use Rattle.std.specs.List.{flat_map, filter_map, list_any}
@@ -13,8 +13,9 @@ use Rattle.glue_words.specs.declared.item.Thing.TheVariants as thing
 use Rattle.glue_words.specs.declared.item.Role.{Role}
 use Rattle.glue_words.specs.declared.item.Role.TheVariants as role
 use Rattle.glue_words.specs.declared.item.Item.{Item}
-use Rattle.glue_words.specs.Facts.{is_export_key, outer_name}
+use Rattle.glue_words.specs.Names.{is_export_key}
 use Rattle.glue_words.specs.Names.{bound_in, hosted_in}
+use Rattle.glue_words.specs.Tables.{key_text}
 use Rattle.glue_words.specs.Linking.{EachItem}
 use Rattle.glue_shared.specs.declared.aux.WasmBindgenAux.{WasmBindgenAux}
 use Rattle.glue_shared.specs.declared.import.JsImport.{JsImport}
@@ -46,10 +47,11 @@ pairs_of role.Import exported names = []
 pairs_of (role.Foreign number) exported names = []
 pairs_of role.Fixed exported names = []
 pairs_of (role.Define place) exported names = []
-pairs_of (role.Helper key) exported names = []
+pairs_of (role.Helper name) exported names = []
 pairs_of role.Body exported names = []
 pairs_of role.Loading exported names = []
 
+-- what an item publishes
 abbrev pub published_by : Item → List PublicPair
 published_by item = pairs_of item.role (is_exported item) (bound_in item.words)
 
@@ -59,47 +61,91 @@ published_pairs items = flat_map published_by items
 
 -- ---- fixed names
 
--- the names for the outside that words are
-abbrev pub outer_in : List Word → List (List ℕ)
-outer_in words = filter_map outer_name words
+-- the name that a word says in an entry in braces; the keyword `as` says none
+abbrev pub said_name : Word → Option (List ℕ)
+said_name (w.Key k) = if k == key.AS then None else Some (key_text k)
+said_name (w.Text name) = Some name
+said_name (w.Bind name) = Some name
+said_name (w.Refer name now) = Some name
+said_name (w.Host name now) = Some name
+said_name (w.LocalBind name) = Some name
+said_name (w.Local name) = Some name
+said_name (w.Prop name) = Some name
+said_name (w.Outer name) = Some name
+said_name word = None
 
--- where a word stands: outside exports, behind the keyword `export`, or in its braces, where the entry so far publishes
--- this name, or none yet
+-- the name that an entry says last, where it said this one, or none, before
+abbrev pub said_after : List (List ℕ) → Option (List ℕ) → List (List ℕ)
+said_after names None = names
+said_after names (Some name) = name ∷ []
+
+-- where a word stands: outside exports, right behind the keyword `export`, behind a keyword of what is declared there, in
+-- the constants that are declared there, at a depth of brackets, or in the braces of a clause, where the entry said this
+-- name, or none yet
 pub data Place : Type 0 where
   Outside : Place
   Behind : Place
+  Naming : Place
+  Constants : (depth : ℕ) → Place
   Listed : List (List ℕ) → Place
 
--- the names that export clauses and exported declarations publish
+-- the depth behind punctuation
+abbrev pub depth_behind : ℕ → ℕ → ℕ
+depth_behind depth p =
+    if list_any (λ q. p == q) (punct.OPEN_BRACE ∷ punct.OPEN_PAREN ∷ punct.OPEN_BRACKET ∷ []) then depth + 1
+    else (if list_any (λ q. p == q) (punct.CLOSE_BRACE ∷ punct.CLOSE_PAREN ∷ punct.CLOSE_BRACKET ∷ []) then depth - 1
+    else depth)
+
+-- where the words go on behind punctuation
+abbrev pub behind_punct : Place → ℕ → Place
+behind_punct Outside p = Outside
+behind_punct Behind p =
+    if p == punct.OPEN_BRACE then Listed [] else (if p == punct.SEMICOLON then Outside else Behind)
+behind_punct Naming p = if p == punct.SEMICOLON then Outside else Naming
+behind_punct (Constants zero) p = if p == punct.SEMICOLON then Outside else Constants (depth_behind zero p)
+behind_punct (Constants (suc depth)) p = Constants (depth_behind (suc depth) p)
+behind_punct (Listed names) p = if p == punct.CLOSE_BRACE then Outside else Listed []
+
+-- where they go on behind a keyword other than `default` that stands behind `export`
+abbrev pub behind_key : ℕ → Place
+behind_key k =
+    if list_any (λ q. k == q) (key.CONST ∷ key.LET ∷ key.VAR ∷ []) then Constants zero else Naming
+
+-- the names that export clauses and exported declarations publish; `*` stands for those that a whole module gives
 abbrev pub clauses_from : Place → List Word → List (List ℕ)
 clauses_from place [] = []
 clauses_from Outside (w.Key k ∷ words) =
     if k == key.EXPORT then clauses_from Behind words else clauses_from Outside words
 clauses_from Outside (word ∷ words) = clauses_from Outside words
-clauses_from Behind (w.Bind name ∷ words) = name ∷ clauses_from Outside words
 clauses_from Behind (w.Key k ∷ words) =
-    if k == key.DEFAULT then codes "default" ∷ clauses_from Outside words else clauses_from Behind words
+    if k == key.DEFAULT then codes "default" ∷ clauses_from Outside words else clauses_from (behind_key k) words
 clauses_from Behind (w.Punct p ∷ words) =
-    if p == punct.OPEN_BRACE then clauses_from (Listed []) words else clauses_from Behind words
+    if p == punct.TIMES then codes "*" ∷ clauses_from Outside words else clauses_from (behind_punct Behind p) words
 clauses_from Behind (word ∷ words) = clauses_from Behind words
-clauses_from (Listed names) (w.Refer name now ∷ words) = clauses_from (Listed (name ∷ [])) words
-clauses_from (Listed names) (w.Outer name ∷ words) = clauses_from (Listed (name ∷ [])) words
-clauses_from (Listed names) (w.Key k ∷ words) =
-    clauses_from (Listed (if k == key.DEFAULT then codes "default" ∷ [] else names)) words
-clauses_from (Listed names) (w.Punct p ∷ words) =
-    names ++ clauses_from (if p == punct.CLOSE_BRACE then Outside else Listed []) words
-clauses_from (Listed names) (word ∷ words) = clauses_from (Listed names) words
+clauses_from Naming (w.Bind name ∷ words) = name ∷ clauses_from Outside words
+clauses_from Naming (w.Punct p ∷ words) = clauses_from (behind_punct Naming p) words
+clauses_from Naming (word ∷ words) = clauses_from Naming words
+clauses_from (Constants depth) (w.Bind name ∷ words) = name ∷ clauses_from (Constants depth) words
+clauses_from (Constants depth) (w.Punct p ∷ words) = clauses_from (behind_punct (Constants depth) p) words
+clauses_from (Constants depth) (word ∷ words) = clauses_from (Constants depth) words
+clauses_from (Listed names) (w.Punct p ∷ words) = names ++ clauses_from (behind_punct (Listed names) p) words
+clauses_from (Listed names) (word ∷ words) = clauses_from (Listed (said_after names (said_name word))) words
 
--- the names that the words of a fixed text or a definition publish
+-- The names that the words of an item of a role publish beside the tree, where they hold the keyword. What is declared,
+-- placed and published for a thing belongs to the tree.
 abbrev pub fixed_of : Role → Bool → List Word → List (List ℕ)
-fixed_of role.Fixed exported words = clauses_from Outside words
-fixed_of role.Loading exported words = clauses_from Outside words
-fixed_of (role.Define place) true words = bound_in words ++ outer_in words
-fixed_of role exported words = []
+fixed_of (role.Declare t) exported words = []
+fixed_of (role.Namespace path) exported words = []
+fixed_of (role.Publish path t name) exported words = []
+fixed_of (role.Assign path t name) exported words = []
+fixed_of role false words = []
+fixed_of role true words = clauses_from Outside words
 
+-- what an item publishes beside the tree
 abbrev pub fixed_by : Item → List (List ℕ)
 fixed_by item = fixed_of item.role (is_exported item) item.words
 
+-- what items publish beside the tree
 abbrev pub fixed_published : List Item → List (List ℕ)
 fixed_published items = flat_map fixed_by items
 
@@ -138,24 +184,35 @@ pub record IsBoundBy (items : List Item) (t : Thing) (name : List ℕ) : Type 0 
   pub declares : Declares item.role t
   pub binds : IsIn name (bound_in item.words)
 
--- the entries of an import line: the name of the module that each takes, and the one that it binds
-abbrev pub entries_from : Option (List ℕ) → List Word → List (List ℕ × List ℕ)
-entries_from taken [] = []
-entries_from taken (w.Outer name ∷ words) = entries_from (Some name) words
-entries_from (Some name) (w.Bind bound ∷ words) = (name, bound) ∷ entries_from None words
-entries_from None (w.Bind bound ∷ words) = (bound, bound) ∷ entries_from None words
-entries_from taken (word ∷ words) = entries_from taken words
+-- The entries in the braces of an import line: the name of the module that each takes, and the one that it binds. An
+-- entry said this name, or none yet.
+abbrev pub entries_from : Bool → List (List ℕ) → List Word → List (List ℕ × List ℕ)
+entries_from inside said [] = []
+entries_from false said (w.Punct p ∷ words) = entries_from (p == punct.OPEN_BRACE) [] words
+entries_from false said (word ∷ words) = entries_from false [] words
+entries_from true said (w.Punct p ∷ words) =
+    entries_from (not (p == punct.CLOSE_BRACE)) (if p == punct.COLON then said else []) words
+entries_from true [] (w.Bind bound ∷ words) = (bound, bound) ∷ entries_from true [] words
+entries_from true (name ∷ said) (w.Bind bound ∷ words) = (name, bound) ∷ entries_from true [] words
+entries_from true said (word ∷ words) = entries_from true (said_after said (said_name word)) words
 
--- the item imports a name of a module under another
+-- the text that a word is
+abbrev pub text_name : Word → Option (List ℕ)
+text_name (w.Text text) = Some text
+text_name word = None
+
+-- the item imports a name of the one module that it names under another
 pub record Enters (path name bound : List ℕ) (item : Item) : Type 0 where
   pub line : item.role ≡ role.Import
-  pub from : IsIn (w.Text path) item.words
-  pub entry : IsIn (name, bound) (entries_from None item.words)
+  pub from : filter_map text_name item.words ≡ path ∷ []
+  pub entry : IsIn (name, bound) (entries_from false [] item.words)
 
--- the item is the constant of a name with prefixes: it binds one name, and names exactly these of the host
+-- the item is the constant of a name with prefixes: it binds one name, and names exactly these of the host, and
+-- `undefined` where none of them is there
 pub record IsVendorConstant (names : List (List ℕ)) (bound : List ℕ) (item : Item) : Type 0 where
+  pub line : item.role ≡ role.Import
   pub binds : bound_in item.words ≡ bound ∷ []
-  pub only : (name : List ℕ) → IsIn name (hosted_in item.words) → IsIn name names
+  pub only : (name : List ℕ) → IsIn name (hosted_in item.words) → IsIn name (codes "undefined" ∷ names)
   pub all : (name : List ℕ) → IsIn name names → IsIn name (hosted_in item.words)
 
 -- the item binds a name for an import
@@ -180,13 +237,14 @@ pub record IsImportBound (items : List Item) (js : JsImportName) (name : List �
   pub stands : IsIn item items
   pub binds : BindsImport js name item
 
--- a name stands for the import that a re-export names: an item binds it for that import, or it is that import's own
--- of the host
+-- a name stands for the import that a re-export names, which has no fields: an item binds it for that import, or it is
+-- that import's own of the host
 pub record IsReexported (settings : Settings) (aux : WasmBindgenAux) (items : List Item) (reexport name : List ℕ)
     : Type 0 where
   pub js : JsImport
   pub «typescript» : Bool
   pub described : IsIn (reexport, js, «typescript») aux.reexports
+  pub whole : js.fields ≡ []
   pub names : IsImportBound items js.name name ⊎ IsIn name (own_host settings.omit_imports js.name)
 
 -- a name stands for a thing

@@ -40,6 +40,11 @@ refers name = w.Refer name false ∷ w.Refer name true ∷ []
 abbrev pub hosts : List ℕ → List Word
 hosts name = w.Host name false ∷ w.Host name true ∷ []
 
+-- the words for a name that stands for a thing: one that an item binds, or, for an import, it may be the host's
+abbrev pub named : Thing → List ℕ → List Word
+named (thing.Imported reexport) name = refers name ++ hosts name
+named t name = refers name
+
 -- `.name`, or `["name"]` where the name is no identifier
 abbrev pub access_words : List ℕ → List Word
 access_words name =
@@ -68,13 +73,13 @@ clause_words public name =
 abbrev pub exports_words : List ℕ → Word → Word → List Word
 exports_words public name exports = exports ∷ access_words public ++ assigned_words punct.ASSIGN (name ∷ [])
 
--- The texts that publish a name: a clause in an ES module, else an assignment to the host's `exports`. The name is one
--- that an item binds, or the host's.
-abbrev pub publish_texts : Bool → List ℕ → List ℕ → List (List Word)
-publish_texts true public name = map (clause_words public) (refers name ++ hosts name)
-publish_texts false public name =
-    flat_map (λ word. map (exports_words public word) (hosts (codes "exports"))) (refers name ++ hosts name)
+-- the texts that publish a name for a thing: a clause in an ES module, else an assignment to the host's `exports`
+abbrev pub publish_texts : Bool → List ℕ → Thing → List ℕ → List (List Word)
+publish_texts true public t name = map (clause_words public) (named t name)
+publish_texts false public t name =
+    flat_map (λ word. map (exports_words public word) (hosts (codes "exports"))) (named t name)
 
+-- `export ` where it is exported
 abbrev pub export_first : Bool → List Word
 export_first true = w.Key key.EXPORT ∷ space ∷ []
 export_first false = []
@@ -108,6 +113,7 @@ abbrev pub is_imported : Thing → Bool
 is_imported (thing.Imported name) = true
 is_imported t = false
 
+-- how an inner namespace is put in its place: `||=` where the root may hold it already
 abbrev pub inner_operator : Thing → ℕ
 inner_operator t = if is_imported t then punct.OR_ASSIGN else punct.ASSIGN
 
@@ -127,21 +133,25 @@ roots_of segment items =
 
 -- ---- the texts of a role
 
+-- the words for a root
+abbrev pub named_root : Root → List Word
+named_root root = named root.1 root.0
+
 -- the texts of an inner namespace, at each root that its path may begin with
 abbrev pub inner_texts : Path → List Root → List (List Word)
 inner_texts path roots =
-    flat_map (λ (root : Root). map (inner_words (inner_operator root.1) path) (refers root.0)) roots
+    flat_map (λ (root : Root). map (inner_words (inner_operator root.1) path) (named_root root)) roots
 
--- the texts that place a name at a path, at each root that the path may begin with
-abbrev pub assign_texts : Path → List ℕ → List Root → List (List Word)
-assign_texts path name roots =
-    flat_map (λ (root : Root). flat_map (λ word. map (assign_words path word) (refers root.0)) (refers name)) roots
+-- the texts that place a name for a thing at a path, at each root that the path may begin with
+abbrev pub assign_texts : Path → Thing → List ℕ → List Root → List (List Word)
+assign_texts path t name roots =
+    flat_map (λ word. map (assign_words path word) (flat_map named_root roots)) (named t name)
 
 -- the texts that an item of a role may have, where the role asks for one
 abbrev pub role_words : Settings → Bool → List Item → Role → List (List ℕ) → Option (List (List Word))
 role_words settings has_start items (role.Publish [] t name) bound = Some []
 role_words settings has_start items (role.Publish (p ∷ []) t name) bound =
-    Some (publish_texts (is_es_module settings.target) p name)
+    Some (publish_texts (is_es_module settings.target) p t name)
 role_words settings has_start items (role.Publish (p ∷ next ∷ path) t name) bound = Some []
 role_words settings has_start items (role.Namespace []) bound = Some []
 role_words settings has_start items (role.Namespace (p ∷ [])) bound =
@@ -151,7 +161,7 @@ role_words settings has_start items (role.Namespace (p ∷ next ∷ path)) bound
 role_words settings has_start items (role.Assign [] t name) bound = Some []
 role_words settings has_start items (role.Assign (p ∷ []) t name) bound = Some []
 role_words settings has_start items (role.Assign (p ∷ next ∷ path) t name) bound =
-    Some (assign_texts (p ∷ next ∷ path) name (roots_of p items))
+    Some (assign_texts (p ∷ next ∷ path) t name (roots_of p items))
 role_words settings has_start items role.Fixed bound =
     Some (map (λ text. text.words) (frame_texts settings.target settings.stem))
 role_words settings has_start items role.Loading bound =
@@ -160,5 +170,5 @@ role_words settings has_start items role.Import bound = None
 role_words settings has_start items (role.Foreign number) bound = None
 role_words settings has_start items (role.Define place) bound = None
 role_words settings has_start items (role.Declare t) bound = None
-role_words settings has_start items (role.Helper key) bound = None
+role_words settings has_start items (role.Helper name) bound = None
 role_words settings has_start items role.Body bound = None

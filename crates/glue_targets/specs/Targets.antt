@@ -3,8 +3,8 @@ use Rattle.std.specs.Prelude.{ℕ, Bool, false, List, [], ◌∷◌, ◌++◌, c
 use Rattle.glue_words.specs.declared.word.Word.{Word}
 use Rattle.glue_words.specs.declared.item.Item.{Item}
 use Rattle.glue_words.specs.declared.item.Role.TheVariants.{Fixed, Loading}
-use Rattle.glue_words.specs.Reads.{words_in}
-use Rattle.glue_words.specs.StandIns.{Names, name_for, renamed}
+use Rattle.glue_marked.specs.Reads.{words_in}
+use Rattle.glue_marked.specs.StandIns.{Names, name_for, renamed}
 use Rattle.glue_shared.specs.declared.settings.Target.{Target}
 use Rattle.glue_shared.specs.declared.settings.Target.TheVariants as target
 use Rattle.glue_targets.specs.declared.deno.TheConstants as deno

@@ -1,4 +1,4 @@
-//! The fixed texts of Deno, in the marked notation of `glue_words`.
+//! The fixed texts of Deno, in the marked notation of `glue_marked`.
 //!
 //! Two texts stand for names of files: `$module` for the path of the module that own imports come from, and `$file` for
 //! the name of the WebAssembly file.

@@ -6,7 +6,7 @@
 //! texts declare, use and publish, that they fit where the names that they use are known (`proofs/FixedTexts.antt`), and
 //! which items are refused beside which are right (`proofs/RefusedItems.antt`).
 //!
-//! Stands on `glue_words` and `glue_shared`.
+//! Stands on `glue_words`, `glue_marked` (texts with stand-ins) and `glue_shared`.
 #![tactic(auto)]
 
 pub mod deno;

@@ -2,20 +2,19 @@
 //!
 //! On Deno the imports stand in one object that a function answers, and the module is fetched beside the file.
 ghost use Rattle.std.specs.Prelude.{◌≡◌, IfOk, is_ok, true};
-ghost use Rattle.glue_words.specs.Marked.{read_marked};
-ghost use Rattle.glue_targets.specs.Targets.{file_name, fixed_words as the_words};
-ghost use Rattle.glue_targets.specs.Targets.{frame_start as the_frame_start, frame_end as the_frame_end};
-ghost use Rattle.glue_targets.specs.Targets.{loading_item as the_loading_item};
+ghost use Rattle.glue_marked.specs.Marked.{read_marked};
+ghost use Rattle.glue_targets.specs.Targets as spec;
 
 use crate::deno;
+use glue_marked::{renamed_words, shipped};
 use glue_shared::Settings;
-use glue_words::{Item, Role, Word, renamed_words, shipped};
+use glue_words::{Item, Role, Word};
 use std::alloc::{AllocError, Global};
 use values::{Seq, Text};
 
 // The stem between two texts.
 fn file_name_of(alloc: Global, before: &str, stem: &str, after: &str) -> Result<Text, AllocError>
-    ensures named { IfOk result (λ name. name ≡ file_name before.now stem.now after.now) }
+    ensures named { IfOk result (λ name. name ≡ spec.file_name before.now stem.now after.now) }
 {
     let mut name = Text::from_str(alloc, before)?;
     name.push_str(stem)?;
@@ -26,7 +25,7 @@ fn file_name_of(alloc: Global, before: &str, stem: &str, after: &str) -> Result<
 // The words of a fixed text, with names of files for their stand-ins.
 fn fixed_words(alloc: Global, stem: &str, text: &str) -> Result<Seq<Word>, AllocError>
     requires { is_ok (read_marked text.now) ≡ true }
-    ensures words { IfOk result (λ words. words ≡ the_words stem.now text.now) }
+    ensures words { IfOk result (λ words. words ≡ spec.fixed_words stem.now text.now) }
 {
     let words = shipped(alloc, text)?;
     let path = (
@@ -43,7 +42,7 @@ fn fixed_words(alloc: Global, stem: &str, text: &str) -> Result<Seq<Word>, Alloc
 /// The item of the frame up to the first member. The only error is want of memory, as of the other calls.
 #[tactic(auto, using(crate::proofs::FixedTexts::start_reads))]
 pub fn frame_start(alloc: Global, settings: &Settings) -> Result<Item, AllocError>
-    ensures item { IfOk result (λ item. item ≡ the_frame_start settings.now.stem) }
+    ensures item { IfOk result (λ item. item ≡ spec.frame_start settings.now.stem) }
 {
     let words = fixed_words(alloc, settings.stem.as_str(), deno::FRAME_START)?;
     Ok(Item {
@@ -55,7 +54,7 @@ pub fn frame_start(alloc: Global, settings: &Settings) -> Result<Item, AllocErro
 /// The item of the frame from the end of the members on.
 #[tactic(auto, using(crate::proofs::FixedTexts::end_reads))]
 pub fn frame_end(alloc: Global, settings: &Settings) -> Result<Item, AllocError>
-    ensures item { IfOk result (λ item. item ≡ the_frame_end settings.now.stem) }
+    ensures item { IfOk result (λ item. item ≡ spec.frame_end settings.now.stem) }
 {
     let words = fixed_words(alloc, settings.stem.as_str(), deno::FRAME_END)?;
     Ok(Item {
@@ -67,7 +66,7 @@ pub fn frame_end(alloc: Global, settings: &Settings) -> Result<Item, AllocError>
 /// The item that loads the module.
 #[tactic(auto, using(crate::proofs::FixedTexts::loading_reads))]
 pub fn loading_item(alloc: Global, settings: &Settings) -> Result<Item, AllocError>
-    ensures item { IfOk result (λ item. item ≡ the_loading_item settings.now.stem) }
+    ensures item { IfOk result (λ item. item ≡ spec.loading_item settings.now.stem) }
 {
     let words = fixed_words(alloc, settings.stem.as_str(), deno::LOADING)?;
     Ok(Item {

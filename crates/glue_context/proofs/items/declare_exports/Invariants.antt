@@ -1,6 +1,8 @@
-use Rattle.std.proofs.Common.{take}
-use Rattle.glue_context.specs.Items.{Matches, IsDeclareItem}
+use Rattle.glue_context.proofs.Common.{◌≡◌, ℕ, ◌<◌, get_or, length, Bor, AuxExport, Item, IsDeclareItem}
 use Rattle.glue_context.proofs.items.declare_exports.Given as goal
 
 abbrev pub invariant-loop-export : goal.invariant-loop-export
-invariant-loop-export g l = Matches (IsDeclareItem l.lowered) (take l.export-index l.export-items) l.items
+invariant-loop-export g l = record {
+  long : length l.items ≡ l.export-index;
+  each : (k : ℕ) (d : Bor AuxExport) (e : Item) → k < l.export-index → IsDeclareItem l.lowered (get_or l.exports k d).now (get_or l.items k e);
+}

@@ -1,5 +1,4 @@
-use Rattle.std.proofs.Common.{◌≡◌, ◌-◌, ◌++◌}
-use Rattle.glue_context.specs.Items.{default_names}
+use Rattle.glue_context.proofs.Common.{◌≡◌, ◌-◌, ◌++◌, default_names}
 use Rattle.glue_context.proofs.items.default_names.Given as goal
 
 abbrev pub invariant-loop-number : goal.invariant-loop-number

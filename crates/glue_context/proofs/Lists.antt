@@ -1,0 +1,131 @@
+-- Lists: what tests say of their items, items with their counterparts, and the items of a description.
+use Rattle.glue_context.proofs.Common.{◌≡◌, ℕ, suc, ◌+◌, ◌<◌, ◌-◌, inl, inr, List, [], ◌∷◌, ◌++◌, length, map, get_or, Bool, true, false, refl, sym, ap, ◌∙◌, arith, not, codes, ◌||◌, list_all, list_any, flat_map, flat_map-append, or_parts, bytes_eq, bytes_eq-Decides, common_steps, IsIn, IsAway, AreDistinct, AreApart, Item, EachItem, AllItems, is_some_item, IsArranged, Matches, IsDeclareItem, IsDefineItem, IsGlue, all_items, default_names, Settings, ImportId, AuxExport, Lowered, frame_start, frame_end, loading_item, Ordering}
+use Rattle.std.specs.Bool.{Decides}
+use Rattle.std.specs.Fmt.{decimal}
+use Rattle.std.proofs.lemmas.Bool.Decides.{Decides-like, Decides-or, not_from_Decides}
+use Rattle.std.proofs.lemmas.List.{map-id}
+use Rattle.std.proofs.lemmas.List.Sums.{AllPass-from_list_all, list_all-from_AllPass}
+use Rattle.std.proofs.lemmas.List.Folds.{list_all-map}
+use Rattle.glue_check.specs.Check.{is_among}
+use Rattle.glue_context.proofs.Arranged.{all_are, each_is, arranged_from}
+pub use Rattle.std.proofs.lemmas.Bool.{not-true as not_true}
+
+-- ---- tests of each item
+
+module _ {A : Type 0} (test : A → Bool) where
+  pub all_in : (xs : List A) → list_all test xs ≡ true → (x : A) → IsIn x xs → test x ≡ true
+  all_in xs h = each_is (λ x. test x ≡ true) xs (AllPass-from_list_all test xs h)
+
+  pub all_by : (xs : List A) → ((x : A) → IsIn x xs → test x ≡ true) → list_all test xs ≡ true
+  all_by xs h = list_all-from_AllPass test xs (all_are (λ x. test x ≡ true) xs h)
+
+  -- what each item passes, each passes in another order
+  pub all_moved : {order : A → A → Ordering} (xs ys : List A) → IsArranged order xs ys → list_all test xs ≡ true → list_all test ys ≡ true
+  all_moved xs ys a h = all_by ys (λ y k. all_in xs h y (arranged_from a y k))
+
+pub none_of : {A : Type 0} (xs : List A) → not (is_some_item xs) ≡ true → xs ≡ []
+none_of [] h = refl
+none_of (x ∷ xs) h = cc
+
+-- ---- what tests of equality find, among items that are looked at by a function
+
+module _ {A B : Type 0} (same : B → B → Bool) (decides : (x y : B) → Decides (same x y) (x ≡ y)) (look : A → B) where
+  pub finds : (y : B) (xs : List A) → Decides (list_any (λ x. same (look x) y) xs) (IsIn y (map look xs))
+  finds y [] = (λ h. absurd (cc), λ k. absurd k)
+  finds y (x ∷ xs) = Decides-or (same (look x) y) _ (Decides-like (same (look x) y) sym sym (decides (look x) y)) (finds y xs)
+
+  -- where a test finds no double, items are distinct
+  pub distinct_by : (double : List A → Bool) → ((x : A) (xs : List A) → double (x ∷ xs) ≡ (list_any (λ y. same (look y) (look x)) xs || double xs))
+      → (xs : List A) → double xs ≡ false → AreDistinct (map look xs)
+  distinct_by double step [] h = tt
+  distinct_by double step (x ∷ xs) h =
+      let p = or_parts _ _ (sym (step x xs) ∙ h) in (not_from_Decides _ (finds (look x) xs) p.0, distinct_by double step xs p.1)
+
+pub among_is : (name : List ℕ) (names : List (List ℕ)) → is_among name names ≡ true → IsIn name names
+among_is name names h = rw map-id at ((finds bytes_eq bytes_eq-Decides (λ n. n) name names).0 h)
+
+pub not_among : (name : List ℕ) (names : List (List ℕ)) → is_among name names ≡ false → IsAway name names
+not_among name names h = rw map-id at (not_from_Decides _ (finds bytes_eq bytes_eq-Decides (λ n. n) name names) h)
+
+pub apart_map : {A B : Type 0} (f : A → B) (xs : List A) (ys : List B) → ((x : A) → IsIn x xs → IsAway (f x) ys) → AreApart (map f xs) ys
+apart_map f [] ys h = tt
+apart_map f (x ∷ xs) ys h = (h x (inl refl), apart_map f xs ys (λ y k. h y (inr k)))
+
+pub flat_none : {A B : Type 0} (xs : List A) → flat_map {X = A} {A = B} (λ x. []) xs ≡ []
+flat_none [] = refl
+flat_none (x ∷ xs) = flat_none xs
+
+-- ---- facts of items
+
+all_joined : (P : Item → Type 0) (xs ys : List Item) → AllItems P xs → AllItems P ys → AllItems P (xs ++ ys)
+all_joined P [] ys h k = k
+all_joined P (x ∷ xs) ys h k = (h.0, all_joined P xs ys h.1 k)
+
+-- a fact that an item has wherever it stands
+pub each_any : (Q : List Item → Item → List Item → Type 0) (before items : List Item) → AllItems (λ item. (b a : List Item) → Q b item a) items
+    → EachItem Q before items
+each_any Q before [] h = tt
+each_any Q before (item ∷ items) h = (h.0 before items, each_any Q (before ++ item ∷ []) items h.1)
+
+-- ---- items and their counterparts
+
+module _ {A B : Type 0} (R : A → B → Type 0) where
+  -- what holds of no items, and with each item and its counterpart of one more
+  matched : (S : List A → List B → Type 0) (xs : List A) (ys : List B) → Matches R xs ys → S [] []
+      → ((x : A) (y : B) (us : List A) (vs : List B) → IsIn x xs → R x y → S us vs → S (x ∷ us) (y ∷ vs)) → S xs ys
+  matched S [] [] m none more = none
+  matched S (x ∷ xs) (y ∷ ys) m none more = more x y xs ys (inl refl) m.0 (matched S xs ys m.1 none (λ u v us vs k. more u v us vs (inr k)))
+  matched S xs ys m none more = absurd m
+
+-- counterparts stand at the same places, where the first are looked at by a function, and where they aren't
+pub matches_look : {A B C : Type 0} (R : B → C → Type 0) (look : A → B) (xs : List A) (ys : List C) → length ys ≡ length xs
+    → ((k : ℕ) (d : A) (e : C) → k < length xs → R (look (get_or xs k d)) (get_or ys k e)) → Matches R (map look xs) ys
+matches_look R look [] [] long h = tt
+matches_look R look (x ∷ xs) (y ∷ ys) long h = (h 0 x y (omega arith), matches_look R look xs ys (omega arith) (λ k d e l. h (suc k) d e (omega arith)))
+matches_look R look xs ys long h = absurd (omega (arith, long))
+
+pub matches_at : {A B : Type 0} (R : A → B → Type 0) (xs : List A) (ys : List B) → length ys ≡ length xs
+    → ((k : ℕ) (d : A) (e : B) → k < length xs → R (get_or xs k d) (get_or ys k e)) → Matches R xs ys
+matches_at R xs ys long h = rw map-id at (matches_look R (λ x. x) xs ys long h)
+
+-- for the loops that make items
+pub ruleset item_steps = (common_steps, matches_look, matches_at, list_all-map)
+
+-- one more numbered name
+pub default_next : (count n : ℕ) → n < count → default_names (count - n) n ≡ (codes "arg" ++ decimal n) ∷ default_names (count - (n + 1)) (n + 1)
+default_next count n more = let less : count - n ≡ suc (count - (n + 1)) = omega arith in ap (λ (k : ℕ). default_names k n) less
+
+pub ruleset name_steps = (common_steps, default_next)
+
+-- ---- the items of a description: a fact of each, and what they give together
+
+module _ {s : Settings} {l : Lowered} {items : List Item} (g : IsGlue s l items) where
+  -- the items behind the definitions
+  abbrev last : List Item
+  last = frame_end s.stem ∷ loading_item s.stem ∷ []
+
+  -- each item has a fact that each kind of item has
+  pub each_item : (P : Item → Type 0) → ((e : AuxExport) (item : Item) → IsIn e l.aux.exports → IsDeclareItem l e item → P item)
+      → ((pair : ImportId × ℕ) (item : Item) → IsIn pair l.wit.implements → IsDefineItem l pair item → P item)
+      → P (frame_start s.stem) → P (frame_end s.stem) → P (loading_item s.stem) → AllItems P (all_items s.stem g.declares g.defines)
+  each_item P a b start end loading =
+      all_joined P g.declares (frame_start s.stem ∷ (g.defines ++ last))
+      (matched (IsDeclareItem l) (λ es. AllItems P) g.exports g.declares g.declared tt (λ e item es js k x h. (a e item (arranged_from g.by_name e k) x, h))) (
+        start,
+        all_joined P g.defines last
+            (matched (IsDefineItem l) (λ ps. AllItems P) g.pairs g.defines g.defined tt (λ pair item ps js k x h. (b pair item (arranged_from g.by_import pair k) x, h)))
+            (end, (loading, tt)),
+      )
+
+  -- what the items give is what exports, imports and the fixed items do
+  pub given : {B : Type 0} (give : Item → List B) (f : AuxExport → List B) (h : ImportId × ℕ → List B)
+      → ((e : AuxExport) (item : Item) → IsDeclareItem l e item → give item ≡ f e)
+      → ((pair : ImportId × ℕ) (item : Item) → IsIn pair l.wit.implements → IsDefineItem l pair item → give item ≡ h pair)
+      → flat_map give (all_items s.stem g.declares g.defines) ≡ flat_map f g.exports ++
+      (give (frame_start s.stem) ++ (flat_map h g.pairs ++ flat_map give last))
+  given give f h a b =
+      let declares = matched (IsDeclareItem l) (λ es js. flat_map give js ≡ flat_map f es) g.exports g.declares g.declared refl
+      (λ e item es js k x q. rw (a e item x, q) refl) in
+      let defines = matched (IsDefineItem l) (λ ps js. flat_map give js ≡ flat_map h ps) g.pairs g.defines g.defined refl
+      (λ pair item ps js k x q. rw (b pair item (arranged_from g.by_import pair k) x, q) refl) in
+      rw (flat_map-append give g.declares (frame_start s.stem ∷ (g.defines ++ last)), declares, flat_map-append give g.defines last, defines) refl

@@ -1,0 +1,7 @@
+use Rattle.glue_context.proofs.Edited.{edits_fit}
+use Rattle.glue_context.proofs.edits.edits_of.Goals as goal
+
+pub returns-clause-fit : goal.returns-clause-fit
+returns-clause-fit c =
+    rw (c.in_ok-imports.ensures.moves, c.new.ensures, c.as_str.ensures, c.as_slice.ensures, c.in_ok-places.ensures.places)
+    (edits_fit c.args.settings.now c.args.lowered.now)
