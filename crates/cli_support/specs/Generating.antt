@@ -1,12 +1,11 @@
 -- What a call of the generator comes to.
-use Rattle.std.specs.Prelude.{◌≡◌, ℕ, ◌==◌, Bool, true, false, ◌&&◌, ◌||◌, List, [], ◌∷◌, codes, Option, Some, None, Result, Ok, Err, if◌then◌else◌}
+use Rattle.std.specs.Prelude.{◌≡◌, ◌≢◌, ◌⊎◌, ℕ, ◌==◌, nat_eq, Bool, true, false, not, ◌&&◌, ◌||◌, List, [], ◌∷◌, codes, Option, Some, None, Result, Ok, Err, if◌then◌else◌}
 use Rattle.std.specs.List.{list_all}
 use Rattle.std.specs.Char.{is_ascii_alphanumeric}
 use Rattle.wasm_core.specs.Contents.{Contents}
 use Rattle.wasm_core.specs.Parsing.{module_of}
 use Rattle.wasm_core.specs.Edits.{with_processed_by}
 use Rattle.wasm_core.specs.Collected.{collected}
-use Rattle.wasm_core.specs.declared.types.ParseConfig.{ParseConfig}
 use Rattle.wasm_core.specs.declared.faults.ParseFault.{ParseFault}
 use Rattle.wasm_core.specs.declared.faults.ParseFault.TheVariants as parse
 use Rattle.glue_words.specs.declared.item.Item.{Item}
@@ -14,12 +13,10 @@ use Rattle.glue_words.specs.Words.{printed}
 use Rattle.glue_shared.specs.Names.{host_names, fixed_public}
 use Rattle.glue_shared.specs.Roots.{roots_of}
 use Rattle.glue_shared.specs.declared.settings.Settings.{Settings}
-use Rattle.glue_shared.specs.declared.settings.Target.{Target}
-use Rattle.glue_shared.specs.declared.settings.Target.TheVariants as target
-use Rattle.glue_shared.specs.declared.settings.EncodeInto.{EncodeInto}
-use Rattle.glue_shared.specs.declared.settings.EncodeInto.TheVariants as encode
 use Rattle.glue_shared.specs.declared.description.Lowered.{Lowered}
 use Rattle.glue_check.specs.Check.{is_built}
+use Rattle.cli_support.specs.Configured.{Configured, Input, settings_of, stem_of, reading}
+use Rattle.cli_support.specs.declared.bindgen.Flags.{Flags}
 use Rattle.cli_support.specs.declared.fault.Fault.{Fault}
 use Rattle.cli_support.specs.declared.fault.Fault.TheVariants as fault
 use Rattle.glue_context.specs.Items.{IsGlue}
@@ -30,38 +27,6 @@ use Rattle.glue_context.specs.Defined.{IsDefined}
 use Rattle.glue_targets.specs.Published.{IsPublished}
 use Rattle.glue_context.specs.Keys.{described_keys}
 
--- the name that the files begin with, and a module's bytes
-abbrev pub Input : Type 0
-Input = List ℕ × List ℕ
-
--- what the setters have set
-pub record Configured : Type 0 where
-  pub target : Target
-  pub externref : Bool
-  pub multi_value : Bool
-  pub encode_into : EncodeInto
-  pub input : Option Input
-
--- the settings of a call
-abbrev pub settings_of : Configured → List ℕ → Settings
-settings_of c stem = record {
-  stem = stem;
-  target = c.target;
-  debug = false;
-  typescript = false;
-  omit_imports = false;
-  export_wasm = false;
-  externref = c.externref;
-  multi_value = c.multi_value;
-  encode_into = c.encode_into;
-  omit_default_module_path = true;
-  ts_typed_array_buffers = false;
-  split_linked_modules = false;
-  js_string_builtins = false;
-  reset_state = false;
-  force_abort = false;
-}
-
 -- an ASCII letter or digit, `_`, `-` or `.`
 abbrev pub is_stem_byte : ℕ → Bool
 is_stem_byte b = is_ascii_alphanumeric b || (b == 95 || (b == 45 || (b == 46)))
@@ -71,10 +36,6 @@ abbrev pub is_stem : List ℕ → Bool
 is_stem [] = false
 is_stem (b ∷ bs) = is_stem_byte b && list_all is_stem_byte bs
 
--- how a byte input is read: debug sections go, names and producers stay
-abbrev pub reading : ParseConfig
-reading = record { keep_debug = false; names = true; producers = true }
-
 -- the module as it is handed to the lowering
 abbrev pub prepared : Contents → Contents
 prepared m = with_processed_by (codes "wasm-bindgen") (codes "0.2.130") m
@@ -83,40 +44,115 @@ prepared m = with_processed_by (codes "wasm-bindgen") (codes "0.2.130") m
 abbrev pub collected_description : Lowered → Lowered
 collected_description l = record l { «module» = collected (roots_of l) l.«module» }
 
--- what is told of a description: it isn't built, or it is
-abbrev pub after_reading : Settings → Lowered → Result Lowered Fault
-after_reading settings l = if is_built settings l then Ok l else Err (fault.NotBuilt (codes "description"))
+-- ---- what isn't built
 
--- after the lowering, which may tell nothing, or not tell
-abbrev pub after_lowering : Settings → Option (Option Lowered) → Option (Result Lowered Fault)
-after_lowering settings None = None
-after_lowering settings (Some None) = Some (Err fault.Lower)
-after_lowering settings (Some (Some l)) = Some (after_reading settings (collected_description l))
+-- imports are asked for in a way that isn't built
+abbrev pub asks_imports : Settings → Bool
+asks_imports s = s.omit_imports || s.split_linked_modules
 
--- the fault of a module that isn't read
-abbrev pub fault_of : ParseFault → Fault
-fault_of (parse.Parse place) = fault.Parse place
-fault_of parse.OutOfMemory = fault.OutOfMemory
+-- a setting is asked for that isn't built
+abbrev pub asks_settings : Settings → Bool
+asks_settings s = (s.debug || s.typescript) || (s.export_wasm || s.reset_state)
 
--- after the module was read
-abbrev pub after_parsing : (Contents → Option (Option Lowered)) → Settings → Result Contents ParseFault → Option (Result Lowered Fault)
-after_parsing told settings (Ok m) = if is_deno settings.target then after_lowering settings (told (prepared m)) else Some (Err (fault.NotBuilt (codes "target")))
-after_parsing told settings (Err e) = Some (Err (fault_of e))
+-- the first of what is asked for that isn't built
+unfoldable pub unbuilt : Flags → Settings → Lowered → Option (List ℕ)
+unbuilt flags s l =
+    if asks_imports s then Some (codes "imports")
+    else (if asks_settings s then Some (codes "settings")
+    else (if flags.split_debug_info then Some (codes "files")
+    else (if is_built s l then None
+    else Some (codes "description"))))
 
--- after the input was found
-abbrev pub after_input : (Settings → Contents → Option (Option Lowered)) → Settings → List ℕ → Option (Result Lowered Fault)
-after_input told settings bytes =
-    if is_stem settings.stem then after_parsing (told settings) settings (module_of reading bytes) else Some (Err fault.BadStem)
+-- ---- the steps of a call
 
--- The first fault of a call, or the description that the lowering tells: no input, a name that isn't for files, bytes that don't read,
--- a target that isn't built, a description that doesn't read, or one that isn't built. None where the lowering
--- doesn't tell.
-abbrev pub answer_to : (Settings → Contents → Option (Option Lowered)) → Configured → Option Input → Option (Result Lowered Fault)
-answer_to told c None = Some (Err fault.NoInput)
-answer_to told c (Some input) = after_input told (settings_of c input.0) input.1
+-- what is told of a step: what it comes to or its fault; nothing where the lowering doesn't tell
+abbrev pub Told : Type 0 → Type 0
+Told A = Option (Result A Fault)
 
-abbrev pub answer_of : (Settings → Contents → Option (Option Lowered)) → Configured → Option (Result Lowered Fault)
-answer_of told c = answer_to told c c.input
+abbrev pub pure : {A : Type 0} → A → Told A
+pure x = Some (Ok x)
+
+abbrev pub refuse : {A : Type 0} → Fault → Told A
+refuse f = Some (Err f)
+
+-- one step, and then another of what the first comes to; a fault ends it
+infixl 10 ◌>>=◌
+abbrev pub ◌>>=◌ : {A B : Type 0} → Told A → (A → Told B) → Told B
+None >>= next = None
+Some (Err f) >>= next = Some (Err f)
+Some (Ok x) >>= next = next x
+
+-- the same, where the first comes to nothing but that the second may go on
+infixl 10 ◌>>◌
+abbrev pub ◌>>◌ : {B : Type 0} → Told (Unit {0}) → Told B → Told B
+first >> next = first >>= (λ _. next)
+
+-- a fault, where the test fails
+abbrev pub demand : Bool → Fault → Told (Unit {0})
+demand test f = if test then pure tt else refuse f
+
+-- a step answers what is told of it, or want of memory
+abbrev pub IsStep : {A : Type 0} → Result A Fault → Told A → Type 0
+IsStep (Ok x) told = told ≡ pure x
+IsStep (Err f) told = f ≢ fault.OutOfMemory → told ≡ refuse f
+
+-- the input, where one was handed in
+abbrev pub found : Option Input → Told Input
+found None = refuse fault.NoInput
+found (Some input) = pure input
+
+-- the tests of the input
+abbrev pub checked : Configured → Told (Unit {0})
+checked c = do
+  input ← found c.input
+  demand (is_stem input.0) fault.BadStem
+
+-- the module that the bytes are
+abbrev pub parsed : Result Contents ParseFault → Told Contents
+parsed (Ok m) = pure m
+parsed (Err (parse.Parse place)) = refuse (fault.Parse place)
+parsed (Err parse.OutOfMemory) = refuse fault.OutOfMemory
+
+-- the module that was handed in
+abbrev pub taken : Configured → Told Contents
+taken c = do
+  input ← found c.input
+  parsed (module_of (reading c.flags) input.1)
+
+-- the module, where its target is built
+abbrev pub targeted : Configured → Contents → Told Contents
+targeted c m = do
+  demand (is_deno c.target) (fault.NotBuilt (codes "target"))
+  pure m
+
+-- the first fault of a call before the lowering, or the settings and the module that the lowering is handed
+unfoldable pub started : Configured → Told (Settings × Contents)
+started c = do
+  checked c
+  m ← taken c
+  m ← targeted c m
+  pure (settings_of c (stem_of c.input), prepared m)
+
+-- the description that the lowering tells
+abbrev pub lowered : Option (Option Lowered) → Told Lowered
+lowered None = None
+lowered (Some None) = refuse fault.Lower
+lowered (Some (Some l)) = pure l
+
+-- the description, where all that is asked for is built
+abbrev pub admitted : Option (List ℕ) → Lowered → Told Lowered
+admitted None l = pure l
+admitted (Some what) l = refuse (fault.NotBuilt what)
+
+-- The first fault of a call, or the description that the lowering tells, with nothing left of its module but what can be reached.
+-- None where the lowering doesn't tell.
+unfoldable pub answer_of : (Settings → Contents → Option (Option Lowered)) → Configured → Told Lowered
+answer_of told c = do
+  call ← started c
+  l ← lowered (told call.0 call.1)
+  admitted (unbuilt c.flags call.0 (collected_description l)) (collected_description l)
+
+-- ---- what a call answers
 
 -- what is made: the settings of the call, the items, their text and the module
 pub record Made : Type 0 where
@@ -136,28 +172,22 @@ pub record IsMadeOf (settings : Settings) (l : Lowered) (o : Made) : Type 0 wher
   pub defined : IsDefined settings l o.«module» o.items
   pub published : IsPublished settings l.aux (fixed_public settings l.«module» l.wit l.aux) o.items
 
--- the stem of the input, where there is one
-abbrev pub stem_of : Option Input → List ℕ
-stem_of None = []
-stem_of (Some input) = input.0
-
--- the answer is a fault that is told, or want of memory
+-- the answer is the fault that is told, or want of memory
 abbrev pub IsFaultOf : Fault → Result Lowered Fault → Type 0
-IsFaultOf fault.OutOfMemory told = Unit {0}
-IsFaultOf fault.NoInput told = told ≡ Err fault.NoInput
-IsFaultOf fault.BadStem told = told ≡ Err fault.BadStem
-IsFaultOf (fault.Parse place) told = told ≡ Err (fault.Parse place)
-IsFaultOf fault.Lower told = told ≡ Err fault.Lower
-IsFaultOf (fault.NotBuilt what) told = told ≡ Err (fault.NotBuilt what)
+IsFaultOf f told = f ≢ fault.OutOfMemory → told ≡ Err f
 
--- a fault of the lowering, or of a description
+-- what isn't built and is found out behind the lowering
+abbrev pub IsLatePart : List ℕ → Type 0
+IsLatePart what = (what ≡ codes "imports") ⊎ ((what ≡ codes "settings") ⊎ ((what ≡ codes "files") ⊎ (what ≡ codes "description")))
+
+-- want of memory, a fault of the lowering, or what isn't built and is found out behind it
 abbrev pub IsLate : Fault → Type 0
 IsLate fault.OutOfMemory = Unit {0}
+IsLate fault.Lower = Unit {0}
+IsLate (fault.NotBuilt what) = IsLatePart what
 IsLate fault.NoInput = ⊥
 IsLate fault.BadStem = ⊥
 IsLate (fault.Parse place) = ⊥
-IsLate fault.Lower = Unit {0}
-IsLate (fault.NotBuilt what) = what ≡ codes "description"
 
 -- what is made of the description that is told
 pub record IsMadeFrom (settings : Settings) (told : Result Lowered Fault) (o : Made) : Type 0 where
@@ -166,28 +196,8 @@ pub record IsMadeFrom (settings : Settings) (told : Result Lowered Fault) (o : M
   pub made : IsMadeOf settings description o
 
 -- a call answers what is told: the fault, or what is made of the description
-abbrev pub Answers : Settings → Result Made Fault → Option (Result Lowered Fault) → Type 0
+abbrev pub Answers : Settings → Result Made Fault → Told Lowered → Type 0
 Answers settings (Ok o) None = Unit {0}
 Answers settings (Err e) None = IsLate e
 Answers settings (Ok o) (Some told) = IsMadeFrom settings told o
 Answers settings (Err e) (Some told) = IsFaultOf e told
-
--- the settings at the start
-abbrev pub fresh : Bool → Bool → Configured
-fresh externref multi_value = record { target = target.Bundler false; externref = externref; multi_value = multi_value; encode_into = encode.Test; input = None }
-
--- no target was chosen, or none is chosen now
-abbrev pub is_free : Bool → Target → Bool
-is_free false t = true
-is_free true (target.Bundler browser_only) = true
-is_free true target.Web = false
-is_free true (target.NoModules global) = false
-is_free true (target.Node is_module) = false
-is_free true target.Deno = false
-is_free true target.Module = false
-is_free true target.Emscripten = false
-
--- files for Deno, where that is chosen
-abbrev pub with_deno : Bool → Configured → Configured
-with_deno true c = record c { target = target.Deno; encode_into = encode.Always }
-with_deno false c = c

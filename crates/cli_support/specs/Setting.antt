@@ -1,8 +1,8 @@
 -- What stands after a setter, which answers the generator where it doesn't refuse.
 use Rattle.std.specs.Prelude.{◌≡◌, Result, Ok, Err}
 use Rattle.std.specs.Borrow.{RestsIfErr, MutBor, Fml}
-use Rattle.cli_support.specs.Generating.{Configured}
-use Rattle.cli_support.specs.declared.bindgen.Held.{Held}
+use Rattle.cli_support.specs.Configured.{Configured}
+use Rattle.cli_support.specs.declared.held.Held.{Held}
 use Rattle.cli_support.specs.contracts.bindgen.Bindgen.{the_row}
 
 -- where the setter refuses, the generator ends as it was

@@ -1,6 +1,27 @@
-//! Why nothing is made.
+//! Why nothing is made, and why nothing is set.
 use std::alloc::{AllocError, AllocFailed};
+use thiserror::Error;
 use values::Text;
+
+/// Why a setter refuses.
+#[derive(Debug, Drop, PartialEq, Eq, Error)]
+pub enum SetFault {
+    /// A target stands already.
+    #[error("ModeTwice")]
+    ModeTwice,
+    /// The global of a script can't have this name: it is no identifier, or a glue file or every host gives it.
+    #[error("BadGlobalName")]
+    BadGlobalName { name: Text },
+    /// The target isn't a script.
+    #[error("NotNoModules")]
+    NotNoModules,
+    /// The target isn't a bundler's.
+    #[error("NotBundler")]
+    NotBundler,
+    /// Memory ran out.
+    #[error("OutOfMemory")]
+    OutOfMemory,
+}
 
 /// Why a call of the generator makes nothing.
 #[derive(Debug, PartialEq, Eq, Drop)]
@@ -13,10 +34,22 @@ pub enum Fault {
     Parse { place: u64 },
     /// The lowering gives no description.
     Lower,
-    /// The input is of a form that isn't built yet: its `module`, the `target` or its `description`.
+    /// What is asked for isn't built yet: the `target`, `imports`, `settings` or `files` that are asked for, or the form of the
+    /// `description`.
     NotBuilt { what: Text },
     /// Memory ran out.
     OutOfMemory,
+}
+
+impl From<AllocError> for SetFault {
+    ghost use Rattle.std.specs.Prelude.{◌≡◌};
+    ghost use Rattle.cli_support.specs.declared.fault.SetFault.TheVariants.{OutOfMemory};
+
+    ghost from_gives = { λ _ e. e ≡ OutOfMemory };
+
+    fn from(_: AllocError) -> Self {
+        SetFault::OutOfMemory
+    }
 }
 
 impl From<AllocError> for Fault {

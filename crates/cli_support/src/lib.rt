@@ -11,10 +11,16 @@
 
 mod bindgen;
 mod fault;
+mod flags;
+mod generating;
+mod global_name;
+mod held;
+mod inputs;
 mod output;
+mod targets;
 
-pub use bindgen::{Bindgen, NoInput, SetFault};
-pub use fault::Fault;
+pub use bindgen::{Bindgen, NoInput};
+pub use fault::{Fault, SetFault};
 pub use glue_context::glue_items;
 pub use glue_ends::{
     MemSink, MemSource, PlannedFile, ReadEnd, ReadFailed, Sink, Source, Stop, WriteEnd, WriteFault,

@@ -1,13 +1,14 @@
 //! What a call makes, and the files that are planned of it.
 ghost use Rattle.std.specs.Prelude.{◌≡◌, ◌++◌, codes, IfOk, Err, Some, None, true, false, string_bytes};
 ghost use Rattle.wasm_core.specs.Emission.{bytes_of, too_large};
+ghost use Rattle.glue_words.specs.Words.{printed};
 ghost use Rattle.glue_layout.specs.Layout.{indented};
 ghost use Rattle.cli_support.specs.Plan.{plan_of};
 
 use glue_ends::PlannedFile;
 use glue_layout::reset_indentation;
 use glue_shared::Settings;
-use glue_words::Item;
+use glue_words::{Item, print};
 use std::alloc::{AllocError, Global};
 use std::marker::Model;
 use values::{Seq, Text};
@@ -47,14 +48,26 @@ fn bytes_of_text(text: String) -> Seq<u8>
 }
 
 impl Output {
-    pub(crate) fn new(settings: Settings, items: Seq<Item>, js: Text, module: Module) -> Output
-        ensures made { result ≡ record { settings = settings; items = items; js = js; «module» = «module» } }
+    // The output of items and the module that goes with them.
+    pub(crate) fn new(
+        alloc: Global,
+        settings: Settings,
+        items: Seq<Item>,
+        module: Module,
+    ) -> Result<Output, AllocError>
+        ensures made { IfOk result (λ o. o ≡ record { settings = settings; items = items; js = printed items; «module» = «module» }) }
     {
-        Output {
-            settings,
-            items,
-            js,
-            module,
+        match print(alloc, items.as_slice()) {
+            Ok(js) => Ok(Output {
+                settings,
+                items,
+                js: Text::new(js),
+                module,
+            }),
+            Err(error) => {
+                drop(module);
+                Err(error)
+            }
         }
     }
 

@@ -5,73 +5,101 @@ use Rattle.wasm_core.specs.Contents.{Contents}
 use Rattle.wasm_core.specs.Emission.{too_large}
 use Rattle.wasm_core.specs.Parsing.{module_of}
 use Rattle.wasm_core.specs.declared.faults.ParseFault.{ParseFault}
-use Rattle.glue_shared.specs.declared.settings.Settings.{Settings}
-use Rattle.glue_shared.specs.declared.description.Lowered.{Lowered}
-use Rattle.glue_lower.specs.Lowering.{lowered_of}
+use Rattle.wasm_core.specs.declared.faults.ParseFault.TheVariants as parse
+use Rattle.cli_support.specs.settings.Settings.{Settings}
+use Rattle.cli_support.specs.description.Lowered.{Lowered}
+use Rattle.cli_support.specs.Lowering.{lowered_of}
 use Rattle.cli_support.specs.declared.fault.Fault.{Fault}
 use Rattle.cli_support.specs.declared.fault.Fault.TheVariants as fault
-use Rattle.glue_check.specs.Check.{is_built}
-use Rattle.cli_support.specs.Generating.{Made, Configured, settings_of, stem_of, Answers, IsMadeFrom, IsFaultOf, answer_of, after_parsing, after_lowering, after_reading, reading, prepared, collected_description, fault_of, IsMadeOf}
-use Rattle.glue_context.specs.Rewritten.{rewritten}
-use Rattle.glue_run.specs.Headline.{deno_settings, IsOutputOf}
+use Rattle.cli_support.specs.Configured.{Configured, settings_of, stem_of, reading}
+use Rattle.cli_support.specs.Generating.{Told, pure, parsed, lowered, admitted, unbuilt, started, ◌>>=◌, Made, Answers, IsFaultOf, answer_of, prepared, collected_description, IsMadeOf}
+use Rattle.cli_support.specs.Rewritten.{rewritten}
+use Rattle.glue_run.specs.Headline.{deno, deno_settings, IsOutputOf}
 use Rattle.glue_run.specs.Outcome.{Refused, Oversized, outcome, outcome_of, planning, with_bytes, is_memory, fault_line, ComesTo, IsCut, Wrote, Answered}
 use Rattle.std.specs.Io.KnownBytes.{Appends}
-use Rattle.glue_ends.specs.Causes.{AppendsPrefix}
-use Rattle.glue_ends.proofs.Prefixes.{prefix_none}
+use Rattle.cli_support.specs.Causes.{AppendsPrefix}
+use Rattle.cli_support.proofs.Prefixes.{prefix_none}
 
 abbrev told : Settings → Contents → Option (Option Lowered)
 told settings m = Some (lowered_of settings m)
 
 -- what a call over these bytes answers
-abbrev answer : List ℕ → Option (Result Lowered Fault)
+abbrev answer : List ℕ → Told Lowered
 answer bytes = answer_of told (with_bytes bytes)
 
--- a choice that came to a value
-kept : (b : Bool) (l d : Lowered) (f : Fault) → cond b (Ok l) (Err f) ≡ Ok d → l ≡ d
-kept true l d f e = cc
-kept false l d f e = absurd cc
+-- what stands behind the reading of the module, and behind its lowering
+abbrev when_built : Option (List ℕ) → Lowered → Told Lowered
+when_built what l = admitted what (collected_description l)
+
+-- the first of what the description asks for that isn't built
+abbrev lacking : Lowered → Option (List ℕ)
+lacking l = unbuilt deno.flags deno_settings (collected_description l)
+
+abbrev when_lowered : Option Lowered → Told Lowered
+when_lowered x = lowered (Some x) >>= (λ l. when_built (lacking l) l)
+
+abbrev handed_over : Contents → Told (Settings × Contents)
+handed_over m = pure (deno_settings, prepared m)
+
+abbrev when_handed : Settings × Contents → Told Lowered
+when_handed call = lowered (told call.0 call.1) >>= (λ l. when_built (unbuilt deno.flags call.0 (collected_description l)) l)
+
+abbrev when_parsed : Result Contents ParseFault → Told Lowered
+when_parsed r = (parsed r >>= handed_over) >>= when_handed
+
+answer_is : (bytes : List ℕ) → answer bytes ≡ when_parsed (module_of (reading deno.flags) bytes)
+unfolding answer_of started
+answer_is bytes = refl
 
 module _ (bytes : List ℕ) (o : Made) where
   abbrev Goal : Type 0
   Goal = IsOutputOf bytes o × (outcome bytes ≡ planning (too_large o.«module»))
 
-  read_is : (m : Contents) (l : Lowered) → module_of reading bytes ≡ Ok m → lowered_of deno_settings (prepared m) ≡ Some l → IsMadeFrom deno_settings (after_reading deno_settings (collected_description l)) o → Goal
-  read_is m l read lowered from =
+  built_is : (m : Contents) (l : Lowered) (what : Option (List ℕ)) → module_of (reading deno.flags) bytes ≡ Ok m → lowered_of deno_settings (prepared m) ≡ Some l → lacking l ≡ what → Answers deno_settings (Ok o) (when_built what l) → Goal
+  built_is m l (Some what) read told h from = absurd (no from.is)
+    where
+      no : {d : Lowered} → Err (fault.NotBuilt what) ≡ Ok d → ⊥
+      no e = cc
+  built_is m l None read told h from =
       let c = collected_description l in
-      let same : c ≡ from.description = kept (is_built deno_settings c) c from.description (fault.NotBuilt (codes "description")) from.is in
-      let comes : outcome bytes ≡ planning (too_large (rewritten deno_settings from.description)) =
-      ap (λ (r : Result Contents ParseFault). outcome_of (after_parsing (told deno_settings) deno_settings r)) read
-      ∙ ap (λ (x : Option Lowered). outcome_of (after_lowering deno_settings (Some x))) lowered
-      ∙ ap (λ (r : Result Lowered Fault). outcome_of (Some r)) from.is in (
-        record { «module» = m; read = read; description = l; told = lowered; made = subst (λ (d : Lowered). IsMadeOf deno_settings d o) (sym same) from.made },
-        comes ∙ ap (λ (x : Contents). planning (too_large x)) (sym from.made.«module»),
+      let same : from.description ≡ c = alike from.is in
+      let made : IsMadeOf deno_settings c o = subst (λ (d : Lowered). IsMadeOf deno_settings d o) same from.made in
+      let comes : outcome bytes ≡ planning (too_large (rewritten deno_settings c)) =
+      ap outcome_of (answer_is bytes)
+      ∙ ap (λ (r : Result Contents ParseFault). outcome_of (when_parsed r)) read
+      ∙ ap (λ (x : Option Lowered). outcome_of (when_lowered x)) told
+      ∙ ap (λ (what : Option (List ℕ)). outcome_of (when_built what l)) h in (
+        record { «module» = m; read = read; description = l; told = told; made = made },
+        comes ∙ ap (λ (x : Contents). planning (too_large x)) (sym made.«module»),
       )
+    where
+      alike : {c d : Lowered} → ◌≡◌ {A = Result Lowered Fault} (Ok c) (Ok d) → d ≡ c
+      alike e = cc
 
-  lowered_is : (m : Contents) (x : Option Lowered) → module_of reading bytes ≡ Ok m → lowered_of deno_settings (prepared m) ≡ x → Answers deno_settings (Ok o) (after_lowering deno_settings (Some x)) → Goal
+  lowered_is : (m : Contents) (x : Option Lowered) → module_of (reading deno.flags) bytes ≡ Ok m → lowered_of deno_settings (prepared m) ≡ x → Answers deno_settings (Ok o) (when_lowered x) → Goal
   lowered_is m None read is h = absurd (no h.is)
     where
       no : {d : Lowered} → Err fault.Lower ≡ Ok d → ⊥
       no e = cc
-  lowered_is m (Some l) read is h = read_is m l read is h
+  lowered_is m (Some l) read is h = built_is m l (lacking l) read is refl h
 
-  parsed_is : (r : Result Contents ParseFault) → module_of reading bytes ≡ r → Answers deno_settings (Ok o) (after_parsing (told deno_settings) deno_settings r) → Goal
+  parsed_is : (r : Result Contents ParseFault) → module_of (reading deno.flags) bytes ≡ r → Answers deno_settings (Ok o) (when_parsed r) → Goal
   parsed_is (Ok m) is h = lowered_is m (lowered_of deno_settings (prepared m)) is refl h
-  parsed_is (Err e) is h = absurd (no_fault h.is)
+  parsed_is (Err (parse.Parse place)) is h = absurd (no_fault h.is)
+    where
+      no_fault : {f : Fault} {d : Lowered} → Err f ≡ Ok d → ⊥
+      no_fault e = cc
+  parsed_is (Err parse.OutOfMemory) is h = absurd (no_fault h.is)
     where
       no_fault : {f : Fault} {d : Lowered} → Err f ≡ Ok d → ⊥
       no_fault e = cc
 
   -- what was made is made of the bytes
   made_of : Answers deno_settings (Ok o) (answer bytes) → Goal
-  made_of h = parsed_is (module_of reading bytes) refl h
+  made_of h = parsed_is (module_of (reading deno.flags) bytes) refl (subst (Answers deno_settings (Ok o)) (answer_is bytes) h)
 
 refused_by : (f : Fault) (r : Result Lowered Fault) → IsFaultOf f r → f ≢ fault.OutOfMemory → outcome_of (Some r) ≡ Some (Refused f)
-refused_by fault.OutOfMemory r h other = absurd (other refl)
-refused_by fault.NoInput r h other = ap (λ (r : Result Lowered Fault). outcome_of (Some r)) h
-refused_by fault.BadStem r h other = ap (λ (r : Result Lowered Fault). outcome_of (Some r)) h
-refused_by (fault.Parse place) r h other = ap (λ (r : Result Lowered Fault). outcome_of (Some r)) h
-refused_by fault.Lower r h other = ap (λ (r : Result Lowered Fault). outcome_of (Some r)) h
-refused_by (fault.NotBuilt what) r h other = ap (λ (r : Result Lowered Fault). outcome_of (Some r)) h
+refused_by f r h other = ap (λ (r : Result Lowered Fault). outcome_of (Some r)) (h other)
 
 refused_after : (f : Fault) (a : Option (Result Lowered Fault)) (r : Result Lowered Fault) → a ≡ Some r → Answers deno_settings (Err f) a → f ≢ fault.OutOfMemory → outcome_of a ≡ Some (Refused f)
 refused_after f a r is h other = ap outcome_of is ∙ refused_by f r (subst (Answers deno_settings (Err f)) is h) other
@@ -81,19 +109,24 @@ record IsTold (a : Option (Result Lowered Fault)) : Type 0 where
   answer : Result Lowered Fault
   is : a ≡ Some answer
 
-lowering_told : (x : Option Lowered) → IsTold (after_lowering deno_settings (Some x))
-lowering_told None = record { answer = Err fault.Lower; is = refl }
-lowering_told (Some l) = record { answer = after_reading deno_settings (collected_description l); is = refl }
+building_told : (what : Option (List ℕ)) (l : Lowered) → IsTold (when_built what l)
+building_told None l = record { answer = Ok (collected_description l); is = refl }
+building_told (Some what) l = record { answer = Err (fault.NotBuilt what); is = refl }
 
-parsing_told : (r : Result Contents ParseFault) → IsTold (after_parsing (told deno_settings) deno_settings r)
+lowering_told : (x : Option Lowered) → IsTold (when_lowered x)
+lowering_told None = record { answer = Err fault.Lower; is = refl }
+lowering_told (Some l) = building_told (lacking l) l
+
+parsing_told : (r : Result Contents ParseFault) → IsTold (when_parsed r)
 parsing_told (Ok m) = lowering_told (lowered_of deno_settings (prepared m))
-parsing_told (Err e) = record { answer = Err (fault_of e); is = refl }
+parsing_told (Err (parse.Parse place)) = record { answer = Err (fault.Parse place); is = refl }
+parsing_told (Err parse.OutOfMemory) = record { answer = Err fault.OutOfMemory; is = refl }
 
 -- a fault is the one that the bytes come to
 refused_of : (bytes : List ℕ) (f : Fault) → Answers deno_settings (Err f) (answer bytes) → f ≢ fault.OutOfMemory → outcome bytes ≡ Some (Refused f)
 refused_of bytes f h other =
-    let t = parsing_told (module_of reading bytes) in
-    refused_after f (answer bytes) t.answer t.is h other
+    let t = parsing_told (module_of (reading deno.flags) bytes) in
+    refused_after f (answer bytes) t.answer (answer_is bytes ∙ t.is) h other
 
 pub made_from : (bytes : List ℕ) (c : Configured) (r : Result Made Fault) → c ≡ with_bytes bytes → IfOk r (λ o. Answers (settings_of c (stem_of c.input)) (Ok o) (answer_of told c))
     → IfOk r (λ o. IsOutputOf bytes o × (outcome bytes ≡ planning (too_large o.«module»)))

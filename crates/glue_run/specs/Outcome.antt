@@ -2,14 +2,15 @@
 use Rattle.std.specs.Prelude.{Bool, true, false, ◌≡◌, ◌≢◌, ◌≤◌, ◌⊎◌, IsSomeAnd, ℕ, List, [], ◌++◌, codes, Option, Some, None, Result, Ok, Err}
 use Rattle.std.specs.Io.KnownBytes.{Appends, Keeps}
 use Rattle.wasm_core.specs.Emission.{too_large}
-use Rattle.glue_ends.specs.Causes.{Rose, AppendsPrefix}
-use Rattle.glue_ends.specs.Listing.{listing}
-use Rattle.glue_shared.specs.declared.description.Lowered.{Lowered}
-use Rattle.glue_lower.specs.Lowering.{lowered_of}
+use Rattle.cli_support.specs.Causes.{Rose, AppendsPrefix}
+use Rattle.cli_support.specs.Listing.{listing}
+use Rattle.cli_support.specs.description.Lowered.{Lowered}
+use Rattle.cli_support.specs.Lowering.{lowered_of}
 use Rattle.cli_support.specs.declared.fault.Fault.{Fault}
 use Rattle.cli_support.specs.declared.fault.Fault.TheVariants as fault
-use Rattle.cli_support.specs.Generating.{Made, Configured, answer_of}
-use Rattle.glue_context.specs.Rewritten.{rewritten}
+use Rattle.cli_support.specs.Configured.{Configured}
+use Rattle.cli_support.specs.Generating.{Made, answer_of}
+use Rattle.cli_support.specs.Rewritten.{rewritten}
 use Rattle.cli_support.specs.Plan.{plan_of}
 use Rattle.glue_run.specs.Headline.{deno, deno_settings, IsOutputOf}
 
@@ -22,11 +23,12 @@ pub data Cause : Type 0 where
 abbrev pub with_bytes : List ℕ → Configured
 with_bytes bytes = record deno { input = Some (codes "out", bytes) }
 
--- what the description in the bytes' module leads to
+-- the cause that a section that is too large is, where there is one
 abbrev pub planning : Option ℕ → Option Cause
 planning None = None
 planning (Some section) = Some Oversized
 
+-- what a call comes to: the fault that is told, or a section of the written module that is too large
 abbrev pub outcome_of : Option (Result Lowered Fault) → Option Cause
 outcome_of None = None
 outcome_of (Some (Err f)) = Some (Refused f)
@@ -54,6 +56,7 @@ fault_name fault.Lower = codes "Lower"
 fault_name (fault.NotBuilt what) = codes "NotBuilt"
 fault_name fault.OutOfMemory = codes "OutOfMemory"
 
+-- the name of a cause
 abbrev pub cause_name : Cause → List ℕ
 cause_name (Refused f) = fault_name f
 cause_name Oversized = codes "TooLarge"

@@ -1,8 +1,8 @@
 -- What a run did, by its status.
-use Rattle.std.specs.Prelude.{◌≡◌, ◌≤◌, length, Some, ℕ, List, [], ◌∷◌, codes, Option, map, String, string_bytes}
+use Rattle.std.specs.Prelude.{◌≡◌, ◌≤◌, ◌⊎◌, length, Some, ℕ, List, [], ◌∷◌, codes, Option, map, String, string_bytes}
 use Rattle.std.specs.declared.alloc.Global.{Global}
-use Rattle.glue_ends.specs.Causes.{Rose}
-use Rattle.glue_ends.specs.Taking.{IsWhole}
+use Rattle.cli_support.specs.Causes.{Rose}
+use Rattle.cli_support.specs.Taking.{IsWhole}
 use Rattle.cli_support.specs.Generating.{Made}
 use Rattle.glue_run.specs.Outcome.{Cause, outcome, IsSaid, IsCut}
 use Rattle.glue_run.specs.declared.running.TheConstants.{LIMIT}
@@ -30,3 +30,7 @@ pub record IsUntroubled (left : Option (List ℕ)) (bytes : List ℕ) (cause : O
   pub comes : outcome bytes ≡ cause
   pub no_read_failed : ¬ Rose reads reads_now
   pub no_write_failed : ¬ Rose writes writes_now
+
+-- where this is what the input comes to, and no end failed, the status is this one or want of memory
+abbrev pub EndsIn : ℕ → Option Cause → ℕ → Option (List ℕ) → (reads reads_now writes writes_now : ℕ) → Type 0
+EndsIn wanted cause status left reads reads_now writes writes_now = (bytes : List ℕ) → IsUntroubled left bytes cause reads reads_now writes writes_now → (status ≡ wanted) ⊎ (status ≡ 5)

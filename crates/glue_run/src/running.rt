@@ -1,14 +1,14 @@
 //! The top call.
 ghost use Rattle.std.specs.Prelude.{◌↔◌, ◌≡◌, ◌≢◌, ◌≤◌, ◌⊎◌, ℕ, List, length, Ok, Err, Some, None, map, string_bytes, IsTrue, IsSome, IfOk, IfErr};
-ghost use Rattle.std.specs.Io.KnownBytes.{Appends, Keeps};
+ghost use Rattle.std.specs.Io.KnownBytes.{Keeps};
 ghost use Rattle.wasm_core.specs.Emission.{too_large};
-ghost use Rattle.glue_ends.specs.Causes.{Rose, AppendsPrefix};
-ghost use Rattle.glue_ends.specs.Listing.{listing};
-ghost use Rattle.glue_ends.specs.Taking.{IsWhole, TakesAtMost, TakesMoreThan};
-ghost use Rattle.cli_support.specs.Plan.{plan_of};
+ghost use Rattle.cli_support.specs.Causes.{Rose};
+ghost use Rattle.cli_support.specs.Listing.{listing};
+ghost use Rattle.cli_support.specs.Taking.{IsWhole, TakesAtMost, TakesMoreThan};
 ghost use Rattle.glue_run.specs.Headline.{IsOutputOf};
-ghost use Rattle.glue_run.specs.Outcome.{Cause, Refused, Oversized, outcome, planning, with_bytes, is_memory as the_memory_test, fault_line, Wrote, Answered, IsSaid, IsCut, ComesTo};
-ghost use Rattle.glue_run.specs.Running.{AreRead, IsDone, IsPartly, IsUntroubled};
+ghost use Rattle.glue_run.specs.Outcome as spec;
+ghost use Rattle.glue_run.specs.Outcome.{Cause};
+ghost use Rattle.glue_run.specs.Running.{AreRead, IsDone, IsPartly, EndsIn};
 
 use cli_support::{
     Bindgen, Fault, JsonLowering, Output, PlannedFile, SetFault, Sink, Source, Stop, WriteFault,
@@ -35,7 +35,7 @@ pub struct Ran {
 
 // The line of a fault.
 fn fault_line_of(fault: &Fault) -> &'static str
-    ensures line { result.now ≡ fault_line (Refused fault.now) }
+    ensures line { result.now ≡ spec.fault_line (spec.Refused fault.now) }
 {
     match fault {
         Fault::NoInput => "fault NoInput\n",
@@ -49,14 +49,14 @@ fn fault_line_of(fault: &Fault) -> &'static str
 
 // The line of a module with a section that is too large.
 fn oversized_line() -> &'static str
-    ensures line { result.now ≡ fault_line Oversized }
+    ensures line { result.now ≡ spec.fault_line spec.Oversized }
 {
     "fault TooLarge\n"
 }
 
 // Writes a fault's line.
 fn tell<O: Sink>(line: &str, output: &mut O) -> u8
-    ensures wrote { Wrote 1 line.now result (O.taken output.old) (O.taken output.new) (O.faults output.old) (O.faults output.new) }
+    ensures wrote { spec.Wrote 1 line.now result (O.taken output.old) (O.taken output.new) (O.faults output.old) (O.faults output.new) }
 {
     match output.write_all(line.as_bytes()) {
         Ok(()) => 1,
@@ -67,7 +67,7 @@ fn tell<O: Sink>(line: &str, output: &mut O) -> u8
 
 // Writes the listing of the files.
 fn list<O: Sink>(alloc: Global, files: &[PlannedFile], output: &mut O) -> u8
-    ensures wrote { Wrote 0 (listing files.now) result (O.taken output.old) (O.taken output.new) (O.faults output.old) (O.faults output.new) }
+    ensures wrote { spec.Wrote 0 (listing files.now) result (O.taken output.old) (O.taken output.new) (O.faults output.old) (O.faults output.new) }
 {
     match write_files(alloc, files, output) {
         Ok(()) => 0,
@@ -78,7 +78,7 @@ fn list<O: Sink>(alloc: Global, files: &[PlannedFile], output: &mut O) -> u8
 
 // Writes the files of what was made of the bytes.
 fn deliver<O: Sink>(alloc: Global, made: &Output, output: &mut O) -> u8
-    ensures answered { (bytes : List ℕ) → IsOutputOf bytes made.now → outcome bytes ≡ planning (too_large made.now.«module») → Answered bytes result (Some made.now) (O.taken output.old) (O.taken output.new) (O.faults output.old) (O.faults output.new) }
+    ensures answered { (bytes : List ℕ) → IsOutputOf bytes made.now → spec.outcome bytes ≡ spec.planning (too_large made.now.«module») → spec.Answered bytes result (Some made.now) (O.taken output.old) (O.taken output.new) (O.faults output.old) (O.faults output.new) }
 {
     match made.files(alloc) {
         Ok(files) => list(alloc, files.as_slice(), output),
@@ -89,7 +89,7 @@ fn deliver<O: Sink>(alloc: Global, made: &Output, output: &mut O) -> u8
 
 // The generator for Deno, with its input.
 fn generator(alloc: Global, bytes: Vec<u8>) -> Result<Bindgen, Fault>
-    ensures set { IfOk result (λ b. b ≡ with_bytes bytes.items) }
+    ensures set { IfOk result (λ b. b ≡ spec.with_bytes bytes.items) }
     ensures memory { IfErr result (λ e. e ≡ Fault.OutOfMemory) }
 {
     let mut generator = Bindgen::new(false, false);
@@ -103,8 +103,8 @@ fn generator(alloc: Global, bytes: Vec<u8>) -> Result<Bindgen, Fault>
 
 // Makes an output of the bytes.
 fn generate(alloc: Global, bytes: Vec<u8>) -> Result<Output, Fault>
-    ensures made { IfOk result (λ o. IsOutputOf bytes.items o × (outcome bytes.items ≡ planning (too_large o.«module»))) }
-    ensures cause { IfErr result (λ e. e ≢ Fault.OutOfMemory → outcome bytes.items ≡ Some (Refused e)) }
+    ensures made { IfOk result (λ o. IsOutputOf bytes.items o × (spec.outcome bytes.items ≡ spec.planning (too_large o.«module»))) }
+    ensures cause { IfErr result (λ e. e ≢ Fault.OutOfMemory → spec.outcome bytes.items ≡ Some (spec.Refused e)) }
 {
     let mut generator = generator(alloc, bytes)?;
     generator.generate_output(alloc, &mut JsonLowering::new())
@@ -112,7 +112,7 @@ fn generate(alloc: Global, bytes: Vec<u8>) -> Result<Output, Fault>
 
 // Whether the fault is want of memory.
 fn is_memory(fault: &Fault) -> bool
-    ensures test { result ≡ the_memory_test fault.now }
+    ensures test { result ≡ spec.is_memory fault.now }
 {
     match fault {
         Fault::OutOfMemory => true,
@@ -126,7 +126,7 @@ fn is_memory(fault: &Fault) -> bool
 
 // Writes the line of a fault, but for want of memory.
 fn refuse<O: Sink>(fault: &Fault, output: &mut O) -> u8
-    ensures answered { (bytes : List ℕ) → (fault.now ≢ Fault.OutOfMemory → outcome bytes ≡ Some (Refused fault.now)) → Answered bytes result None (O.taken output.old) (O.taken output.new) (O.faults output.old) (O.faults output.new) }
+    ensures answered { (bytes : List ℕ) → (fault.now ≢ Fault.OutOfMemory → spec.outcome bytes ≡ Some (spec.Refused fault.now)) → spec.Answered bytes result None (O.taken output.old) (O.taken output.new) (O.faults output.old) (O.faults output.new) }
 {
     if is_memory(fault) {
         return 5;
@@ -136,7 +136,7 @@ fn refuse<O: Sink>(fault: &Fault, output: &mut O) -> u8
 
 // Makes what the bytes say, and writes it.
 fn answer<O: Sink>(alloc: Global, bytes: Vec<u8>, output: &mut O) -> Ran
-    ensures answered { Answered bytes.items result.status result.output (O.taken output.old) (O.taken output.new) (O.faults output.old) (O.faults output.new) }
+    ensures answered { spec.Answered bytes.items result.status result.output (O.taken output.old) (O.taken output.new) (O.faults output.old) (O.faults output.new) }
 {
     match generate(alloc, bytes) {
         Ok(made) => {
@@ -187,6 +187,16 @@ fn read_input<I: Source>(alloc: Global, input: &mut I) -> Result<Vec<u8>, Stop>
     read_whole(alloc, input, LIMIT, PIECE)
 }
 
+// A run that ends with this status before anything is made.
+fn nothing_made(status: u8) -> Ran
+    ensures run { result ≡ record { status = status; output = None } }
+{
+    Ran {
+        status,
+        output: None,
+    }
+}
+
 /// Reads a module from the source to its end, and writes the listing of the files that are made of it.
 ///
 /// `words` are those of the command line after the program's name; exactly `--target` and `deno` are read. The statuses:
@@ -222,12 +232,8 @@ pub fn run<I: Source, O: Sink>(
     ensures not_too_long { result.status ≢ 6 → result.status ≢ 5 → TakesAtMost LIMIT (I.left input.old) (I.left input.new) }
 
     // It gives up for want of memory alone.
-    ensures complete { (bytes : List ℕ) → AreRead words.now →
-        IsUntroubled (I.left input.old) bytes None (I.faults input.old) (I.faults input.new) (O.faults output.old) (O.faults output.new) →
-        (result.status ≡ 0) ⊎ (result.status ≡ 5) }
-    ensures complete_refusal { (bytes : List ℕ) → (cause : Cause) → AreRead words.now →
-        IsUntroubled (I.left input.old) bytes (Some cause) (I.faults input.old) (I.faults input.new) (O.faults output.old) (O.faults output.new) →
-        (result.status ≡ 1) ⊎ (result.status ≡ 5) }
+    ensures complete { AreRead words.now → EndsIn 0 None result.status (I.left input.old) (I.faults input.old) (I.faults input.new) (O.faults output.old) (O.faults output.new) }
+    ensures complete_refusal { (cause : Cause) → AreRead words.now → EndsIn 1 (Some cause) result.status (I.left input.old) (I.faults input.old) (I.faults input.new) (O.faults output.old) (O.faults output.new) }
 
     ensures no_output { (result.status ≡ 2) ⊎ ((result.status ≡ 3) ⊎ (result.status ≡ 6)) → result.output ≡ None }
     ensures later { (I.faults input.old ≤ I.faults input.new) × (O.faults output.old ≤ O.faults output.new) }
@@ -238,16 +244,10 @@ pub fn run<I: Source, O: Sink>(
     ensures writes_kept { result.status ≢ 4 → result.status ≢ 5 → O.faults output.new ≡ O.faults output.old }
 {
     if !are_read(words) {
-        return Ran {
-            status: 2,
-            output: None,
-        };
+        return nothing_made(2);
     }
     match read_input(alloc, input) {
         Ok(bytes) => answer(alloc, bytes, output),
-        Err(stop) => Ran {
-            status: status_of(stop),
-            output: None,
-        },
+        Err(stop) => nothing_made(status_of(stop)),
     }
 }

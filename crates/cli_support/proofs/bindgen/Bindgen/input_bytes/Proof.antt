@@ -47,16 +47,16 @@ use Rattle.std.specs.contracts.alloc.Global as global
 use Rattle.std.specs.contracts.impls.GlobalAllocator.TheImpl as heap
 use Rattle.cli_support.specs.Setting.{released}
 use Rattle.cli_support.specs.contracts.bindgen.Bindgen as gen
-use Rattle.cli_support.specs.contracts.bindgen.Held as held
+use Rattle.cli_support.specs.contracts.held.Held as held
 use Rattle.cli_support.specs.contracts.bindgen.Bindgen.input_bytes as f
 use Rattle.cli_support.specs.contracts.bindgen.Bindgen.hold_input as g
-use Rattle.cli_support.specs.contracts.bindgen.release_input as h
+use Rattle.cli_support.specs.contracts.held.release_kept as h
 use Rattle.cli_support.proofs.bindgen.Bindgen.TheLaws as gen_laws
-use Rattle.cli_support.proofs.bindgen.Held.TheLaws as held_laws
+use Rattle.cli_support.proofs.held.Held.TheLaws as held_laws
 use Rattle.cli_support.proofs.bindgen.Bindgen.input_bytes.Statement.{statement}
 use Rattle.cli_support.proofs.bindgen.Bindgen.input_bytes.Code as code
 use Rattle.cli_support.proofs.bindgen.Bindgen.hold_input.Met as hold
-use Rattle.cli_support.proofs.bindgen.release_input.Met as release
+use Rattle.cli_support.proofs.held.release_kept.Met as release
 
 abbrev stayed : Stays f.ended.signature.params f.ended.kept
 stayed = (stay_dropped (RefMutOf (0 ∷ []) tt (plain (λ _. gen.the_row)) (λ _. tt)) no, (stay_dropped (plain (λ _. global.the_row)) yes, (stay_dropped (StrRefOf (1 ∷ []) tt) yes, (stay_dropped (plain (λ _. vec.the_row u8 global.the_row heap.ghosts)) yes, tt))))
@@ -130,7 +130,7 @@ input_bytes_spec 𝓤 𝓛 𝓜 𝓡 wired =
     let x : U.Ghost = ((κ, (qs.0, tt), tt, (r, tt), (w ∷ [], tt)), tt) in
     nothing ! $ move ! (1 ∷ 0 ∷ []) $ join ! $ nothing ! $ move ! (2 ∷ 0 ∷ []) $ join ! $ join ! $ nothing ! $ move ! (1 ∷ 0 ∷ []) $
     use2 𝓛 (raw (U.pre x)) (id⊢ 𝓤 _) $
-    calls_at ! (framed 𝓤 𝓛.H 𝓜 𝓣) U (release.met 𝓤 𝓛 𝓜 𝓡 (code.calls-cli_support::bindgen::release_input 𝓡.env wired)) x
+    calls_at ! (framed 𝓤 𝓛.H 𝓜 𝓣) U (release.met 𝓤 𝓛 𝓜 𝓡 (code.calls-cli_support::held::release_kept 𝓡.env wired)) x
     (and_then ! (get ! refl) (no_more !)) (λ u.
     let FR = answer_row κs.0 in
     use1 𝓛 (later (some (λ (y : FR.Denot). ((‵ (flft κs.0 qs.0) ⊛ ‵ ftrue) ⊛ ‵ (FR.own_val y (u ∷ []))) ⊛ some (λ (ws : Lasts h.ended κ (r, tt)). ‵ (lasts h.ended κ (r, tt) ws) ⊛ raw (fact 𝓤 (y ≡ released r)))))) (id⊢ 𝓤 _) $

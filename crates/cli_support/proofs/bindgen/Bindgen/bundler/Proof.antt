@@ -1,0 +1,17 @@
+-- `bundler` lets the generator out of what `hold_bundler` answers.
+use base.Logic.{id⊢}
+use Rattle.cli_support.specs.contracts.bindgen.Bindgen.bundler as f
+use Rattle.cli_support.specs.contracts.bindgen.Bindgen.hold_bundler as g
+use Rattle.cli_support.proofs.bindgen.Bindgen.bundler.Statement.{statement}
+use Rattle.cli_support.proofs.bindgen.Bindgen.bundler.Code as code
+use Rattle.cli_support.proofs.bindgen.Bindgen.hold_bundler.Met as hold
+use Rattle.cli_support.proofs.held.release_set.Met as release
+use Rattle.cli_support.proofs.Setters.{setter_met}
+
+pub bundler_spec : {M : Type 1} → statement M
+bundler_spec 𝓤 𝓛 𝓜 𝓡 wired =
+    setter_met 𝓛 𝓜 𝓡 f.Key.name g.Key.name (λ κs a. (f.clauses 𝓛 𝓜.mem 𝓡.returns κs a).ensures tt) (λ κs a. (g.clauses 𝓛 𝓜.mem 𝓡.returns κs a).ensures tt)
+    (code.unfolded 𝓤 𝓛.H 𝓜 𝓡 wired)
+    (hold.met 𝓤 𝓛 𝓜 𝓡 (code.calls-cli_support::bindgen::Bindgen::hold_bundler 𝓡.env wired))
+    (release.met 𝓤 𝓛 𝓜 𝓡 (code.calls-cli_support::held::release_set 𝓡.env wired))
+    (λ κs a x. id⊢ 𝓤 _) (λ κs a e. id⊢ 𝓤 _)

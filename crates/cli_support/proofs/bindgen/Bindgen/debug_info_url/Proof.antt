@@ -1,0 +1,17 @@
+-- `debug_info_url` lets the generator out of what `hold_debug_info_url` answers.
+use base.Logic.{id⊢}
+use Rattle.cli_support.specs.contracts.bindgen.Bindgen.debug_info_url as f
+use Rattle.cli_support.specs.contracts.bindgen.Bindgen.hold_debug_info_url as g
+use Rattle.cli_support.proofs.bindgen.Bindgen.debug_info_url.Statement.{statement}
+use Rattle.cli_support.proofs.bindgen.Bindgen.debug_info_url.Code as code
+use Rattle.cli_support.proofs.bindgen.Bindgen.hold_debug_info_url.Met as hold
+use Rattle.cli_support.proofs.held.release_kept.Met as release
+use Rattle.cli_support.proofs.TextSetters.{text_met}
+
+pub debug_info_url_spec : {M : Type 1} → statement M
+debug_info_url_spec 𝓤 𝓛 𝓜 𝓡 wired =
+    text_met 𝓛 𝓜 𝓡 f.Key.name g.Key.name (λ κs a. (f.clauses 𝓛 𝓜.mem 𝓡.returns κs a).ensures tt) (λ κs a. (g.clauses 𝓛 𝓜.mem 𝓡.returns κs a).ensures tt)
+    (code.unfolded 𝓤 𝓛.H 𝓜 𝓡 wired)
+    (hold.met 𝓤 𝓛 𝓜 𝓡 (code.calls-cli_support::bindgen::Bindgen::hold_debug_info_url 𝓡.env wired))
+    (release.met 𝓤 𝓛 𝓜 𝓡 (code.calls-cli_support::held::release_kept 𝓡.env wired))
+    (λ κs a x. id⊢ 𝓤 _) (λ κs a e. id⊢ 𝓤 _)

@@ -1,0 +1,105 @@
+//! Setters that take memory for what they are handed: the input, and texts.
+ghost use Rattle.std.specs.Prelude.{◌≡◌, IfOk, OnOk, OnErr, Some};
+ghost use Rattle.std.specs.Borrow.{sem};
+ghost use Rattle.cli_support.specs.Setting.{Rests, HeldRests};
+
+use crate::bindgen::Bindgen;
+use crate::held::{Held, release_kept};
+use std::alloc::{AllocError, Global};
+use values::{Seq, Text};
+
+impl Bindgen {
+    fn set_out_name(&mut self, alloc: Global, name: &str) -> Result<(), AllocError>
+        ensures ok { OnOk result (self.new ≡ record self.old { out_name = Some name.now }) }
+        ensures refused { OnErr result (self.new ≡ self.old) }
+    {
+        let name = Text::from_str(alloc, name)?;
+        self.out_name = Some(name);
+        Ok(())
+    }
+
+    fn hold_out_name(&mut self, alloc: Global, name: &str) -> Result<Held<'_>, AllocError>
+        ensures* refused { sem 𝓛 (HeldRests self.entry result) }
+        ensures ok { IfOk result (λ b. b.at.now ≡ record self.old { out_name = Some name.now }) }
+        ensures same_reference { IfOk result (λ b. b.at.ghost_name ≡ self.entry.ghost_name) }
+    {
+        self.set_out_name(alloc, name)?;
+        Ok(Held { at: self })
+    }
+
+    /// Keeps a name for what is made, and answers the generator. It changes nothing: the name of the files is that of the input.
+    /// Where memory runs out the earlier one stays.
+    pub fn out_name(&mut self, alloc: Global, name: &str) -> Result<&mut Bindgen, AllocError>
+        ensures* refused { sem 𝓛 (Rests self.entry result) }
+        ensures ok { IfOk result (λ b. b.now ≡ record self.old { out_name = Some name.now }) }
+        ensures same_reference { IfOk result (λ b. b.ghost_name ≡ self.entry.ghost_name) }
+    {
+        release_kept(self.hold_out_name(alloc, name))
+    }
+
+    fn set_debug_info_url(&mut self, alloc: Global, url: &str) -> Result<(), AllocError>
+        ensures ok { OnOk result (self.new ≡ record self.old { debug_info_url = Some url.now }) }
+        ensures refused { OnErr result (self.new ≡ self.old) }
+    {
+        let url = Text::from_str(alloc, url)?;
+        self.debug_info_url = Some(url);
+        Ok(())
+    }
+
+    fn hold_debug_info_url(&mut self, alloc: Global, url: &str) -> Result<Held<'_>, AllocError>
+        ensures* refused { sem 𝓛 (HeldRests self.entry result) }
+        ensures ok { IfOk result (λ b. b.at.now ≡ record self.old { debug_info_url = Some url.now }) }
+        ensures same_reference { IfOk result (λ b. b.at.ghost_name ≡ self.entry.ghost_name) }
+    {
+        self.set_debug_info_url(alloc, url)?;
+        Ok(Held { at: self })
+    }
+
+    /// Sets the address under which the module that is written names its debug sections once they are split off, and answers the
+    /// generator. Where memory runs out the earlier one stays.
+    pub fn debug_info_url(&mut self, alloc: Global, url: &str) -> Result<&mut Bindgen, AllocError>
+        ensures* refused { sem 𝓛 (Rests self.entry result) }
+        ensures ok { IfOk result (λ b. b.now ≡ record self.old { debug_info_url = Some url.now }) }
+        ensures same_reference { IfOk result (λ b. b.ghost_name ≡ self.entry.ghost_name) }
+    {
+        release_kept(self.hold_debug_info_url(alloc, url))
+    }
+
+    fn set_input(&mut self, alloc: Global, name: &str, bytes: Vec<u8>) -> Result<(), AllocError>
+        ensures ok { OnOk result (self.new ≡ record self.old { input = Some (name.now, bytes.items) }) }
+        ensures refused { OnErr result (self.new ≡ self.old) }
+    {
+        let stem = Text::from_str(alloc, name)?;
+        self.input = Some((stem, Seq::from_vec(bytes)));
+        Ok(())
+    }
+
+    fn hold_input(
+        &mut self,
+        alloc: Global,
+        name: &str,
+        bytes: Vec<u8>,
+    ) -> Result<Held<'_>, AllocError>
+        ensures* refused { sem 𝓛 (HeldRests self.entry result) }
+        ensures ok { IfOk result (λ b. b.at.now ≡ record self.old { input = Some (name.now, bytes.items) }) }
+        ensures same_reference { IfOk result (λ b. b.at.ghost_name ≡ self.entry.ghost_name) }
+    {
+        self.set_input(alloc, name, bytes)?;
+        Ok(Held { at: self })
+    }
+
+    /// Hands in a module's bytes, and the name that its files begin with, in place of an earlier input, and answers the generator.
+    /// Where memory runs out the bytes are dropped, and the earlier input stays.
+    pub fn input_bytes(
+        &mut self,
+        alloc: Global,
+        name: &str,
+        bytes: Vec<u8>,
+    ) -> Result<&mut Bindgen, AllocError>
+        ensures* refused { sem 𝓛 (Rests self.entry result) }
+        ensures ok { IfOk result (λ b. b.now ≡ record self.old { input = Some (name.now, bytes.items) }) }
+        ensures same_reference { IfOk result (λ b. b.ghost_name ≡ self.entry.ghost_name) }
+    {
+        release_kept(self.hold_input(alloc, name, bytes))
+    }
+}
