@@ -1,4 +1,5 @@
 //! What a test makes, beside what it wants.
+pub use glue_inputs::shown;
 use std::alloc::{AllocError, Global};
 use std::fmt::Debug;
 use std::process::Abort;
@@ -29,9 +30,4 @@ pub fn copied<H: Abort, T: Duplicate + PartialEq>(
     let again = value.copy(alloc)?;
     assert!(rt; again == *value);
     Ok(again)
-}
-
-/// A value as `{:?}` prints it.
-pub fn shown<T: Debug + Drop>(alloc: Global, value: T) -> Result<String, AllocError> {
-    format!(in alloc; "{value:?}")
 }

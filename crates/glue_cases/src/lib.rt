@@ -1,25 +1,25 @@
-//! Tests of the crates from `glue_words` to `cli_support`: texts and files that were worked out by hand, what is answered for
-//! settings and inputs, and the lengths of the files.
+//! Tests of what stands beside adapters and on top of them: names, words and items (`glue_scope`), the marked notation
+//! (`glue_marked`), indentation (`glue_layout`), sources and sinks (`glue_ends`), names of hosts and own imports (`glue_shared`),
+//! and the files and faults of a whole call (`cli_support`). Texts, files and lengths were worked out by hand.
 #![tactic(auto)]
 
 #[cfg(test)]
-mod binding;
+mod choices;
 #[cfg(test)]
 mod compare;
 #[cfg(test)]
 mod ends;
-pub mod inputs;
 #[cfg(test)]
 mod layout;
-#[cfg(test)]
-mod lower;
 #[cfg(test)]
 mod marked;
 #[cfg(test)]
 mod scope;
 #[cfg(test)]
+mod settings;
+#[cfg(test)]
+mod several;
+#[cfg(test)]
 mod shared;
 #[cfg(test)]
 mod support;
-#[cfg(test)]
-mod tree;

@@ -1,8 +1,7 @@
 use crate::compare::assert_told;
-use crate::inputs::printed;
-use glue_words::{
-    MarkFault, Word, WordBuilder, key, marked, punct, renamed_words, shipped, spread_words,
-};
+use glue_inputs::printed;
+use glue_marked::{MarkFault, marked, renamed_words, shipped, spread_words};
+use glue_words::{Word, WordBuilder, key, punct};
 use std::alloc::{AllocError, Global};
 use values::{Seq, Text};
 

@@ -1,5 +1,5 @@
 use crate::compare::{assert_case, assert_told, copied};
-use crate::inputs::{printed, texts};
+use glue_inputs::{printed, texts};
 use glue_scope::{
     IdentScope, Item, Names, NoteKind, Role, Thing, Word, is_computed_key, is_valid_ident,
     js_string_literal, key_text, print, property_words, punct_text, regex_text, to_valid_ident,

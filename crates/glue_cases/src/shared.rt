@@ -1,5 +1,5 @@
 use crate::compare::{assert_case, assert_told, shown};
-use crate::inputs::{CONFIG, settings};
+use glue_inputs::{CONFIG, settings};
 use glue_shared::{
     Adapter, AdapterId, AdapterKind, EncodeInto, Instruction, Lowered, NonstandardWitSection,
     Target, WasmBindgenAux, is_fixed_name, is_host_name, live_count, own_imports, roots,
@@ -130,7 +130,6 @@ fn lowered(alloc: Global) -> Result<Lowered, ParseFault> {
         module,
         wit: section(alloc)?,
         aux: with_store(alloc),
-        is_read: true,
     })
 }
 

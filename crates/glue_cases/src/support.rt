@@ -8,11 +8,35 @@ use wasm_core::EmitFault;
 const EMPTY: &[u8] = b"\0asm\x01\0\0\0";
 
 #[test]
-fn a_target_is_chosen_once(rt: HostRuntime) {
+fn deno_is_chosen_once(rt: HostRuntime) {
     let mut generator = Bindgen::new(false, false);
     assert!(rt; generator.deno(false).is_ok());
     assert!(rt; generator.deno(true).is_ok());
     assert!(rt; generator.deno(true).err() == Some(SetFault::ModeTwice));
+    assert!(rt; generator.deno(false).is_ok());
+}
+
+#[test]
+fn web_is_chosen_once(rt: HostRuntime) {
+    let mut generator = Bindgen::new(false, false);
+    assert!(rt; generator.web(false).is_ok());
+    assert!(rt; generator.web(true).is_ok());
+    assert!(rt; generator.web(true).err() == Some(SetFault::ModeTwice));
+    assert!(rt; generator.deno(true).err() == Some(SetFault::ModeTwice));
+}
+
+#[test]
+fn a_refused_target_changes_nothing(rt: HostRuntime) -> Result<(), Fail> {
+    let bytes = Vec::from_slice(rt.alloc(), EMPTY)?;
+    let mut generator = Bindgen::new(false, false);
+    generator.input_bytes(rt.alloc(), "out", bytes)?;
+    assert!(rt; generator.deno(true).is_ok());
+    assert!(rt; generator.web(true).is_err());
+    let output = generator.generate_output(rt.alloc(), &mut JsonLowering::new())?;
+    let told = output_told(rt.alloc(), &output);
+    drop(output);
+    assert_told(&rt, told, "3 false true 0 56 406")?;
+    Ok(())
 }
 
 #[test]
@@ -45,13 +69,18 @@ fn make(
 }
 
 /// What is made for Deno or for no target, with this name and these bytes.
-fn made(alloc: Global, deno: bool, name: &str, bytes: &[u8]) -> Result<Output, Fault> {
+pub fn made(alloc: Global, deno: bool, name: &str, bytes: &[u8]) -> Result<Output, Fault> {
     let bytes = Vec::from_slice(alloc, bytes)?;
     make(alloc, &mut Bindgen::new(false, false), deno, name, bytes)
 }
 
 /// The fault of that, nothing without one.
-fn fault_told(alloc: Global, deno: bool, name: &str, bytes: &[u8]) -> Result<String, AllocError> {
+pub fn fault_told(
+    alloc: Global,
+    deno: bool,
+    name: &str,
+    bytes: &[u8],
+) -> Result<String, AllocError> {
     match made(alloc, deno, name, bytes).err() {
         Some(fault) => shown(alloc, fault),
         None => Ok(String::new(alloc)),

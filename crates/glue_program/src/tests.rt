@@ -123,11 +123,6 @@ const REFUSED: &[(&str, &str)] = &[
         "0061736d010000000104016000000302010007090201610000016100000a040102000b",
         "fault NotBuilt\n",
     ),
-    // An adapter that nothing uses.
-    (
-        "0061736d01000000005c0a5f5f7762675f676c75657b2276657273696f6e223a312c226164617074657273223a5b7b226964223a302c2261726773223a5b22733332225d2c22726573756c7473223a5b5d2c22696d706f7274223a226e6f726d616c227d5d7d",
-        "fault NotBuilt\n",
-    ),
     // Another version, a version that is a text, none, no JSON, no UTF-8, and another version beside an import.
     (
         "0061736d0100000000180a5f5f7762675f676c75657b2276657273696f6e223a337d",
@@ -183,6 +178,13 @@ const UNREACHED: &[(&str, u64, &str, &str)] = &[
     // The first memory, and a custom section.
     ("0061736d010000000503010001", 61, "0503010001", ""),
     ("0061736d0100000000020178", 60, "", "00020178"),
+    // An adapter that nothing uses.
+    (
+        "0061736d01000000005c0a5f5f7762675f676c75657b2276657273696f6e223a312c226164617074657273223a5b7b226964223a302c2261726773223a5b22733332225d2c22726573756c7473223a5b5d2c22696d706f7274223a226e6f726d616c227d5d7d",
+        56,
+        "",
+        "",
+    ),
 ];
 
 // The start of the files of a module with that length and those sections.

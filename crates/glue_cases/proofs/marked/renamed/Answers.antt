@@ -1,5 +1,5 @@
 use Rattle.std.proofs.Common.{refl}
-use Rattle.glue_words.proofs.Reading.{reading}
+use Rattle.glue_marked.proofs.Reading.{reading}
 use Rattle.glue_cases.proofs.marked.renamed.Goals as goal
 
 -- The fixed text is read.

@@ -1,5 +1,5 @@
 use Rattle.std.proofs.Common.{rules}
-use Rattle.glue_cases.proofs.inputs.printed.Goals as goal
+use Rattle.glue_inputs.proofs.settings.Goals as goal
 
 pub returns : goal.returns
 returns c = search rules

@@ -1,15 +1,24 @@
-//! Words that are printed, names, and settings.
+//! What the tests of `glue_tree_cases`, `glue_check_cases` and `glue_cases` begin with: words that are printed, lists of names,
+//! settings, and how a value is shown. Only these tests use it.
+//!
+//! Promised: each function gives exactly what it says, or memory runs out; of `shown` nothing is promised.
+//!
+//! Stands on `glue_scope` and its words for what is printed, on `glue_shared` for settings, and on `wasm_core`.
+#![tactic(auto)]
+
 ghost use Rattle.std.specs.Prelude.{◌≡◌, [], ◌∷◌, codes, map, true, false, string_bytes, IfOk};
-ghost use Rattle.glue_words.specs.Words.{printed as printed_items};
+ghost use Rattle.glue_words.specs.Words as spec;
 ghost use Rattle.glue_words.specs.declared.item.Role.TheVariants.{Body};
 
 use glue_scope::{Item, Role, Word, print};
 use glue_shared::{EncodeInto, Settings, Target};
 use std::alloc::{AllocError, Global};
+use std::fmt::Debug;
 use std::slice;
 use values::{Seq, Text};
 use wasm_core::ParseConfig;
 
+/// Names and producers are read, debug information is left out.
 pub const CONFIG: ParseConfig = ParseConfig {
     keep_debug: false,
     names: true,
@@ -18,7 +27,7 @@ pub const CONFIG: ParseConfig = ParseConfig {
 
 /// The words, printed.
 pub fn printed(alloc: Global, words: Seq<Word>) -> Result<String, AllocError>
-    ensures { IfOk result (λ text. string_bytes text ≡ printed_items (record { role = Body; words = words } ∷ [])) }
+    ensures { IfOk result (λ text. string_bytes text ≡ spec.printed (record { role = Body; words = words } ∷ [])) }
 {
     let item = Item {
         role: Role::Body,
@@ -65,4 +74,9 @@ pub fn settings(
         reset_state: false,
         force_abort: false,
     })
+}
+
+/// A value as `{:?}` prints it.
+pub fn shown<T: Debug + Drop>(alloc: Global, value: T) -> Result<String, AllocError> {
+    format!(in alloc; "{value:?}")
 }

@@ -1,6 +1,6 @@
 use crate::compare::assert_told;
-use crate::inputs::{printed, texts};
 use glue_binding::bind;
+use glue_inputs::{printed, texts};
 use glue_scope::IdentScope;
 use glue_steps::Step;
 use std::alloc::{AllocError, Global};

@@ -1,6 +1,6 @@
 use Rattle.std.proofs.Common.{arith}
 use Rattle.std.proofs.lemmas.Grind.{common_steps}
-use Rattle.glue_cases.proofs.inputs.texts.Goals as goal
+use Rattle.glue_inputs.proofs.texts.Goals as goal
 
 pub loop-name-preserved : goal.loop-name-preserved
 loop-name-preserved c = grind (arith, common_steps)

@@ -1,5 +1,5 @@
 use crate::compare::assert_told;
-use crate::inputs::{printed, texts};
+use glue_inputs::{printed, texts};
 use glue_tree::{BinaryOperator, Constant, Expr, Stmt, UnaryOperator, function_words_of, words_of};
 use glue_words::Word;
 use std::alloc::{AllocError, Global};

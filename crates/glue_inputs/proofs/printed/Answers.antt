@@ -1,5 +1,5 @@
 use Rattle.std.proofs.Common.{rules}
-use Rattle.glue_cases.proofs.inputs.settings.Goals as goal
+use Rattle.glue_inputs.proofs.printed.Goals as goal
 
 pub returns : goal.returns
 returns c = search rules
