@@ -89,7 +89,7 @@ reading flags = record {
   producers = not flags.remove_producers_section;
 }
 
--- no target was chosen: the bundler's stands
+-- the bundler's target stands
 abbrev pub is_bundler : Target → Bool
 is_bundler (target.Bundler browser_only) = true
 is_bundler target.Web = false
@@ -99,7 +99,7 @@ is_bundler target.Deno = false
 is_bundler target.Module = false
 is_bundler target.Emscripten = false
 
--- no target was chosen, or none is chosen now
+-- the bundler's target stands, or none is chosen now
 abbrev pub is_free : Bool → Target → Bool
 is_free false t = true
 is_free true t = is_bundler t

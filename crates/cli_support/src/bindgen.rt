@@ -84,8 +84,8 @@ fn first_flags(externref: bool, multi_value: bool) -> Flags
 
 impl Bindgen {
     /// The settings at the start: a bundler's files, and whether reference types and several results are taken to be there. Names of
-    /// functions are demangled, the default path of the module is left out, and strings are encoded in place where the host can. All
-    /// else is off or absent.
+    /// functions are to be demangled, a start function is to be called, the default path of the module is left out, and strings are
+    /// encoded in place where the host can. All else is off or absent.
     pub fn new(externref: bool, multi_value: bool) -> Bindgen
         ensures fresh { result ≡ spec.fresh externref multi_value }
     {

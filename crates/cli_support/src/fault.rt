@@ -6,7 +6,7 @@ use values::Text;
 /// Why a setter refuses.
 #[derive(Debug, Drop, PartialEq, Eq, Error)]
 pub enum SetFault {
-    /// A target stands already.
+    /// A target other than the bundler's stands already.
     #[error("ModeTwice")]
     ModeTwice,
     /// The global of a script can't have this name: it is no identifier, or a glue file or every host gives it.

@@ -178,8 +178,8 @@ impl Bindgen {
         self
     }
 
-    /// When the glue file encodes strings in place, by `TextEncoder.encodeInto`. Nothing that is built passes strings, so nothing
-    /// depends on it.
+    /// When the glue file encodes strings in place, by `TextEncoder.encodeInto`. The lowering is told of it; nothing that is built
+    /// passes strings, so nothing depends on it otherwise.
     pub fn encode_into(&mut self, mode: EncodeInto) -> &mut Bindgen
         ensures set { result.now ≡ record self.old { encode_into = mode } }
         ensures same_reference { result.ghost_name ≡ self.entry.ghost_name }

@@ -55,8 +55,8 @@ impl Bindgen {
         Ok(Held { at: self })
     }
 
-    /// Sets the address under which the module that is written names its debug sections once they are split off, and answers the
-    /// generator. Where memory runs out the earlier one stays.
+    /// Keeps the address under which debug sections that are split off are to be named, and answers the generator. That isn't built:
+    /// nothing depends on it yet. Where memory runs out the earlier one stays.
     pub fn debug_info_url(&mut self, alloc: Global, url: &str) -> Result<&mut Bindgen, AllocError>
         ensures* refused { sem 𝓛 (Rests self.entry result) }
         ensures ok { IfOk result (λ b. b.now ≡ record self.old { debug_info_url = Some url.now }) }

@@ -1,5 +1,5 @@
 //! Setters of the target.
-ghost use Rattle.std.specs.Prelude.{◌≡◌, ◌≢◌, ◌⊎◌, ◌↔◌, IfOk, IfErr, IsErr, OnOk, OnErr, Some, None, codes, true, false};
+ghost use Rattle.std.specs.Prelude.{◌≡◌, ◌≢◌, ◌⊎◌, ◌↔◌, IfOk, IfErr, IsErr, IsOk, OnOk, OnErr, Some, None, codes, true, false};
 ghost use Rattle.std.specs.Borrow.{sem};
 ghost use Rattle.cli_support.specs.Configured as spec;
 ghost use Rattle.cli_support.specs.GlobalName.{global_fault};
@@ -255,6 +255,7 @@ impl Bindgen {
         ensures ok { IfOk result (λ b. (b.at.now ≡ spec.with_target enable (Target.NoModules (codes "wasm_bindgen")) self.old) × (spec.is_free enable self.old.target ≡ true)) }
         ensures same_reference { IfOk result (λ b. b.at.ghost_name ≡ self.entry.ghost_name) }
         ensures cause { IfErr result (λ e. (e ≡ SetFault.OutOfMemory) ⊎ ((e ≡ SetFault.ModeTwice) × (spec.is_free enable self.old.target ≡ false))) }
+        ensures off { enable ≡ false → IsOk result }
     {
         if enable {
             self.set_no_modules(alloc)?;
@@ -269,6 +270,7 @@ impl Bindgen {
         ensures ok { IfOk result (λ b. (b.now ≡ spec.with_target enable (Target.NoModules (codes "wasm_bindgen")) self.old) × (spec.is_free enable self.old.target ≡ true)) }
         ensures same_reference { IfOk result (λ b. b.ghost_name ≡ self.entry.ghost_name) }
         ensures cause { IfErr result (λ e. (e ≡ SetFault.OutOfMemory) ⊎ ((e ≡ SetFault.ModeTwice) × (spec.is_free enable self.old.target ≡ false))) }
+        ensures off { enable ≡ false → IsOk result }
     {
         release_set(self.hold_no_modules(alloc, enable))
     }
