@@ -8,7 +8,7 @@ ghost use Rattle.wasm_core.specs.Contents.{Contents};
 ghost use Rattle.wasm_core.specs.Emission.{file_names, filed, too_large};
 ghost use Rattle.wasm_core.specs.Parsing.{no_names, all_names, with_names, all_producers, is_kept};
 ghost use Rattle.wasm_core.specs.Renumbering.{numbering};
-ghost use Rattle.wasm_core.specs.declared.types.Func.{Func as Function};
+ghost use Rattle.wasm_core.specs.declared.types.Func.{Func};
 ghost use Rattle.wasm_core_laws.specs.Again.{IsWithinLimits, all_there, func_again, in_order};
 ghost use Rattle.wasm_core_laws.specs.ModuleFits.{IsModule, func_imported};
 
@@ -18,7 +18,7 @@ pub fn customs_again()
     ensures fit { (m : Contents) → IsModule m → IsWithinLimits m → FitsNames (length (in_order func_imported m.funcs)) (file_names m (numbering m)) }
     ensures short { (m : Contents) → too_large m ≡ None → AreShortSections (filed m) }
     ensures names { (m : Contents) → IsModule m → IsWithinLimits m → all_names (length (in_order func_imported m.funcs)) (filed m).customs ≡ (if m.config.names then file_names m (numbering m) else no_names) }
-    ensures funcs { (m : Contents) → with_names (if m.config.names then file_names m (numbering m) else no_names).funcs (all_there (λ (f : Function). record (func_again m f) { name = None }) (in_order func_imported m.funcs)) ≡ all_there (func_again m) (in_order func_imported m.funcs) }
+    ensures funcs { (m : Contents) → with_names (if m.config.names then file_names m (numbering m) else no_names).funcs (all_there (λ (f : Func). record (func_again m f) { name = None }) (in_order func_imported m.funcs)) ≡ all_there (func_again m) (in_order func_imported m.funcs) }
     ensures producers { (m : Contents) → IsModule m → IsWithinLimits m → all_producers (filed m).customs ≡ (if m.config.producers then m.producers else []) }
     ensures kept { (m : Contents) (debug : Bool) → filter (is_kept debug) (filed m).customs ≡ filter (is_kept debug) m.customs }
 {}
