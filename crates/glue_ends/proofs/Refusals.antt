@@ -3,7 +3,7 @@ use Rattle.std.proofs.Common.{◌≡◌, ◌≢◌, ℕ, ◌≤◌, sym, ap, ◌
 use Rattle.std.specs.declared.result.Result.{Result}
 use Rattle.std.specs.declared.result.Result.TheVariants.{Ok, Err}
 use Rattle.std.specs.Result.{IsErrAnd}
-use Rattle.glue_ends.specs.Causes.{Rose}
+use Rattle.values.specs.Count.{Rose}
 
 abbrev error_in : {T E : Type 0} → E → Result T E → E
 error_in e (Ok x) = e

@@ -1,7 +1,8 @@
 //! The listing of planned files.
 ghost use Rattle.std.specs.Prelude.{◌≡◌, ◌≤◌, IfOk, OnOk, string_bytes};
 ghost use Rattle.std.specs.Io.KnownBytes.{Appends};
-ghost use Rattle.glue_ends.specs.Causes.{Rose, AppendsPrefix};
+ghost use Rattle.glue_ends.specs.Causes.{AppendsPrefix};
+ghost use Rattle.values.specs.Count.{Rose};
 ghost use Rattle.glue_ends.specs.Listing.{heading, heading_text, entry, listing, shown_bytes, form_word};
 
 use crate::plan::PlannedFile;

@@ -2,7 +2,8 @@
 ghost use Rattle.std.specs.Prelude.{◌≡◌, ◌≤◌, ◌<◌, ◌↔◌, [], true, false, Some, IfOk, OnOk, OnErr, IsErr, Contains, length, take};
 ghost use Rattle.std.specs.Io.{ReadsAtMost};
 ghost use Rattle.std.specs.Io.KnownBytes.{ReadConsumes, Appends};
-ghost use Rattle.glue_ends.specs.Causes.{Rose, AppendsPrefix};
+ghost use Rattle.glue_ends.specs.Causes.{AppendsPrefix};
+ghost use Rattle.values.specs.Count.{Rose};
 ghost use Rattle.glue_ends.specs.Memory.{next};
 
 use crate::sink::{Sink, WriteFault};

@@ -1,7 +1,7 @@
 //! Reading a source to its end.
 ghost use Rattle.std.specs.Prelude.{◌≡◌, ◌≢◌, ◌≤◌, ◌<◌, ◌+◌, length, IfOk, OnOk};
 ghost use Rattle.std.specs.Io.KnownBytes.{IsAtEnd, Keeps};
-ghost use Rattle.glue_ends.specs.Causes.{Rose};
+ghost use Rattle.values.specs.Count.{Rose};
 ghost use Rattle.glue_ends.specs.Taking.{TakesAtMost, TakesMoreThan, TakesInto, IsWhole};
 
 use crate::source::{ReadFailed, Source};

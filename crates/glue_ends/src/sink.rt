@@ -2,7 +2,8 @@
 ghost use Rattle.std.specs.Prelude.{◌≡◌, ◌≤◌, List, ℕ, OnOk};
 ghost use Rattle.std.specs.declared.option.Option.{Option};
 ghost use Rattle.std.specs.Io.KnownBytes.{Appends};
-ghost use Rattle.glue_ends.specs.Causes.{Rose, AppendsPrefix};
+ghost use Rattle.glue_ends.specs.Causes.{AppendsPrefix};
+ghost use Rattle.values.specs.Count.{Rose};
 ghost use Rattle.glue_ends.specs.declared.sink.WriteFault.TheVariants.{OutOfMemory};
 
 use std::alloc::{AllocError, AllocFailed};

@@ -3,7 +3,7 @@ ghost use Rattle.std.specs.Prelude.{◌≡◌, ◌≤◌, List, ℕ, IfOk, OnErr
 ghost use Rattle.std.specs.declared.option.Option.{Option};
 ghost use Rattle.std.specs.Io.{ReadsAtMost};
 ghost use Rattle.std.specs.Io.KnownBytes.{ReadConsumes};
-ghost use Rattle.glue_ends.specs.Causes.{Rose};
+ghost use Rattle.values.specs.Count.{Rose};
 
 /// A read failed at the source.
 #[derive(Clone, Copy, Debug, PartialEq, Eq)]

@@ -5,7 +5,7 @@
 //! or not.
 //!
 //! Stands on `glue_json` for what a value reads as, on `serde_json` for the value of a text, on `glue_shared` for the
-//! description, on `wasm_core` for the module and on `glue_ends` for what it means that a count rose.
+//! description, and on `wasm_core` for the module.
 #![tactic(auto)]
 
 mod document;

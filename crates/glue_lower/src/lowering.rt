@@ -2,7 +2,7 @@
 ghost use Rattle.std.specs.Prelude.{◌≡◌, ◌≢◌, ◌≤◌, ◌++◌, [], ◌∷◌, ℕ, IfOk, IfSome, None, Some, option_map};
 ghost use Rattle.std.specs.declared.option.Option.{Option};
 ghost use Rattle.wasm_core.specs.Contents.{Contents};
-ghost use Rattle.glue_ends.specs.Causes.{Rose};
+ghost use Rattle.glue_shared.specs.Count.{Rose};
 ghost use Rattle.glue_shared.specs.declared.description.Lowered.{Lowered};
 ghost use Rattle.glue_shared.specs.declared.settings.Settings.{Settings};
 ghost use Rattle.wasm_core.specs.Edits.{without_custom};

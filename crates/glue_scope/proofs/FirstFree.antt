@@ -8,7 +8,8 @@ use Rattle.std.specs.Ordering.{nat_cmp, eq_by_cmp}
 use Rattle.std.specs.Cmp.Lexicographic.{slice_cmp, nat_list_cmp_total}
 use Rattle.std.specs.Fmt.{decimal}
 use Rattle.std.specs.FinSet as set
-use Rattle.glue_scope.specs.Scope.{Bound, IsLeastFree, IsFirstFree}
+use Rattle.values.specs.TextSet.{TextSet}
+use Rattle.glue_scope.specs.Scope.{IsLeastFree, IsFirstFree}
 use Rattle.glue_words.specs.Ident.{numbered}
 use Rattle.glue_scope.proofs.Scopes.{same_text}
 
@@ -17,7 +18,7 @@ apart_by true P h differ = absurd (differ (h refl))
 apart_by false P h differ = refl
 
 -- a name stays where another is taken out
-kept_in : (s : Bound) (k q : List ℕ) → (q ≡ k → ⊥) → set.contains s q ≡ true → set.contains (set.remove s k) q ≡ true
+kept_in : (s : TextSet) (k q : List ℕ) → (q ≡ k → ⊥) → set.contains s q ≡ true → set.contains (set.remove s k) q ≡ true
 kept_in s k q differ h =
     set.contains-remove nat_list_cmp_total s k q
     ∙ ap (λ b. not b && set.contains s q) (apart_by (eq_by_cmp (slice_cmp nat_cmp) q k) (q ≡ k) (same_text q k) differ)
@@ -37,14 +38,14 @@ other_number name a b la lb less e =
     let d = decimal_injective b a lb la (append_cancel name (decimal b) (decimal a) e) in
     omega arith
 
-not_empty : (s : Bound) (q : List ℕ) → set.contains s q ≡ true → 1 ≤ set.len s
+not_empty : (s : TextSet) (q : List ℕ) → set.contains s q ≡ true → 1 ≤ set.len s
 not_empty s q h = elim (cases_lt 0 (set.len s)) [
   | inl some ↦ some
-  | inr none ↦ absurd (true≢false (sym h ∙ ap (λ (t : Bound). set.contains t q) (set.empty_of_len s (omega arith)) ∙ set.contains-empty (slice_cmp nat_cmp) q))
+  | inr none ↦ absurd (true≢false (sym h ∙ ap (λ (t : TextSet). set.contains t q) (set.empty_of_len s (omega arith)) ∙ set.contains-empty (slice_cmp nat_cmp) q))
 ]
 
 -- a set that has a name, and the name with each of some numbers, has more names than there are numbers
-taken_count : (k : ℕ) (s : Bound) (name : List ℕ) (start : ℕ) → start + k < 2 ^ 64 → set.contains s name ≡ true → ((j : ℕ) → start ≤ j → j < start + k → set.contains s (numbered name j) ≡ true) → k + 1 ≤ set.len s
+taken_count : (k : ℕ) (s : TextSet) (name : List ℕ) (start : ℕ) → start + k < 2 ^ 64 → set.contains s name ≡ true → ((j : ℕ) → start ≤ j → j < start + k → set.contains s (numbered name j) ≡ true) → k + 1 ≤ set.len s
 taken_count zero s name start small h taken = not_empty s name h
 taken_count (suc k) s name start small h taken =
     let first = taken start (omega arith) (omega arith) in
@@ -56,11 +57,11 @@ taken_count (suc k) s name start small h taken =
     omega (arith, rest, m)
 
 -- among the next k numbers one is free, or all are taken
-Searched : Bound → List ℕ → ℕ → ℕ → Type 0
+Searched : TextSet → List ℕ → ℕ → ℕ → Type 0
 Searched bound name start end =
     ((n : ℕ) × (n < end) × IsLeastFree bound name start n) ⊎ ((j : ℕ) → start ≤ j → j < end → set.contains bound (numbered name j) ≡ true)
 
-one_more : (bound : Bound) (name : List ℕ) (start end : ℕ) (there : Bool) → start ≤ end → set.contains bound (numbered name end) ≡ there → Searched bound name start end → Searched bound name start (end + 1)
+one_more : (bound : TextSet) (name : List ℕ) (start end : ℕ) (there : Bool) → start ≤ end → set.contains bound (numbered name end) ≡ there → Searched bound name start end → Searched bound name start (end + 1)
 unfolding Searched
 one_more bound name start end there low e (inl found) = inl (found.0, omega (arith, found.1), found.2)
 one_more bound name start end false low e (inr taken) = inl (end, omega arith, record { above = low; free = e; taken = taken })
@@ -70,7 +71,7 @@ one_more bound name start end true low e (inr taken) = inr (λ j above below. el
       let same : end ≡ j = omega arith in subst (λ (i : ℕ). set.contains bound (numbered name i) ≡ true) same e
 ])
 
-search_numbers : (bound : Bound) (name : List ℕ) (start k : ℕ) → Searched bound name start (start + k)
+search_numbers : (bound : TextSet) (name : List ℕ) (start k : ℕ) → Searched bound name start (start + k)
 unfolding Searched
 search_numbers bound name start zero = inr (λ j low high. absurd (omega arith))
 search_numbers bound name start (suc k) =
@@ -79,7 +80,7 @@ search_numbers bound name start (suc k) =
     subst (Searched bound name start) same more
 
 -- a name that is bound is free with a number of at most the count of bound names plus 1
-pub least_free_there : (bound : Bound) (name : List ℕ) → 2 + set.len bound < 2 ^ 64 → set.contains bound name ≡ true → (n : ℕ) × (n < 2 + set.len bound) × IsLeastFree bound name 2 n
+pub least_free_there : (bound : TextSet) (name : List ℕ) → 2 + set.len bound < 2 ^ 64 → set.contains bound name ≡ true → (n : ℕ) × (n < 2 + set.len bound) × IsLeastFree bound name 2 n
 unfolding Searched
 least_free_there bound name small h = elim (search_numbers bound name 2 (set.len bound)) [
   | inl found ↦ found
@@ -87,10 +88,10 @@ least_free_there bound name small h = elim (search_numbers bound name 2 (set.len
       let many = taken_count (set.len bound) bound name 2 small h taken in absurd (omega arith)
 ]
 
-either_free : (bound : Bound) (name : List ℕ) (there : Bool) → set.contains bound name ≡ there → 2 + set.len bound < 2 ^ 64 → (answer : List ℕ) × IsFirstFree bound name answer
+either_free : (bound : TextSet) (name : List ℕ) (there : Bool) → set.contains bound name ≡ there → 2 + set.len bound < 2 ^ 64 → (answer : List ℕ) × IsFirstFree bound name answer
 either_free bound name false e small = (name, inl (e, refl))
 either_free bound name true e small = let n = least_free_there bound name small e in (numbered name n.0, inr (e, (n.0, refl, n.2)))
 
 -- each name has a first free one
-pub first_free_there : (bound : Bound) (name : List ℕ) → 2 + set.len bound < 2 ^ 64 → (answer : List ℕ) × IsFirstFree bound name answer
+pub first_free_there : (bound : TextSet) (name : List ℕ) → 2 + set.len bound < 2 ^ 64 → (answer : List ℕ) × IsFirstFree bound name answer
 first_free_there bound name small = either_free bound name (set.contains bound name) refl small

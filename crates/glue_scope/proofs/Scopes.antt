@@ -7,7 +7,8 @@ use Rattle.std.specs.Cmp.{Equal-is, tied_itself}
 use Rattle.std.specs.Cmp.Lexicographic.{slice_cmp, nat_list_cmp_total}
 use Rattle.std.specs.FinMap as finite
 use Rattle.std.specs.FinSet as set
-use Rattle.glue_scope.specs.Scope.{Numbers, Bound}
+use Rattle.values.specs.TextSet.{TextSet}
+use Rattle.glue_scope.specs.Scope.{Numbers}
 use Rattle.glue_scope.specs.Scope.{key_set, IsFirstFree, IsLeastFree, IsKept, KeepsTaken}
 use Rattle.glue_words.specs.Ident.{numbered}
 use Rattle.glue_scope.proofs.KeySets.{contains-key_set, key_set-insert}
@@ -28,7 +29,7 @@ some_from_test o h = search rules
 
 pub contains_grown : (m : Numbers) (k : List ℕ) (v : ℕ) (q : List ℕ) → set.contains (key_set m) q ≡ true → set.contains (key_set (finite.insert m k v)) q ≡ true
 contains_grown m k v q h =
-    ap (λ (s : Bound). set.contains s q) (key_set-insert m k v)
+    ap (λ (s : TextSet). set.contains s q) (key_set-insert m k v)
     ∙ set.contains-insert nat_list_cmp_total (key_set m) k q
     ∙ or_true _ _ h
 
@@ -63,7 +64,7 @@ least_from_kept m name start n kept h = record {
 
 pub contains_put : (m : Numbers) (k : List ℕ) (v : ℕ) → set.contains (key_set (finite.insert m k v)) k ≡ true
 contains_put m k v =
-    ap (λ (s : Bound). set.contains s k) (key_set-insert m k v)
+    ap (λ (s : TextSet). set.contains s k) (key_set-insert m k v)
     ∙ set.contains-insert nat_list_cmp_total (key_set m) k k
     ∙ ap (λ b. b || set.contains (key_set m) k) (ap is_eq (tied_itself nat_list_cmp_total k))
 
@@ -88,7 +89,7 @@ contained m q v e = contains-key_set m q ∙ ap is_some e
 pub not_contained : (m : Numbers) (q : List ℕ) → finite.get m q ≡ None → set.contains (key_set m) q ≡ false
 not_contained m q e = contains-key_set m q ∙ ap is_some e
 
-pub insert_present : (s : Bound) (k : List ℕ) → set.contains s k ≡ true → set.insert s k ≡ s
+pub insert_present : (s : TextSet) (k : List ℕ) → set.contains s k ≡ true → set.insert s k ≡ s
 insert_present s k h =
     set.same_set nat_list_cmp_total (set.slice_cmp-IsAntisymmetric set.nat_cmp-IsAntisymmetric) _ _ (λ q.
     set.contains-insert nat_list_cmp_total s k q

@@ -4,7 +4,8 @@ ghost use Rattle.std.specs.FinMap as finite;
 ghost use Rattle.std.specs.FinSet as set;
 ghost use Rattle.std.specs.String.{string_bytes};
 ghost use Rattle.glue_words.specs.Ident.{is_ident, to_ident};
-ghost use Rattle.glue_scope.specs.Scope.{Bound, IsFirstFree, IsKept, IsLeastFree, KeepsTaken, key_set};
+ghost use Rattle.values.specs.TextSet.{TextSet};
+ghost use Rattle.glue_scope.specs.Scope.{IsFirstFree, IsKept, IsLeastFree, KeepsTaken, key_set};
 ghost use Rattle.glue_words.specs.Ident.{numbered};
 
 use crate::number_map::NumberMap;
@@ -17,7 +18,7 @@ use std::marker::Model;
 /// Want of memory is its only error, and binds nothing.
 pub trait Names: Sized + Drop {
     /// The names that are bound.
-    ghost bound: { Self → Bound };
+    ghost bound: { Self → TextSet };
 
     /// A scope that binds nothing.
     fn new(alloc: Global) -> Self

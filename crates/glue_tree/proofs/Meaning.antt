@@ -1,6 +1,6 @@
 -- What the meaning of trees comes to on the forms that are written.
 use Rattle.std.proofs.Common.{◌≡◌, ℕ, List, ◌∷◌, refl}
-use Rattle.glue_tree.specs.Value.{Thing, Undefined, unsigned, is_not_zero, Answer, Entry, Went}
+use Rattle.values.specs.Value.{Thing, Undefined, unsigned, is_not_zero, Answer, Entry, Went}
 use Rattle.std.specs.Prelude.{pos}
 use Rattle.glue_tree.specs.declared.tree.BinaryOperator.TheVariants.{ShiftUnsigned, StrictUnequal}
 use Rattle.glue_tree.specs.Term.{Term, Lit, Var, Two, Line, Hold, Put, Rescue, When, Short, Lines, NoLines, AndLine}

@@ -3,7 +3,7 @@ use Rattle.std.proofs.Common.{◌≡◌, ℕ, List, [], ◌∷◌, refl, ap, sym
 use Rattle.std.proofs.lemmas.Bool.{and_parts}
 use Rattle.std.proofs.lemmas.Bool.Decides.{nat_tests}
 use Rattle.std.specs.Prelude.{◌<◌, ◌^◌, ℤ, pos, negsuc, codes, ◌==◌, bit_and, bit_or, bit_xor}
-use Rattle.glue_tree.specs.Value.{Thing, Helper, OfExport, OfHost, Value, Undefined, Null, Truth, Number, BigInt, Letters, Itself, Object, WithFields, NoFields, is_same_text, is_same_number, is_same_truth, is_same_thing, is_same, is_like, is_less, is_at_most, is_true, type_of, sum_of, difference_of, complement_of, by_bits, shifted_left, shifted_right, unsigned}
+use Rattle.values.specs.Value.{Thing, Helper, OfExport, OfHost, Value, Undefined, Null, Truth, Number, BigInt, Letters, Itself, Object, WithFields, NoFields, is_same_text, is_same_number, is_same_truth, is_same_thing, is_same, is_like, is_less, is_at_most, is_true, type_of, sum_of, difference_of, complement_of, by_bits, shifted_left, shifted_right, unsigned}
 
 -- ---- equality
 

@@ -5,4 +5,3 @@ pub mod Plainly
 pub mod Spelling
 pub mod Term
 pub mod TreeMeaning
-pub mod Value

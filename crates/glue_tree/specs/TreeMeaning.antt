@@ -10,7 +10,7 @@
 -- the one statement of `if (c) ..`, which wants braces there, and a record with the key `__proto__`. Such a run stops there, however many answers are left, and neither `catch` nor `finally` goes on from
 -- it (`no_meaning`). The run of a described function stops only where its answers end, so no such tree passes for one.
 use Rattle.std.specs.Prelude.{ℕ, Bool, true, false, not, List, [], ◌∷◌, if◌then◌else◌, Option, Some, None, codes, bit_and, bit_or, bit_xor}
-use Rattle.glue_tree.specs.Value.{Thing, OfExport, OfHost, Value, Undefined, Null, Truth, Number, BigInt, Letters, Itself, WithFields, FieldValues, NoFields, AndField, Reads, Writes, ReadsAt, WritesAt, TestsClass, TestsKey, Calls, CallsValue, CallsOn, CallsAt, News, NewsValue, CallsAdapter, Answer, Ran, Went, Threw, Ended, Act, goes_on, step, is_same_text, is_same, is_like, is_nothing, is_true, is_less, is_at_most, type_of, sum_of, difference_of, product_of, complement_of, by_bits, shifted_left, shifted_right, shifted_unsigned, bump, lower}
+use Rattle.values.specs.Value.{Thing, OfExport, OfHost, Value, Undefined, Null, Truth, Number, BigInt, Letters, Itself, WithFields, FieldValues, NoFields, AndField, Reads, Writes, ReadsAt, WritesAt, TestsClass, TestsKey, Calls, CallsValue, CallsOn, CallsAt, News, NewsValue, CallsAdapter, Answer, Ran, Went, Threw, Ended, Act, goes_on, step, is_same_text, is_same, is_like, is_nothing, is_true, is_less, is_at_most, type_of, sum_of, difference_of, product_of, complement_of, by_bits, shifted_left, shifted_right, shifted_unsigned, bump, lower}
 use Rattle.glue_tree.specs.declared.tree.BinaryOperator.{BinaryOperator}
 use Rattle.glue_tree.specs.declared.tree.BinaryOperator.TheVariants as b
 use Rattle.glue_tree.specs.declared.tree.Constant.{Constant}

@@ -8,7 +8,7 @@
 //!   form. An operand stands in parentheses where it binds more loosely than the grammar allows there
 //!   (`specs/Operands.antt`), and an expression at the start of a statement where it begins with `{`.
 //! - `tree_meaning` of `specs/TreeMeaning.antt` is the run of a body: a map of locals, a trace of all that it does to
-//!   what isn't its own, and an answer for each such step (`specs/Value.antt`). Operators are functions of values;
+//!   what isn't its own, and an answer for each such step (`values`, `specs/Value.antt`). Operators are functions of values;
 //!   `proofs/Values.antt` has what their equality says, `proofs/Meaning.antt` that `if (c) s` is `if (c) { s }`, and
 //!   what the guard of a call is.
 //! - The names in the words of a tree are those of its leaves (`specs/Leaves.antt`), of whichever kind: `term_names`,

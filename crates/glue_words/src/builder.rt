@@ -19,9 +19,9 @@ pub struct WordBuilder {
 
 impl Model for WordBuilder {
     ghost use Rattle.std.specs.Prelude.{List};
-    ghost use Rattle.glue_words.specs.declared.word.Word.{Word as Words};
+    ghost use Rattle.glue_words.specs.declared.word.Word as declared;
 
-    ghost Value = { List Words };
+    ghost Value = { List declared.Word };
 
     ghost view = { λ b. b.words };
 }
