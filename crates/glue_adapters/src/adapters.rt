@@ -4,7 +4,7 @@ ghost use Rattle.std.specs.Option.{option_copied};
 ghost use Rattle.std.specs.List.{count_by, list_all, list_any, find};
 ghost use Rattle.glue_faults.specs.First.{first_of};
 ghost use Rattle.glue_adapters.specs.Adapters as spec;
-ghost use Rattle.glue_adapters.specs.Pairs.{is_bad_code as bad_code_test};
+ghost use Rattle.glue_adapters.specs.Pairs as pairs_spec;
 
 use crate::kind::{Kind, js_kinds, kinds_of};
 use crate::stack::is_well_stacked;
@@ -257,7 +257,7 @@ fn is_bad_code(
     id: AdapterId,
     adapter: &Adapter,
 ) -> Result<bool, AllocError>
-    ensures test { IfOk result (λ bad. bad ≡ bad_code_test lowered.now pairs.now (id, adapter.now)) }
+    ensures test { IfOk result (λ bad. bad ≡ pairs_spec.is_bad_code lowered.now pairs.now (id, adapter.now)) }
 {
     if !has_code(&adapter.kind) || pairs.has(id.0) {
         return Ok(false);
@@ -271,7 +271,7 @@ pub(crate) fn bad_code(
     lowered: &Lowered,
     pairs: &IdSet,
 ) -> Result<Option<AdapterId>, AllocError>
-    ensures bad { IfOk result (λ bad. bad ≡ option_map (λ entry. entry.0) (find (bad_code_test lowered.now pairs.now) lowered.now.wit.adapters)) }
+    ensures bad { IfOk result (λ bad. bad ≡ option_map (λ entry. entry.0) (find (pairs_spec.is_bad_code lowered.now pairs.now) lowered.now.wit.adapters)) }
 {
     for (id, adapter) in lowered.wit.adapters.iter() {
         if is_bad_code(alloc, lowered, pairs, *id, adapter)? {

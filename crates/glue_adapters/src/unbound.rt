@@ -1,6 +1,6 @@
 //! The first adapter that isn't what its place asks for, and the first import that nothing defines.
 ghost use Rattle.std.specs.Prelude.{◌≡◌, ◌&&◌, not, IfOk, map, option_map};
-ghost use Rattle.glue_faults.specs.First.{where_true as choice};
+ghost use Rattle.glue_faults.specs.First as first;
 ghost use Rattle.glue_shared.specs.Names.{has_number};
 ghost use Rattle.glue_adapters.specs.Pairs as spec;
 
@@ -170,7 +170,7 @@ fn where_unbound(
     place: usize,
     import: &Option<Import>,
 ) -> Result<Option<ImportId>, AllocError>
-    ensures place { IfOk result (λ found. option_map (λ id. id.0) found ≡ choice (spec.is_placeholder import.now && not (has_number place defined.now)) place) }
+    ensures place { IfOk result (λ found. option_map (λ id. id.0) found ≡ first.where_true (spec.is_placeholder import.now && not (has_number place defined.now)) place) }
 {
     if !is_placeholder(import) {
         return Ok(None);

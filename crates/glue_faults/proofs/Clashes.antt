@@ -7,7 +7,8 @@ use Rattle.std.specs.Cmp.{Equal-is, tied_itself}
 use Rattle.std.specs.Cmp.Lexicographic.{slice_cmp, nat_list_cmp_total}
 use Rattle.std.proofs.lemmas.Slice.Eq.{bytes_eq-Decides}
 use Rattle.std.specs.FinSet as set
-use Rattle.glue_scope.specs.Scope.{Bound, with_names}
+use Rattle.values.specs.TextSet.{TextSet, with_texts}
+pub use Rattle.glue_shared.proofs.Texts.{any_alike}
 use Rattle.glue_faults.specs.Clash.{first_clash_after, first_clash, is_told, first_told}
 
 same_truth : (a b : Bool) → (a ≡ true → b ≡ true) → (b ≡ true → a ≡ true) → a ≡ b
@@ -49,7 +50,7 @@ flip x y = same_truth (bytes_eq x y) (bytes_eq y x)
     (λ h. (bytes_eq-Decides x y).1 (sym ((bytes_eq-Decides y x).0 h)))
 
 -- the words that are told, with those of a list
-pub told_more : (told : Bound) (words : List (List ℕ)) (w : List ℕ) → set.contains (with_names told words) w ≡ (among words w || set.contains told w)
+pub told_more : (told : TextSet) (words : List (List ℕ)) (w : List ℕ) → set.contains (with_texts told words) w ≡ (among words w || set.contains told w)
 told_more told [] w = refl
 told_more told (x ∷ words) w =
     told_more (set.insert told x) words w
@@ -58,40 +59,36 @@ told_more told (x ∷ words) w =
     ∙ sym (or_assoc (bytes_eq x w) (among words w) (set.contains told w))
 
 -- some word was told by these, or by the earlier ones
-told_both : (told : Bound) (words asked : List (List ℕ))
-    → is_told (with_names told words) asked ≡ (list_any (among words) asked || is_told told asked)
+told_both : (told : TextSet) (words asked : List (List ℕ))
+    → is_told (with_texts told words) asked ≡ (list_any (among words) asked || is_told told asked)
 told_both told words [] = refl
 told_both told words (w ∷ asked) =
-    ap (λ (b : Bool). b || is_told (with_names told words) asked) (told_more told words w)
+    ap (λ (b : Bool). b || is_told (with_texts told words) asked) (told_more told words w)
     ∙ ap (λ (b : Bool). (among words w || set.contains told w) || b) (told_both told words asked)
     ∙ shuffle (among words w) (set.contains told w) (list_any (among words) asked) (is_told told asked)
 
 -- what was told is what the earlier entries tell
-abbrev pub Knows : {A : Type 0} → (A → List (List ℕ)) → Bound → List A → Type 0
+abbrev pub Knows : {A : Type 0} → (A → List (List ℕ)) → TextSet → List A → Type 0
 Knows tells told before = (asked : List (List ℕ)) → is_told told asked ≡ list_any (λ e. list_any (among (tells e)) asked) before
 
 none_told : (asked : List (List ℕ)) → is_told set.empty asked ≡ false
 none_told [] = refl
 none_told (w ∷ asked) = ap (λ (b : Bool). b || is_told set.empty asked) (set.contains-empty (slice_cmp nat_cmp) w) ∙ none_told asked
 
-pub any_alike : {A : Type 0} (p q : A → Bool) (xs : List A) → ((x : A) → p x ≡ q x) → list_any p xs ≡ list_any q xs
-any_alike p q [] h = refl
-any_alike p q (x ∷ xs) h = ap (λ (b : Bool). b || list_any p xs) (h x) ∙ ap (λ (b : Bool). q x || b) (any_alike p q xs h)
-
 -- where two entries clash exactly if the later asks for a word that the earlier tells
 abbrev pub ByWords : {A : Type 0} → (A → A → Bool) → (A → List (List ℕ)) → (A → List (List ℕ)) → Type 0
 ByWords {A} clash asks tells = (earlier later : A) → list_any (among (tells earlier)) (asks later) ≡ clash earlier later
 
 told_is_clash : {A : Type 0} (clash : A → A → Bool) (asks tells : A → List (List ℕ)) → ByWords clash asks tells
-    → (told : Bound) (before entries : List A) → Knows tells told before
+    → (told : TextSet) (before entries : List A) → Knows tells told before
     → first_told asks tells told entries ≡ first_clash_after clash before entries
 told_is_clash clash asks tells same told before [] knows = refl
 told_is_clash clash asks tells same told before (e ∷ entries) knows =
     let here = knows (asks e) ∙ any_alike (λ earlier. list_any (among (tells earlier)) (asks e)) (λ earlier. clash earlier e) before (λ earlier. same earlier e) in
-    let on : Knows tells (with_names told (tells e)) (e ∷ before) =
+    let on : Knows tells (with_texts told (tells e)) (e ∷ before) =
     λ asked. told_both told (tells e) asked ∙ ap (λ (b : Bool). list_any (among (tells e)) asked || b) (knows asked) in
-    ap (λ (b : Bool). cond b (Some e) (first_told asks tells (with_names told (tells e)) entries)) here
-    ∙ ap (λ o. cond (list_any (λ earlier. clash earlier e) before) (Some e) o) (told_is_clash clash asks tells same (with_names told (tells e)) (e ∷ before) entries on)
+    ap (λ (b : Bool). cond b (Some e) (first_told asks tells (with_texts told (tells e)) entries)) here
+    ∙ ap (λ o. cond (list_any (λ earlier. clash earlier e) before) (Some e) o) (told_is_clash clash asks tells same (with_texts told (tells e)) (e ∷ before) entries on)
 
 -- from nothing told on, the first that asks for a told word is the first that clashes with an earlier one
 pub first_told_is : {A : Type 0} (clash : A → A → Bool) (asks tells : A → List (List ℕ)) → ByWords clash asks tells

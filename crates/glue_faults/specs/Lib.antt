@@ -1,3 +1,3 @@
 pub mod Clash
 pub mod First
-pub mod Ids
+pub mod Named

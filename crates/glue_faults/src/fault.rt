@@ -1,10 +1,11 @@
 //! Why a call makes nothing.
 ghost use Rattle.std.specs.Prelude.{◌≡◌, IfOk};
 ghost use Rattle.glue_faults.specs.declared.fault.Fault.TheVariants as faults;
-ghost use Rattle.glue_faults.specs.First.{where_true as choice};
+ghost use Rattle.glue_faults.specs.First as first;
+ghost use Rattle.glue_faults.specs.Named.{fault_name};
 
 use glue_shared::AdapterId;
-use std::alloc::{AllocError, Global};
+use std::alloc::{AllocError, AllocFailed, Global};
 use thiserror::Error;
 use values::Text;
 use wasm_core::ImportId;
@@ -117,16 +118,82 @@ pub enum Fault {
     OutOfMemory,
 }
 
+impl Fault {
+    /// The name of the variant.
+    pub fn name(&self) -> &'static str
+        ensures { result.now ≡ fault_name self.now }
+    {
+        match self {
+            Fault::DebugUrlWithoutSplit => "DebugUrlWithoutSplit",
+            Fault::NoInput => "NoInput",
+            Fault::InputSpent => "InputSpent",
+            Fault::BadStem => "BadStem",
+            Fault::Parse { .. } => "Parse",
+            Fault::DefaultExport => "DefaultExport",
+            Fault::ResetStateTarget => "ResetStateTarget",
+            Fault::Lower => "Lower",
+            Fault::NotBuilt { .. } => "NotBuilt",
+            Fault::Threads => "Threads",
+            Fault::PackageJson => "PackageJson",
+            Fault::UnsupportedInstr { .. } => "UnsupportedInstr",
+            Fault::BadAdapter { .. } => "BadAdapter",
+            Fault::UnboundImport { .. } => "UnboundImport",
+            Fault::StringConstantsEmscripten => "StringConstantsEmscripten",
+            Fault::BadName { .. } => "BadName",
+            Fault::GlobalTwice { .. } => "GlobalTwice",
+            Fault::NameClash { .. } => "NameClash",
+            Fault::ModuleClash { .. } => "ModuleClash",
+            Fault::UnknownClass { .. } => "UnknownClass",
+            Fault::UnknownParent { .. } => "UnknownParent",
+            Fault::FixedMember { .. } => "FixedMember",
+            Fault::DuplicateConstructor { .. } => "DuplicateConstructor",
+            Fault::DuplicateAccessor { .. } => "DuplicateAccessor",
+            Fault::ExportClash { .. } => "ExportClash",
+            Fault::FixedExport { .. } => "FixedExport",
+            Fault::BadReexport { .. } => "BadReexport",
+            Fault::ParentLater { .. } => "ParentLater",
+            Fault::NoModulesImport { .. } => "NoModulesImport",
+            Fault::IntrinsicTarget => "IntrinsicTarget",
+            Fault::ReinitTarget => "ReinitTarget",
+            Fault::LinkNotEmbedded { .. } => "LinkNotEmbedded",
+            Fault::MissingPart { .. } => "MissingPart",
+            Fault::OutOfMemory => "OutOfMemory",
+        }
+    }
+}
+
+impl From<AllocError> for Fault {
+    ghost use Rattle.std.specs.Prelude.{◌≡◌};
+    ghost use Rattle.glue_faults.specs.declared.fault.Fault.TheVariants.{OutOfMemory};
+
+    ghost from_gives = { λ _ e. e ≡ OutOfMemory };
+
+    fn from(_: AllocError) -> Self {
+        Fault::OutOfMemory
+    }
+}
+
+impl<T: Drop> From<AllocFailed<T>> for Fault {
+    ghost use Rattle.std.specs.Prelude.{◌≡◌};
+    ghost use Rattle.glue_faults.specs.declared.fault.Fault.TheVariants.{OutOfMemory};
+
+    ghost from_gives = { λ _ e. e ≡ OutOfMemory };
+
+    fn from(_: AllocFailed<T>) -> Self {
+        Fault::OutOfMemory
+    }
+}
+
 /// The fault, where the test holds.
 pub fn where_true(test: bool, fault: Fault) -> Option<Fault>
-    ensures { result ≡ choice test fault }
+    ensures { result ≡ first.where_true test fault }
 {
     if test { Some(fault) } else { None }
 }
 
 /// That a kind of thing isn't built, where it is asked for. Want of memory is the only error.
 pub fn not_built(alloc: Global, asked: bool, what: &str) -> Result<Option<Fault>, AllocError>
-    ensures fault { IfOk result (λ fault. fault ≡ choice asked (faults.NotBuilt what.now)) }
+    ensures fault { IfOk result (λ fault. fault ≡ first.where_true asked (faults.NotBuilt what.now)) }
 {
     if !asked {
         return Ok(None);

@@ -1,15 +1,14 @@
 //! What can be wrong with a call, and the words in which conditions are stated.
 //!
-//! `Fault` is each answer that a call of the generator gives in place of files. `IdSet` is a set of numbers, seen as the list of those
-//! that were added. `specs/First.antt` and `specs/Clash.antt` have the definitions that conditions are made of: the first answer along
-//! a list, and the first entry that clashes with an earlier one. `proofs/Clashes.antt` says that such an entry is found in one pass by
-//! the words that entries tell, `proofs/After.antt` and `proofs/Apart.antt` what is known where nothing was found.
+//! `Fault` is each answer that a call of the generator gives in place of files. `specs/First.antt` and `specs/Clash.antt` have the
+//! definitions that conditions are made of: the first answer along a list, and the first entry that clashes with an earlier one.
+//! `proofs/Clashes.antt` says that such an entry is found in one pass by the words that entries tell, `proofs/After.antt` and
+//! `proofs/Apart.antt` what is known where nothing was found.
 //!
-//! Stands on `glue_scope`, `glue_shared`, `wasm_core` and `values`. It knows no condition.
+//! Stands on `glue_shared`, `wasm_core` and `values`. It knows no condition.
 #![tactic(auto)]
 
 mod fault;
-mod ids;
 
 pub use fault::{Fault, not_built, where_true};
-pub use ids::IdSet;
+pub use glue_shared::IdSet;

@@ -1,4 +1,5 @@
 mod Grown
+mod FirstEntries
 mod Owned
 pub mod Sets
 pub mod Texts

@@ -17,6 +17,11 @@ pub list_any-flat_map : {A B : Type 0} (p : B → Bool) (f : A → List B) (xs :
 list_any-flat_map p f [] = refl
 list_any-flat_map p f (x ∷ xs) = list_any-append p (f x) (flat_map f xs) ∙ ap (λ b. list_any p (f x) || b) (list_any-flat_map p f xs)
 
+-- tests that agree
+pub any_alike : {A : Type 0} (p q : A → Bool) (xs : List A) → ((x : A) → p x ≡ q x) → list_any p xs ≡ list_any q xs
+any_alike p q [] h = refl
+any_alike p q (x ∷ xs) h = ap (λ (b : Bool). b || list_any p xs) (h x) ∙ ap (λ (b : Bool). q x || b) (any_alike p q xs h)
+
 -- a text is two others in a row where it has both parts
 pub joined_bytes : (a b name : List ℕ) → length a ≤ length name → bytes_eq (a ++ b) name ≡ (bytes_eq a (take (length a) name) && bytes_eq b (drop (length a) name))
 joined_bytes [] b name h = refl

@@ -1,5 +1,8 @@
 pub mod Description
-pub mod PublicTree
+pub mod Paths
 pub mod Roots
 pub mod Names
+pub mod Ids
+pub mod Indexed
 pub mod NameMap
+pub use Rattle.values.specs.Count

@@ -3,13 +3,15 @@
 //! A description says by adapters how values pass between JavaScript and WebAssembly. Contracts see each of these
 //! types by its fields, with texts as their UTF-8 bytes and lists as lists.
 //!
-//! Stands on `wasm_core` and `glue_words`.
+//! Stands on `wasm_core` and `values`.
 #![tactic(auto)]
 
 mod adapter;
 mod aux;
 mod description;
+mod ids;
 mod import;
+mod indexed;
 mod kept;
 mod name_map;
 mod name_tests;
@@ -26,10 +28,12 @@ pub use aux::{
     AuxExportedMethodKind, AuxReceiverKind, AuxStringEnum, AuxStruct, StaticSlot, WasmBindgenAux,
 };
 pub use description::{Description, Lowered};
+pub use ids::IdSet;
 pub use import::{AuxImport, AuxValue, Intrinsic, JsImport, JsImportName};
+pub use indexed::DescribedImports;
 pub use kept::roots;
 pub use name_map::NameMap;
-pub use name_tests::{is_fixed_name, is_host_name, live_count};
+pub use name_tests::{is_fixed_name, is_host_name, js_import, live_count};
 pub use names::{EMSCRIPTEN_HOSTS, HELPER_NAMES, HOSTS, MEMORY_NAMES, TABLE_NAMES, TARGET_NAMES};
 pub use own::own_imports;
 pub use settings::{EncodeInto, Settings, Target};

@@ -75,8 +75,8 @@ fn value_import(value: &AuxValue) -> &JsImport
     }
 }
 
-// The name that an import begins with, where it begins with one.
-fn js_import(what: &AuxImport) -> Option<&JsImport>
+/// The name that an import begins with, where it begins with one.
+pub fn js_import(what: &AuxImport) -> Option<&JsImport>
     ensures { option_map (λ js. js.now) result ≡ spec.js_import what.now }
 {
     match what {

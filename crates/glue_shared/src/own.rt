@@ -1,16 +1,17 @@
 //! The imports that the glue file defines.
 ghost use Rattle.std.specs.Prelude.{◌≡◌, ◌++◌, IfOk, OnOk, map};
 ghost use Rattle.std.specs.Option.{option_copied};
-ghost use Rattle.std.specs.List.{list_all, list_any};
-ghost use Rattle.std.specs.Ordering.{nat_cmp};
-ghost use Rattle.values.specs.Map.{look_up};
+ghost use Rattle.std.specs.List.{flat_map, list_all};
+ghost use Rattle.glue_shared.specs.Indexed as indexed;
 ghost use Rattle.glue_shared.specs.Names as spec;
 
 use crate::adapter::{
     Adapter, AdapterId, AdapterJsImportKind, AdapterKind, Instruction, NonstandardWitSection,
 };
 use crate::aux::WasmBindgenAux;
+use crate::ids::IdSet;
 use crate::import::{AuxImport, AuxValue, JsImportName};
+use crate::indexed::IndexedAux;
 use crate::settings::{Settings, Target};
 use std::alloc::{AllocError, Global};
 use values::Seq;
@@ -90,23 +91,6 @@ fn is_whole_name(import: Option<&AuxImport>) -> bool
     }
 }
 
-// What the description says of an import adapter: the first entry of its id.
-fn entry_of(entries: &[(AdapterId, AuxImport)], id: AdapterId) -> Option<&AuxImport>
-    ensures found { option_copied result ≡ spec.entry_of id entries.now }
-{
-    entries
-        .iter()
-        .find(|entry| entry.0 == id)
-        .map(|entry| &entry.1)
-}
-
-// Whether the id is one of these.
-fn has_id(id: AdapterId, ids: &[AdapterId]) -> bool
-    ensures test { result ≡ spec.has_number id ids.now }
-{
-    ids.iter().any(|other| *other == id)
-}
-
 // Whether an adapter is a call of the kind `Normal`.
 fn is_normal_call(adapter: Option<&Adapter>) -> bool
     ensures test { result ≡ spec.is_normal_call (option_copied adapter.entry) }
@@ -123,7 +107,7 @@ fn is_normal_call(adapter: Option<&Adapter>) -> bool
 // Whether the adapter that is called may stand in for the import.
 fn is_direct_callee(
     wit: &NonstandardWitSection,
-    aux: &WasmBindgenAux,
+    aux: &IndexedAux<'_>,
     callee: Option<AdapterId>,
 ) -> bool
     ensures test { result ≡ spec.is_direct_callee wit.now aux.now callee }
@@ -132,8 +116,8 @@ fn is_direct_callee(
         None => false,
         Some(id) => {
             is_normal_call(wit.adapters.get(&id))
-                && !has_id(id, aux.imports_with_variadic.as_slice())
-                && is_whole_name(entry_of(aux.imports.as_slice(), id))
+                && !aux.is_variadic(id)
+                && is_whole_name(aux.import(id))
         }
     }
 }
@@ -163,38 +147,73 @@ fn is_emscripten(target: &Target) -> bool
 fn is_direct(
     settings: &Settings,
     wit: &NonstandardWitSection,
-    aux: &WasmBindgenAux,
+    aux: &IndexedAux<'_>,
     adapter: AdapterId,
 ) -> bool
     ensures test { result ≡ spec.is_direct settings.now wit.now aux.now adapter }
 {
     !is_emscripten(&settings.target)
-        && !has_id(adapter, aux.imports_with_catch.as_slice())
-        && !aux.legacy_exception_handling
+        && !aux.is_caught(adapter)
+        && !aux.is_legacy()
         && is_direct_callee(wit, aux, callee_of(wit.adapters.get(&adapter)))
 }
 
-// Whether an adapter defines the import at a place.
-fn is_implemented(wit: &NonstandardWitSection, place: ImportId) -> bool
-    ensures test { result ≡ spec.is_implemented wit.now place.0 }
+// The places of the imports that adapters define.
+fn implemented(alloc: Global, pairs: &[(ImportId, AdapterId)]) -> Result<IdSet, AllocError>
+    ensures places { IfOk result (λ places. places ≡ map (λ pair. pair.0.0) pairs.now) }
 {
-    wit.implements
-        .as_slice()
-        .iter()
-        .any(|pair| pair.0.0 == place.0)
+    let mut places = IdSet::new(alloc);
+    for pair in pairs {
+        places = places.with(pair.0.0)?;
+    }
+    Ok(places)
 }
 
-// Whether the described name itself can be the import at a place.
-fn is_handed_on(
+// These places, with that of an import whose adapter only hands on.
+fn with_handed_on(
+    settings: &Settings,
+    wit: &NonstandardWitSection,
+    aux: &IndexedAux<'_>,
+    places: IdSet,
+    pair: &(ImportId, AdapterId),
+) -> Result<IdSet, AllocError>
+    ensures places { IfOk result (λ more. more ≡ places ++ indexed.handed_place settings.now wit.now aux.now pair.now) }
+{
+    if is_direct(settings, wit, aux, pair.1) {
+        places.with(pair.0.0)
+    } else {
+        Ok(places)
+    }
+}
+
+// The places of the imports of these pairs whose adapters only hand on.
+fn handed_places(
+    alloc: Global,
+    settings: &Settings,
+    wit: &NonstandardWitSection,
+    aux: &IndexedAux<'_>,
+    pairs: &[(ImportId, AdapterId)],
+) -> Result<IdSet, AllocError>
+    ensures places { IfOk result (λ places. places ≡ flat_map (indexed.handed_place settings.now wit.now aux.now) pairs.now) }
+{
+    let mut places = IdSet::new(alloc);
+    for pair in pairs {
+        places = with_handed_on(settings, wit, aux, places, pair)?;
+    }
+    Ok(places)
+}
+
+// The places at which the described name itself can be the import.
+fn handed_on(
+    alloc: Global,
     settings: &Settings,
     wit: &NonstandardWitSection,
     aux: &WasmBindgenAux,
-    place: ImportId,
-) -> bool
-    ensures test { result ≡ spec.is_handed_on settings.now wit.now aux.now place.0 }
+) -> Result<IdSet, AllocError>
+    ensures places { IfOk result (λ places. places ≡ flat_map (indexed.handed_place settings.now wit.now aux.now) wit.now.implements) }
 {
-    wit.implements.as_slice().iter().any(|pair| pair.0.0 == place.0
-        && is_direct(settings, wit, aux, pair.1))
+    let indexed = IndexedAux::new(alloc, aux)?;
+    handed_places(alloc, settings, wit, &indexed, wit.implements.as_slice())
 }
 
 // Whether the import at a place brings in a memory.
@@ -223,17 +242,17 @@ fn is_first_memory(memories: &[Option<Memory>], place: ImportId) -> bool
 fn is_own(
     settings: &Settings,
     module: &Module,
-    wit: &NonstandardWitSection,
-    aux: &WasmBindgenAux,
+    implemented: &IdSet,
+    handed_on: &IdSet,
     place: ImportId,
     import: &Import,
 ) -> bool
-    ensures test { result ≡ spec.is_own settings.now «module».now wit.now aux.now place.0 import.now }
+    ensures test { result ≡ indexed.is_own_by settings.now «module».now implemented.now handed_on.now place.0 import.now }
 {
     let is_ours = import.module.as_str() == "__wbindgen_placeholder__"
-        || is_implemented(wit, place)
+        || implemented.has(place.0)
         || (!is_emscripten(&settings.target) && is_first_memory(module.memories(), place));
-    is_ours && !is_handed_on(settings, wit, aux, place)
+    is_ours && !handed_on.has(place.0)
 }
 
 // The id of a place. Places past the last id stand for want of memory.
@@ -251,21 +270,46 @@ fn import_id(place: usize) -> Result<ImportId, AllocError>
 fn push_own(
     settings: &Settings,
     module: &Module,
-    wit: &NonstandardWitSection,
-    aux: &WasmBindgenAux,
+    implemented: &IdSet,
+    handed_on: &IdSet,
     place: usize,
     import: &Option<Import>,
     places: &mut Seq<ImportId>,
 ) -> Result<(), AllocError>
-    ensures pushed { OnOk result (map (λ id. id.0) places.new ≡ map (λ id. id.0) places.old ++ spec.own_place (spec.is_own settings.now «module».now wit.now aux.now) place import.now) }
+    ensures pushed { OnOk result (map (λ id. id.0) places.new ≡ map (λ id. id.0) places.old ++ spec.own_place (indexed.is_own_by settings.now «module».now implemented.now handed_on.now) place import.now) }
 {
     if let Some(import) = import {
         let id = import_id(place)?;
-        if is_own(settings, module, wit, aux, id, import) {
+        if is_own(settings, module, implemented, handed_on, id, import) {
             places.push(id)?;
         }
     }
     Ok(())
+}
+
+// The places of the imports that the glue file defines, by the places that are known.
+fn own_places(
+    alloc: Global,
+    settings: &Settings,
+    module: &Module,
+    implemented: &IdSet,
+    handed_on: &IdSet,
+) -> Result<Seq<ImportId>, AllocError>
+    ensures places { IfOk result (λ places. map (λ id. id.0) places ≡ spec.own_places (indexed.is_own_by settings.now «module».now implemented.now handed_on.now) 0 «module».now.imports) }
+{
+    let mut places = Seq::new(alloc);
+    for (place, import) in module.imports().iter().enumerate() {
+        push_own(
+            settings,
+            module,
+            implemented,
+            handed_on,
+            place,
+            import,
+            &mut places,
+        )?;
+    }
+    Ok(places)
 }
 
 /// The places of the imports that the glue file defines, in order. Want of memory is the only error.
@@ -278,9 +322,8 @@ pub fn own_imports(
 ) -> Result<Seq<ImportId>, AllocError>
     ensures places { IfOk result (λ places. map (λ id. id.0) places ≡ spec.own_imports settings.now «module».now wit.now aux.now) }
 {
-    let mut places = Seq::new(alloc);
-    for (place, import) in module.imports().iter().enumerate() {
-        push_own(settings, module, wit, aux, place, import, &mut places)?;
-    }
+    let implemented = implemented(alloc, wit.implements.as_slice())?;
+    let handed_on = handed_on(alloc, settings, wit, aux)?;
+    let places = own_places(alloc, settings, module, &implemented, &handed_on)?;
     Ok(places)
 }

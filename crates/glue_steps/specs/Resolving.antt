@@ -1,12 +1,8 @@
 -- The steps of an adapter: its instructions, with what their ids name in the module and the description.
-use Rattle.std.specs.Prelude.{ℕ, ◌==◌, nat_lt, nat_le, ◌^◌, ◌&&◌, Bool, true, false, if◌then◌else◌, is_some, List, [], ◌∷◌, length, Option, Some, None, option_map, option_and_then, slice_get, find}
-use Rattle.std.specs.List.{list_all}
+use Rattle.std.specs.Prelude.{ℕ, ◌==◌, Bool, true, false, List, [], ◌∷◌, length, Option, Some, None, option_map, option_and_then, slice_get, find}
 use Rattle.std.specs.Ordering.{nat_cmp}
 use Rattle.values.specs.Map.{look_up}
 use Rattle.wasm_core.specs.types.FuncType.{FuncType}
-use Rattle.wasm_core.specs.types.ValType.{ValType}
-use Rattle.wasm_core.specs.types.ValType.TheVariants.{I32}
-use Rattle.wasm_core.specs.declared.types.Func.{Func}
 use Rattle.wasm_core.specs.entries.Export.{Export}
 use Rattle.wasm_core.specs.entries.ExportItem.{ExportItem}
 use Rattle.wasm_core.specs.entries.ExportItem.TheVariants as items
@@ -42,29 +38,13 @@ is_some_item (x ∷ xs) = true
 abbrev pub type_of : Contents → ℕ → Option FuncType
 type_of m func = option_and_then (λ f. entry_at m.types f.ty.0) (entry_at m.funcs func)
 
--- the type of a function that isn't imported
-abbrev pub own_type_of : Contents → ℕ → Option FuncType
-own_type_of m func = option_and_then (λ (f : Func). if is_some f.«import» then None else entry_at m.types f.ty.0) (entry_at m.funcs func)
+-- the call of a function of a type
+abbrev pub typed_call : List ℕ → FuncType → Step
+typed_call name ty = steps.CallExport name (length ty.params) (is_some_item ty.results)
 
-abbrev pub is_i32 : ValType → Bool
-is_i32 I32 = true
-is_i32 other = false
-
--- 32-bit integers are taken, and one or none is given
-abbrev pub is_number_type : FuncType → Bool
-is_number_type ty = (list_all is_i32 ty.params && list_all is_i32 ty.results) && nat_le (length ty.results) 1
-
--- a count that fits 32 bits
-abbrev pub small : ℕ → Option ℕ
-small n = if nat_lt n (2 ^ 32) then Some n else None
-
--- the call of a function of a type, over 32-bit integers alone
-abbrev pub typed_call : List ℕ → FuncType → Option Step
-typed_call name ty = if is_number_type ty then option_map (λ n. steps.CallExport name n (is_some_item ty.results)) (small (length ty.params)) else None
-
--- the call of an export that is a function of the module's own
+-- the call of an export that is a function
 abbrev pub call_of : Contents → List ℕ → ExportItem → Option Step
-call_of m name (items.Func func) = option_and_then (typed_call name) (own_type_of m func.0)
+call_of m name (items.Func func) = option_map (typed_call name) (type_of m func.0)
 call_of m name (items.Table table) = None
 call_of m name (items.Memory memory) = None
 call_of m name (items.Global global) = None
@@ -75,7 +55,7 @@ export_step m id = option_and_then (λ (e : Export). call_of m e.name e.item) (e
 
 -- the call of a function that the host names
 abbrev pub host_step : ℕ → Adapter → JsImportName → List (List ℕ) → Option Step
-host_step id a (names.Global name) fields = option_map (λ n. steps.CallImport id n (is_some_item a.results) name fields) (small (length a.args))
+host_step id a (names.Global name) fields = Some (steps.CallImport id (length a.args) (is_some_item a.results) name fields)
 host_step id a other fields = None
 
 abbrev pub import_step_of : ℕ → Adapter → AuxImport → Option Step

@@ -1,28 +1,17 @@
 //! The steps of an adapter: its instructions, with what their ids name in the module and the description.
-ghost use Rattle.std.specs.Prelude.{◌≡◌, Some, None, IfOk, length};
-ghost use Rattle.std.specs.List.{list_all};
+ghost use Rattle.std.specs.Prelude.{◌≡◌, Some, None, IfOk};
 ghost use Rattle.std.specs.Option.{option_copied};
 ghost use Rattle.glue_steps.specs.Resolving as spec;
 
+use crate::indexed::Indexed;
 use crate::step::Step;
 use glue_shared::{
     Adapter, AdapterId, AdapterJsImportKind, AdapterKind, AuxImport, AuxValue, Instruction,
-    JsImport, JsImportName, Lowered,
+    JsImport, JsImportName,
 };
 use std::alloc::{AllocError, Global};
 use values::{Duplicate, Seq, Text};
-use wasm_core::{Export, ExportId, ExportItem, FuncId, FuncType, Module, ValType};
-
-// The count, where it fits 32 bits.
-fn fitting(count: usize) -> Option<u32>
-    ensures fits { result ≡ spec.small count }
-{
-    if count < 4_294_967_296 {
-        Some(count as u32)
-    } else {
-        None
-    }
-}
+use wasm_core::{Export, ExportId, ExportItem, FuncId, FuncType, Module};
 
 /// The type of a function of the module, where it is there.
 pub fn function_type(module: &Module, func: FuncId) -> Option<&FuncType>
@@ -32,63 +21,25 @@ pub fn function_type(module: &Module, func: FuncId) -> Option<&FuncType>
     module.types().get(entry.ty.0 as usize)?.as_ref()
 }
 
-// The type of a function that isn't imported.
-fn own_function_type(module: &Module, func: FuncId) -> Option<&FuncType>
-    ensures found { option_copied result ≡ spec.own_type_of «module».now func.0 }
-{
-    let entry = module.funcs().get(func.0 as usize)?.as_ref()?;
-    if entry.import.is_some() {
-        None
-    } else {
-        module.types().get(entry.ty.0 as usize)?.as_ref()
-    }
-}
-
-fn is_i32(ty: ValType) -> bool
-    ensures test { result ≡ spec.is_i32 ty }
-{
-    matches!(ty, ValType::I32)
-}
-
-// Whether each of the types is a 32-bit integer.
-fn are_i32(types: &[ValType]) -> bool
-    ensures test { result ≡ list_all spec.is_i32 types.now }
-{
-    types.iter().all(|ty| is_i32(*ty))
-}
-
-/// Whether a type takes 32-bit integers, and gives one or none.
-pub fn is_number_type(ty: &FuncType) -> bool
-    ensures test { result ≡ spec.is_number_type ty.now }
-{
-    are_i32(ty.params.as_slice()) && are_i32(ty.results.as_slice()) && ty.results.len() <= 1
-}
-
-// The call of a function of a type over 32-bit integers, by the name of its export.
-fn typed_call(alloc: Global, name: &Text, ty: &FuncType) -> Result<Option<Step>, AllocError>
+// The call of a function of a type, by the name of its export.
+fn typed_call(alloc: Global, name: &Text, ty: &FuncType) -> Result<Step, AllocError>
     ensures step { IfOk result (λ step. step ≡ spec.typed_call name.now ty.now) }
 {
-    if !is_number_type(ty) {
-        return Ok(None);
-    }
-    match fitting(ty.params.len()) {
-        None => Ok(None),
-        Some(params) => Ok(Some(Step::CallExport {
-            name: name.copy(alloc)?,
-            params,
-            has_result: !ty.results.is_empty(),
-        })),
-    }
+    Ok(Step::CallExport {
+        name: name.copy(alloc)?,
+        params: ty.params.len(),
+        has_result: !ty.results.is_empty(),
+    })
 }
 
-// The call of an export, where it is a function of the module's own.
+// The call of an export, where it is a function.
 fn export_call(alloc: Global, module: &Module, export: &Export) -> Result<Option<Step>, AllocError>
     ensures step { IfOk result (λ step. step ≡ spec.call_of «module».now export.now.name export.now.item) }
 {
     match export.item {
-        ExportItem::Func(func) => match own_function_type(module, func) {
+        ExportItem::Func(func) => match function_type(module, func) {
             None => Ok(None),
-            Some(ty) => typed_call(alloc, &export.name, ty),
+            Some(ty) => Ok(Some(typed_call(alloc, &export.name, ty)?)),
         },
         _ => Ok(None),
     }
@@ -114,16 +65,13 @@ fn host_step(
     ensures step { IfOk result (λ step. step ≡ spec.host_step id adapter.now js.now.name js.now.fields) }
 {
     match &js.name {
-        JsImportName::Global { name } => match fitting(adapter.args.len()) {
-            None => Ok(None),
-            Some(params) => Ok(Some(Step::CallImport {
-                adapter: id.0,
-                params,
-                has_result: !adapter.results.is_empty(),
-                global: name.copy(alloc)?,
-                fields: js.fields.copy(alloc)?,
-            })),
-        },
+        JsImportName::Global { name } => Ok(Some(Step::CallImport {
+            adapter: id.0,
+            params: adapter.args.len(),
+            has_result: !adapter.results.is_empty(),
+            global: name.copy(alloc)?,
+            fields: js.fields.copy(alloc)?,
+        })),
         _ => Ok(None),
     }
 }
@@ -143,30 +91,17 @@ fn described_step(
     }
 }
 
-// What the description says of an import adapter.
-fn described_import(entries: &[(AdapterId, AuxImport)], id: AdapterId) -> Option<&AuxImport>
-    ensures found { option_copied result ≡ spec.described_import entries.now id }
-{
-    entries
-        .iter()
-        .find(|entry| entry.0 == id)
-        .map(|entry| &entry.1)
-}
-
 // The call of an import adapter of this kind.
 fn called_import(
     alloc: Global,
-    lowered: &Lowered,
+    indexed: &Indexed<'_>,
     id: AdapterId,
     adapter: &Adapter,
 ) -> Result<Option<Step>, AllocError>
-    ensures step { IfOk result (λ step. step ≡ spec.called_import lowered.now id adapter.now adapter.now.kind) }
+    ensures step { IfOk result (λ step. step ≡ spec.called_import indexed.now id adapter.now adapter.now.kind) }
 {
     match adapter.kind {
-        AdapterKind::Import(AdapterJsImportKind::Normal) => match described_import(
-            lowered.aux.imports.as_slice(),
-            id,
-        ) {
+        AdapterKind::Import(AdapterJsImportKind::Normal) => match indexed.described_import(id) {
             None => Ok(None),
             Some(import) => described_step(alloc, id, adapter, import),
         },
@@ -175,29 +110,33 @@ fn called_import(
 }
 
 // The call of an adapter, where it is an import adapter.
-fn import_step(alloc: Global, lowered: &Lowered, id: AdapterId) -> Result<Option<Step>, AllocError>
-    ensures step { IfOk result (λ step. step ≡ spec.import_step lowered.now id) }
+fn import_step(
+    alloc: Global,
+    indexed: &Indexed<'_>,
+    id: AdapterId,
+) -> Result<Option<Step>, AllocError>
+    ensures step { IfOk result (λ step. step ≡ spec.import_step indexed.now id) }
 {
-    match lowered.wit.adapters.get(&id) {
+    match indexed.lowered().wit.adapters.get(&id) {
         None => Ok(None),
-        Some(adapter) => called_import(alloc, lowered, id, adapter),
+        Some(adapter) => called_import(alloc, indexed, id, adapter),
     }
 }
 
 // The step that an instruction is, where it is built.
 fn step_of(
     alloc: Global,
-    lowered: &Lowered,
+    indexed: &Indexed<'_>,
     instruction: &Instruction,
 ) -> Result<Option<Step>, AllocError>
-    ensures step { IfOk result (λ step. step ≡ spec.step_of lowered.now instruction.now) }
+    ensures step { IfOk result (λ step. step ≡ spec.step_of indexed.now instruction.now) }
 {
     match instruction {
         Instruction::ArgGet(place) => Ok(Some(Step::Parameter(*place))),
         Instruction::Int32ToWasm | Instruction::WasmToInt32(false) => Ok(Some(Step::Unchanged)),
         Instruction::WasmToInt32(true) => Ok(Some(Step::ToUnsigned)),
-        Instruction::CallExport(id) => export_step(alloc, &lowered.module, *id),
-        Instruction::CallAdapter(id) => import_step(alloc, lowered, *id),
+        Instruction::CallExport(id) => export_step(alloc, &indexed.lowered().module, *id),
+        Instruction::CallAdapter(id) => import_step(alloc, indexed, *id),
         Instruction::TakeIndex => Ok(Some(Step::TakeIndex)),
         Instruction::IndexFromBorrow => Ok(Some(Step::IndexFromBorrow)),
         Instruction::UnwrapResult => Ok(Some(Step::UnwrapResult)),
@@ -208,14 +147,14 @@ fn step_of(
 // The steps of code, where each instruction is built.
 fn steps_of(
     alloc: Global,
-    lowered: &Lowered,
+    indexed: &Indexed<'_>,
     code: &[Instruction],
 ) -> Result<Option<Seq<Step>>, AllocError>
-    ensures steps { IfOk result (λ steps. steps ≡ spec.steps_of lowered.now code.now) }
+    ensures steps { IfOk result (λ steps. steps ≡ spec.steps_of indexed.now code.now) }
 {
     let mut steps = Seq::new(alloc);
     for instruction in code {
-        match step_of(alloc, lowered, instruction)? {
+        match step_of(alloc, indexed, instruction)? {
             None => return Ok(None),
             Some(step) => steps.push(step)?,
         }
@@ -226,15 +165,15 @@ fn steps_of(
 /// The steps of an adapter, where it has code and each of its instructions is built.
 pub fn adapter_steps(
     alloc: Global,
-    lowered: &Lowered,
+    indexed: &Indexed<'_>,
     id: AdapterId,
 ) -> Result<Option<Seq<Step>>, AllocError>
-    ensures steps { IfOk result (λ steps. steps ≡ spec.adapter_steps lowered.now id) }
+    ensures steps { IfOk result (λ steps. steps ≡ spec.adapter_steps indexed.now id) }
 {
-    match lowered.wit.adapters.get(&id) {
+    match indexed.lowered().wit.adapters.get(&id) {
         None => Ok(None),
         Some(adapter) => match &adapter.kind {
-            AdapterKind::Local(code) => steps_of(alloc, lowered, code.as_slice()),
+            AdapterKind::Local(code) => steps_of(alloc, indexed, code.as_slice()),
             AdapterKind::Import(_) => Ok(None),
         },
     }

@@ -13,7 +13,7 @@ pub enum Step {
         /// The export's name.
         name: Text,
         /// How many operands it takes.
-        params: u32,
+        params: usize,
         /// Whether it has a result, which is pushed.
         has_result: bool,
     },
@@ -22,7 +22,7 @@ pub enum Step {
         /// The adapter's id.
         adapter: u32,
         /// How many operands it takes.
-        params: u32,
+        params: usize,
         /// Whether it has a result, which is pushed.
         has_result: bool,
         /// The host's name.

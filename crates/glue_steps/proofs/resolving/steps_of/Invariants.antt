@@ -4,4 +4,4 @@ use Rattle.glue_steps.proofs.Resolved.{with_front}
 use Rattle.glue_steps.proofs.resolving.steps_of.Given as goal
 
 abbrev pub invariant-loop-instruction : goal.invariant-loop-instruction
-invariant-loop-instruction l = with_front l.steps (steps_of l.lowered (drop l.instruction-index l.code)) ≡ steps_of l.lowered l.code
+invariant-loop-instruction l = with_front l.steps (steps_of l.indexed (drop l.instruction-index l.code)) ≡ steps_of l.indexed l.code

@@ -17,7 +17,7 @@ pub struct IdSet {
 impl Model for IdSet {
     ghost use Rattle.std.specs.Prelude.{ℕ, List};
     ghost use Rattle.std.specs.Coded.{coded_ℕ, coded_list};
-    ghost use Rattle.glue_faults.specs.Ids.{Holds};
+    ghost use Rattle.glue_shared.specs.Ids.{Holds};
 
     ghost Value = { List ℕ };
 
