@@ -1,2 +1,7 @@
-pub mod Check
-pub mod Doubles
+pub mod Answers
+pub mod FaultKinds
+pub mod Naming
+pub mod Publishing
+pub mod Taken
+pub mod Unbuilt
+pub mod Verdict

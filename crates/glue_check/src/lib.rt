@@ -1,22 +1,26 @@
-//! Whether a description has a form that is built.
+//! The first fault of a description, and descriptions that have none.
 //!
-//! `is_built` tests a description and its module: exported and imported functions over 32-bit integers, any number of each, no two exports
-//! of one name and no two imports of one name, each import with its adapter, nothing told beside them that the printed file doesn't
-//! honour, and a module without a start function, shared memory or two exports of one name.
-//! Promised: it answers exactly what the definition of
-//! `specs/Check.antt` says, and nothing but want of memory fails. Its proofs show that an export that steps call is the module's.
+//! `check` goes through what isn't built yet and then through the conditions that a description has to meet, each of which is one
+//! definition (`specs/Unbuilt.antt`, `specs/Naming.antt`, `specs/Publishing.antt`, and those of `glue_adapters`). Promised (`fault`):
+//! it answers exactly the first of these that comes to a fault, with what it names; `unbuilt` and `verdict` in `specs/Verdict.antt` are the two lists.
+//! Where there is none it gives a `Checked`, whose type says so: a crate above draws its facts from that, by the lemmas of
+//! `proofs/Passed.antt` (no fault), `proofs/BuiltForm.antt` (all is built) and `proofs/Steps.antt` (each adapter that becomes a function
+//! has steps). Nothing but want of memory fails besides.
 //!
-//! Stands on `wasm_core`, `glue_shared`, `glue_scope`, `glue_words` and `glue_steps`.
+//! The generator calls it before it makes anything, and makes files of a `Checked` alone. The conditions on modules that clash, on
+//! classes, re-exports, targets, parts and linked texts are missing: no description that is built can meet them.
+//!
+//! Stands on `glue_adapters`, `glue_faults`, `glue_scope`, `glue_words`, `glue_shared` and `wasm_core`.
 #![tactic(auto)]
 
-mod adapters;
-mod check;
-mod exports;
-mod imports;
-mod modules;
-mod pairs;
-mod passage;
-mod plain;
-mod repeated;
+mod clash;
+mod files;
+mod naming;
+mod publishing;
+mod taken;
+mod unbuilt;
+mod verdict;
 
-pub use check::is_built;
+pub use files::FileFlags;
+pub use glue_faults::Fault;
+pub use verdict::{Checked, check};

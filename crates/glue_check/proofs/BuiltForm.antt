@@ -1,0 +1,236 @@
+-- What is known of a description of which all is built.
+use Rattle.std.proofs.Common.{◌≡◌, ℕ, List, [], ◌∷◌, Bool, true, false, not, ◌&&◌, ◌||◌, Some, None, true≢false, refl, sym, ◌∙◌, inl, inr, rules}
+use Rattle.std.specs.List.{list_any, list_all}
+use Rattle.std.specs.Option.{is_some}
+use Rattle.std.proofs.lemmas.Bool.{and_parts}
+use Rattle.std.proofs.lemmas.Slice.Eq.{bytes_eq-Decides}
+use Rattle.std.specs.Str.{bytes_eq}
+use Rattle.values.specs.Lists.{IsIn, IsAway}
+use Rattle.wasm_core.specs.declared.types.Import.{Import}
+use Rattle.glue_words.specs.Ident.{is_ident}
+use Rattle.glue_shared.specs.declared.adapter.Adapter.{Adapter}
+use Rattle.glue_shared.specs.declared.aux.AuxExport.{AuxExport}
+use Rattle.glue_shared.specs.declared.aux.AuxExportKind.{AuxExportKind}
+use Rattle.glue_shared.specs.declared.aux.AuxExportKind.TheVariants as export_kinds
+use Rattle.glue_shared.specs.declared.import.AuxImport.{AuxImport}
+use Rattle.glue_shared.specs.declared.description.Lowered.{Lowered}
+use Rattle.glue_shared.specs.declared.settings.Settings.{Settings}
+use Rattle.glue_shared.specs.declared.settings.Target.{Target}
+use Rattle.glue_shared.specs.declared.settings.Target.TheVariants as targets
+use Rattle.glue_shared.specs.Names.{is_one_of, host_names, fixed_names}
+use Rattle.glue_adapters.specs.Resolving.{is_some_item}
+use Rattle.glue_faults.proofs.First.{where_true-none, list_any-none, neither}
+use Rattle.glue_adapters.specs.Adapters.{adapter_at, code_of}
+use Rattle.glue_adapters.specs.Pairs.{is_placeholder}
+use Rattle.glue_check.specs.declared.files.FileFlags.{FileFlags}
+use Rattle.glue_check.specs.declared.verdict.Condition.TheVariants as conditions
+use Rattle.glue_check.specs.Answers.{answer}
+use Rattle.glue_check.specs.Unbuilt as spec
+use Rattle.glue_check.specs.Unbuilt.{is_unbuilt_entry, is_unbuilt_export, is_unbuilt_adapter}
+use Rattle.glue_check.specs.Verdict.{unbuilt}
+use Rattle.glue_check.proofs.Conditions.{none_unbuilt}
+
+-- ---- tests and lists
+
+nothing : {A : Type 0} (xs : List A) → is_some_item xs ≡ false → xs ≡ []
+nothing [] h = refl
+nothing (x ∷ xs) h = cc
+
+pub not_false : (b : Bool) → not b ≡ false → b ≡ true
+not_false true h = refl
+not_false false h = cc
+
+pub not_true : (b : Bool) → not b ≡ true → b ≡ false
+not_true true h = cc
+not_true false h = refl
+
+away_case : (name other : List ℕ) (names : List (List ℕ)) (b : Bool) → bytes_eq other name ≡ b → (b || is_one_of names name) ≡ false → (is_one_of names name ≡ false → IsAway name names) → IsAway name (other ∷ names)
+away_case name other names true e h rest k = absurd (true≢false h)
+away_case name other names false e h rest (inl same) = absurd (true≢false (sym ((bytes_eq-Decides other name).1 (sym same)) ∙ e))
+away_case name other names false e h rest (inr k) = rest h k
+
+-- what isn't found among names is away from them
+pub away : (name : List ℕ) (names : List (List ℕ)) → is_one_of names name ≡ false → IsAway name names
+away name [] h k = k
+away name (other ∷ names) h k = away_case name other names (bytes_eq other name) refl h (away name names) k
+
+-- ---- the target and the settings
+
+deno_is : (t : Target) → not (spec.is_deno t) ≡ false → t ≡ targets.Deno
+deno_is (targets.Bundler browser_only) h = absurd (true≢false h)
+deno_is targets.Web h = absurd (true≢false h)
+deno_is (targets.NoModules global) h = absurd (true≢false h)
+deno_is (targets.Node is_module) h = absurd (true≢false h)
+deno_is targets.Deno h = refl
+deno_is targets.Module h = absurd (true≢false h)
+deno_is targets.Emscripten h = absurd (true≢false h)
+
+-- the files are made for Deno
+pub target_built : (f : FileFlags) (s : Settings) (l : Lowered) → unbuilt f s l ≡ None → s.target ≡ targets.Deno
+unfolding answer
+target_built f s l h = deno_is s.target (where_true-none (not (spec.is_deno s.target)) _ (none_unbuilt conditions.UnbuiltTarget f s l (search rules) h))
+
+-- nothing is asked for beside the description
+pub record ArePlain (s : Settings) : Type 0 where
+  pub no_tests : s.debug ≡ false
+  pub no_types : s.typescript ≡ false
+  pub no_module : s.export_wasm ≡ false
+  pub no_reset : s.reset_state ≡ false
+
+pub settings_built : (f : FileFlags) (s : Settings) (l : Lowered) → unbuilt f s l ≡ None → ArePlain s
+unfolding answer
+settings_built f s l h =
+    let all = neither (s.debug || s.typescript) (s.export_wasm || s.reset_state) (where_true-none ((s.debug || s.typescript) || (s.export_wasm || s.reset_state)) _ (none_unbuilt conditions.UnbuiltSettings f s l (search rules) h)) in
+    let texts = neither s.debug s.typescript all.0 in
+    let published = neither s.export_wasm s.reset_state all.1 in
+    record { no_tests = texts.0; no_types = texts.1; no_module = published.0; no_reset = published.1 }
+
+-- ---- imports
+
+-- a function of the module of placeholders
+pub record IsPlaceholder (i : Import) : Type 0 where
+  pub ours : is_placeholder (Some i) ≡ true
+  pub function : spec.is_function i.kind ≡ true
+
+-- the imports of the module and of the description, and the settings on them
+pub record AreBuiltImports (s : Settings) (l : Lowered) : Type 0 where
+  pub placeholders : (i : Import) → IsIn (Some i) l.«module».imports → IsPlaceholder i
+  pub globals : (e : ℕ × AuxImport) → IsIn e l.aux.imports → is_some (spec.global_of e.1) ≡ true
+  pub functions : (e : ℕ × AuxImport) → IsIn e l.aux.imports → spec.is_special_call (adapter_at l e.0) ≡ false
+  pub none_spread : l.aux.imports_with_variadic ≡ []
+  pub kept : s.omit_imports ≡ false
+  pub joined : s.split_linked_modules ≡ false
+
+pub imports_built : (f : FileFlags) (s : Settings) (l : Lowered) → unbuilt f s l ≡ None → AreBuiltImports s l
+unfolding answer is_unbuilt_entry
+imports_built f s l h =
+    let forms = list_any spec.is_other_import l.«module».imports || list_any (is_unbuilt_entry l) l.aux.imports in
+    let lists = is_some_item l.aux.imports_with_variadic || is_some_item l.aux.static_slots in
+    let asked = s.omit_imports || s.split_linked_modules in
+    let all = neither forms (lists || asked) (where_true-none (forms || (lists || asked)) _ (none_unbuilt conditions.UnbuiltImports f s l (search rules) h)) in
+    let both = neither (list_any spec.is_other_import l.«module».imports) (list_any (is_unbuilt_entry l) l.aux.imports) all.0 in
+    let rest = neither lists asked all.1 in
+    let empty = neither (is_some_item l.aux.imports_with_variadic) (is_some_item l.aux.static_slots) rest.0 in
+    let set = neither s.omit_imports s.split_linked_modules rest.1 in
+    let form : (e : ℕ × AuxImport) → IsIn e l.aux.imports → (not (is_some (spec.global_of e.1)) ≡ false) × (spec.is_special_call (adapter_at l e.0) ≡ false) =
+    λ e i. neither (not (is_some (spec.global_of e.1))) (spec.is_special_call (adapter_at l e.0)) (list_any-none (is_unbuilt_entry l) l.aux.imports e both.1 i) in record {
+      placeholders = λ i k.
+          let p = and_parts (is_placeholder (Some i)) (spec.is_function i.kind) (not_false _ (list_any-none spec.is_other_import l.«module».imports (Some i) both.0 k)) in
+          record { ours = p.0; function = p.1 };
+      globals = λ e i. not_false (is_some (spec.global_of e.1)) (form e i).0;
+      functions = λ e i. (form e i).1;
+      none_spread = nothing l.aux.imports_with_variadic empty.0;
+      kept = set.0;
+      joined = set.1;
+    }
+
+-- ---- exports
+
+-- a function at the top level, whose name the glue file may declare as it is
+pub record IsBuiltExport (s : Settings) (l : Lowered) (e : AuxExport) : Type 0 where
+  pub top : e.namespace ≡ []
+  pub function : e.kind ≡ export_kinds.Function
+  pub ident : is_ident e.name ≡ true
+  pub no_host : IsAway e.name (host_names s l.aux)
+  pub no_fixed : IsAway e.name (fixed_names s l.«module»)
+
+-- neither a member nor a function that takes `this`
+function_is : (k : AuxExportKind) → not (spec.is_function_kind k) ≡ false → spec.takes_this k ≡ false → k ≡ export_kinds.Function
+function_is export_kinds.Function h t = refl
+function_is export_kinds.FunctionThis h t = absurd (true≢false t)
+function_is export_kinds.Constructor h t = absurd (true≢false h)
+function_is (export_kinds.Method m) h t = absurd (true≢false h)
+
+named : (s : Settings) (l : Lowered) (name : List ℕ) (b : Bool) → b ≡ true → (b && not (spec.is_free_name s l name)) ≡ false → spec.is_free_name s l name ≡ true
+named s l name true e h = not_false (spec.is_free_name s l name) h
+named s l name false e h = cc
+
+-- exports of an export's kind and name
+abbrev pub asked_exports : Settings → Lowered → Bool
+asked_exports s l = list_any (is_unbuilt_export s l) l.aux.exports
+
+-- each export is such a function
+pub exports_built : (f : FileFlags) (s : Settings) (l : Lowered) → unbuilt f s l ≡ None → (e : AuxExport) → IsIn e l.aux.exports → IsBuiltExport s l e
+unfolding answer is_unbuilt_export
+exports_built f s l h e i =
+    let others = is_some_item l.aux.enums || (is_some_item l.aux.string_enums || is_some_item l.aux.reexports) in
+    let listed = (neither (asked_exports s l) others (where_true-none (asked_exports s l || others) _ (none_unbuilt conditions.UnbuiltExports f s l (search rules) h))).0 in
+    let form = neither (is_some_item e.namespace || spec.has_text e.comments) (spec.is_function_kind e.kind && not (spec.is_free_name s l e.name)) (list_any-none (is_unbuilt_export s l) l.aux.exports e listed i) in
+    let place = neither (is_some_item e.namespace) (spec.has_text e.comments) form.0 in
+    let classes = neither (is_some_item l.aux.structs) (list_any spec.is_member l.aux.exports) (where_true-none (is_some_item l.aux.structs || list_any spec.is_member l.aux.exports) _ (none_unbuilt conditions.UnbuiltClasses f s l (search rules) h)) in
+    let alone = list_any-none spec.is_member l.aux.exports e classes.1 i in
+    let codes = list_any is_unbuilt_adapter l.wit.adapters || is_some_item l.wit.exports in
+    let kept = is_some_item l.aux.imports_with_catch || list_any spec.is_special_export l.aux.exports in
+    let passed = neither codes kept (where_true-none (codes || kept) _ (none_unbuilt conditions.UnbuiltInstructions f s l (search rules) h)) in
+    let special = list_any-none spec.is_special_export l.aux.exports e (neither (is_some_item l.aux.imports_with_catch) (list_any spec.is_special_export l.aux.exports) passed.1).1 i in
+    let this = (neither (spec.takes_this e.kind) (e.variadic || e.jsdoc) special).0 in
+    let free = named s l e.name (spec.is_function_kind e.kind) (not_false (spec.is_function_kind e.kind) alone) form.1 in
+    let hosted = is_one_of (host_names s l.aux) e.name in
+    let fixed = is_one_of (fixed_names s l.«module») e.name in
+    let parts = and_parts (is_ident e.name) (not hosted && not fixed) free in
+    let apart = and_parts (not hosted) (not fixed) parts.1 in record {
+      top = nothing e.namespace place.0;
+      function = function_is e.kind alone this;
+      ident = parts.0;
+      no_host = away e.name (host_names s l.aux) (not_true hosted apart.0);
+      no_fixed = away e.name (fixed_names s l.«module») (not_true fixed apart.1);
+    }
+
+-- nothing but functions is described
+pub record AreOnlyFunctions (l : Lowered) : Type 0 where
+  pub structs : l.aux.structs ≡ []
+  pub enums : l.aux.enums ≡ []
+  pub string_enums : l.aux.string_enums ≡ []
+  pub reexports : l.aux.reexports ≡ []
+  pub callbacks : l.wit.exports ≡ []
+  pub caught : l.aux.imports_with_catch ≡ []
+
+pub only_functions : (f : FileFlags) (s : Settings) (l : Lowered) → unbuilt f s l ≡ None → AreOnlyFunctions l
+unfolding answer
+only_functions f s l h =
+    let others = is_some_item l.aux.enums || (is_some_item l.aux.string_enums || is_some_item l.aux.reexports) in
+    let listed = (neither (asked_exports s l) others (where_true-none (asked_exports s l || others) _ (none_unbuilt conditions.UnbuiltExports f s l (search rules) h))).1 in
+    let more = neither (is_some_item l.aux.enums) (is_some_item l.aux.string_enums || is_some_item l.aux.reexports) listed in
+    let last = neither (is_some_item l.aux.string_enums) (is_some_item l.aux.reexports) more.1 in
+    let classes = neither (is_some_item l.aux.structs) (list_any spec.is_member l.aux.exports) (where_true-none (is_some_item l.aux.structs || list_any spec.is_member l.aux.exports) _ (none_unbuilt conditions.UnbuiltClasses f s l (search rules) h)) in
+    let codes = list_any is_unbuilt_adapter l.wit.adapters || is_some_item l.wit.exports in
+    let kept = is_some_item l.aux.imports_with_catch || list_any spec.is_special_export l.aux.exports in
+    let passed = neither codes kept (where_true-none (codes || kept) _ (none_unbuilt conditions.UnbuiltInstructions f s l (search rules) h)) in record {
+      structs = nothing l.aux.structs classes.0;
+      enums = nothing l.aux.enums more.0;
+      string_enums = nothing l.aux.string_enums last.0;
+      reexports = nothing l.aux.reexports last.1;
+      callbacks = nothing l.wit.exports (neither (list_any is_unbuilt_adapter l.wit.adapters) (is_some_item l.wit.exports) passed.0).1;
+      caught = nothing l.aux.imports_with_catch (neither (is_some_item l.aux.imports_with_catch) (list_any spec.is_special_export l.aux.exports) passed.1).0;
+    }
+
+-- ---- adapters
+
+-- an adapter of 32-bit integers, each instruction of which is built
+pub adapters_built : (f : FileFlags) (s : Settings) (l : Lowered) → unbuilt f s l ≡ None → (e : ℕ × Adapter) → IsIn e l.wit.adapters → list_any spec.is_unbuilt_instruction (code_of e.1.kind) ≡ false
+unfolding answer is_unbuilt_adapter
+adapters_built f s l h e i =
+    let codes = list_any is_unbuilt_adapter l.wit.adapters || is_some_item l.wit.exports in
+    let kept = is_some_item l.aux.imports_with_catch || list_any spec.is_special_export l.aux.exports in
+    let passed = neither codes kept (where_true-none (codes || kept) _ (none_unbuilt conditions.UnbuiltInstructions f s l (search rules) h)) in
+    let each = list_any-none is_unbuilt_adapter l.wit.adapters e (neither (list_any is_unbuilt_adapter l.wit.adapters) (is_some_item l.wit.exports) passed.0).0 i in
+    (neither (not (list_all spec.is_number e.1.args && list_all spec.is_number e.1.results)) (list_any spec.is_unbuilt_instruction (code_of e.1.kind)) each).1
+
+-- ---- files
+
+-- no file beside the glue file and the module is asked for, and no function is to be named anew
+pub record AreBuiltFiles (f : FileFlags) (l : Lowered) : Type 0 where
+  pub whole : f.split_debug_info ≡ false
+  pub snippets : l.aux.snippets ≡ []
+  pub modules : l.aux.local_modules ≡ []
+  pub names : (f.demangle && list_any spec.is_mangled_func l.«module».funcs) ≡ false
+
+pub files_built : (f : FileFlags) (s : Settings) (l : Lowered) → unbuilt f s l ≡ None → AreBuiltFiles f l
+unfolding answer
+files_built f s l h =
+    let described = is_some_item l.aux.snippets || is_some_item l.aux.local_modules in
+    let mangled = f.demangle && list_any spec.is_mangled_func l.«module».funcs in
+    let all = neither (f.split_debug_info || described) mangled (where_true-none ((f.split_debug_info || described) || mangled) _ (none_unbuilt conditions.UnbuiltFiles f s l (search rules) h)) in
+    let files = neither f.split_debug_info described all.0 in
+    let empty = neither (is_some_item l.aux.snippets) (is_some_item l.aux.local_modules) files.1 in
+    record { whole = files.0; snippets = nothing l.aux.snippets empty.0; modules = nothing l.aux.local_modules empty.1; names = all.1 }

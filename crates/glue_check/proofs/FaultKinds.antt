@@ -1,0 +1,76 @@
+-- What the check answers is a fault of a description.
+use Rattle.std.proofs.Common.{◌≡◌, List, [], ◌∷◌, Bool, true, false, Option, Some, None, refl, subst}
+use Rattle.std.specs.Prelude.{option_map}
+use Rattle.std.specs.Option.{option_or}
+use Rattle.wasm_core.specs.Contents.{Contents}
+use Rattle.glue_shared.specs.declared.description.Lowered.{Lowered}
+use Rattle.glue_shared.specs.declared.settings.Settings.{Settings}
+use Rattle.glue_faults.specs.declared.fault.Fault.{Fault}
+use Rattle.glue_faults.specs.First.{first_of, first_some, where_true}
+use Rattle.glue_check.specs.declared.files.FileFlags.{FileFlags}
+use Rattle.glue_check.specs.FaultKinds.{is_of_check}
+use Rattle.glue_adapters.specs.Adapters.{unsupported, unsupported_in}
+use Rattle.glue_adapters.specs.Pairs.{bad_adapter, unbound_import}
+use Rattle.glue_check.specs.Naming.{bad_name, global_twice, import_clash, wasm_clash, start_clash, name_clash}
+use Rattle.glue_check.specs.Publishing.{export_clash, fixed_export}
+use Rattle.glue_check.specs.Unbuilt.{unbuilt_target, unbuilt_imports, unbuilt_exports, unbuilt_instructions, unbuilt_classes, unbuilt_settings, unbuilt_lifecycle, unbuilt_files}
+use Rattle.glue_check.specs.Verdict.{threads, package_json, unbuilt, verdict}
+
+-- no answer, or a fault of a description
+abbrev IsOfCheck : Option Fault → Type 0
+IsOfCheck None = Unit {0}
+IsOfCheck (Some f) = is_of_check f ≡ true
+
+abbrev AreOfCheck : List (Option Fault) → Type 0
+AreOfCheck [] = Unit {0}
+AreOfCheck (answer ∷ answers) = IsOfCheck answer × AreOfCheck answers
+
+where_true-kind : (test : Bool) (f : Fault) → is_of_check f ≡ true → IsOfCheck (where_true test f)
+where_true-kind true f h = h
+where_true-kind false f h = tt
+
+option_map-kind : {A : Type 0} (f : A → Fault) (o : Option A) → ((x : A) → is_of_check (f x) ≡ true) → IsOfCheck (option_map f o)
+option_map-kind f None h = tt
+option_map-kind f (Some x) h = h x
+
+or_kind : (o later : Option Fault) → IsOfCheck o → IsOfCheck later → IsOfCheck (option_or o later)
+or_kind None later h k = k
+or_kind (Some f) later h k = h
+
+first_of-kind : {A : Type 0} (f : A → Option Fault) (xs : List A) → ((x : A) → IsOfCheck (f x)) → IsOfCheck (first_of f xs)
+first_of-kind f [] h = tt
+first_of-kind f (x ∷ xs) h = or_kind (f x) (first_of f xs) (h x) (first_of-kind f xs h)
+
+first_some-kind : (answers : List (Option Fault)) → AreOfCheck answers → IsOfCheck (first_some answers)
+first_some-kind [] h = tt
+first_some-kind (answer ∷ answers) h = or_kind answer (first_some answers) h.0 (first_some-kind answers h.1)
+
+infixr 5 ◌▸◌
+◌▸◌ : {P Q : Type 0} → P → Q → P × Q
+first ▸ rest = (first, rest)
+
+unbuilt_kind : (files : FileFlags) (s : Settings) (l : Lowered) → IsOfCheck (unbuilt files s l)
+unfolding unbuilt
+unbuilt_kind files s l = first_some-kind
+    (unbuilt_target s ∷ unbuilt_imports s l ∷ unbuilt_exports s l ∷ unbuilt_instructions l ∷ unbuilt_classes l ∷ unbuilt_settings s ∷ unbuilt_lifecycle l ∷ unbuilt_files files l ∷ [])
+    (where_true-kind _ _ refl ▸ where_true-kind _ _ refl ▸ where_true-kind _ _ refl ▸ where_true-kind _ _ refl
+    ▸ where_true-kind _ _ refl ▸ where_true-kind _ _ refl ▸ where_true-kind _ _ refl ▸ where_true-kind _ _ refl ▸ tt)
+
+clash_kind : (m : Contents) → IsOfCheck (name_clash m)
+unfolding name_clash
+clash_kind m = first_some-kind (import_clash m.imports ∷ wasm_clash m.exports ∷ start_clash m ∷ [])
+    (option_map-kind _ _ (λ i. refl) ▸ option_map-kind _ _ (λ e. refl) ▸ where_true-kind _ _ refl ▸ tt)
+
+verdict_kind : (s : Settings) (l : Lowered) → IsOfCheck (verdict s l)
+unfolding verdict
+verdict_kind s l =
+    let m = l.«module» in
+    first_some-kind
+    (threads m ∷ package_json l.aux ∷ unsupported l.wit ∷ bad_adapter l ∷ unbound_import l ∷ bad_name m l.aux ∷ global_twice s m l.aux ∷ name_clash m ∷ export_clash l.aux ∷ fixed_export s m l.aux ∷ [])
+    (where_true-kind _ _ refl ▸ where_true-kind _ _ refl ▸ first_of-kind unsupported_in l.wit.adapters (λ entry. option_map-kind _ _ (λ name. refl))
+    ▸ option_map-kind _ _ (λ id. refl) ▸ option_map-kind _ _ (λ place. refl) ▸ option_map-kind _ _ (λ name. refl) ▸ option_map-kind _ _ (λ name. refl)
+    ▸ clash_kind m ▸ option_map-kind _ _ (λ e. refl) ▸ option_map-kind _ _ (λ e. refl) ▸ tt)
+
+-- the first fault of a description is one
+pub first_kind : (files : FileFlags) (s : Settings) (l : Lowered) (f : Fault) → first_some (unbuilt files s l ∷ verdict s l ∷ []) ≡ Some f → is_of_check f ≡ true
+first_kind files s l f h = subst IsOfCheck h (first_some-kind (unbuilt files s l ∷ verdict s l ∷ []) (unbuilt_kind files s l ▸ verdict_kind s l ▸ tt))

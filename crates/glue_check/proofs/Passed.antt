@@ -1,0 +1,287 @@
+-- What is known of a description that has no fault: one lemma a condition, in the words of its users.
+use Rattle.std.proofs.Common.{◌≡◌, ℕ, zero, suc, ◌+◌, ◌==◌, List, [], ◌∷◌, map, length, arith, Bool, true, false, not, ◌&&◌, ◌||◌, cond, Option, Some, None, true≢false, refl, sym, ap, ◌∙◌, inl, inr, rules}
+use Rattle.std.specs.Prelude.{option_and_then}
+use Rattle.std.specs.List.{list_any, filter_map, find}
+use Rattle.std.specs.Ordering.{nat_cmp}
+use Rattle.std.specs.BTreeMap.{is_at}
+use Rattle.std.specs.Cmp.{Equal-is}
+use Rattle.std.proofs.lemmas.Bool.{and_parts, eqb-true, false≢true}
+use Rattle.std.proofs.lemmas.Map.Lookups.{exact_unsigned}
+use Rattle.std.proofs.lemmas.Slice.Eq.{bytes_eq-Decides}
+use Rattle.values.specs.Lists.{IsIn, IsAway, AreDistinct}
+use Rattle.values.specs.Map.{look_up}
+use Rattle.wasm_core.specs.ids.ImportId.{ImportId}
+use Rattle.wasm_core.specs.types.FuncType.{FuncType}
+use Rattle.wasm_core.specs.declared.types.Import.{Import}
+use Rattle.wasm_core.specs.entries.Export.{Export}
+use Rattle.glue_words.specs.Ident.{is_ident}
+use Rattle.glue_shared.specs.declared.adapter.Adapter.{Adapter}
+use Rattle.glue_shared.specs.declared.aux.AuxExport.{AuxExport}
+use Rattle.glue_shared.specs.declared.import.AuxImport.{AuxImport}
+use Rattle.glue_shared.specs.declared.description.Lowered.{Lowered}
+use Rattle.glue_shared.specs.declared.settings.Settings.{Settings}
+use Rattle.glue_shared.specs.Names.{is_one_of, has_number, fixed_names}
+use Rattle.glue_adapters.specs.Resolving.{entry_at}
+use Rattle.glue_faults.specs.declared.fault.Fault.TheVariants as faults
+use Rattle.glue_faults.specs.First.{first_of, first_after, where_true}
+use Rattle.glue_faults.specs.Clash.{first_clash, AreCompatible}
+use Rattle.glue_faults.proofs.First.{first_of-none, some-none, where_true-none, option_map-none, find-none, neither}
+use Rattle.glue_faults.proofs.After.{after-none, new_numbers}
+use Rattle.glue_faults.proofs.Apart.{compatible}
+use Rattle.glue_adapters.specs.Adapters as adapters
+use Rattle.glue_adapters.specs.Adapters.{adapter_at, code_of, has_code, fits_outward, fits_inward}
+use Rattle.glue_adapters.specs.Pairs as pairs
+use Rattle.glue_adapters.specs.Pairs.{is_bad_code, is_bad_pair, is_bad_export, bad_id, bad_local, bad_paired, bad_called, bad_exported, bad_described, bad_listed, fits_export, fits_pair}
+use Rattle.glue_check.specs.declared.verdict.Condition.TheVariants as conditions
+use Rattle.glue_check.specs.Answers.{answer}
+use Rattle.glue_adapters.specs.Exported.{export_name, export_names}
+use Rattle.glue_check.specs.Naming as naming
+use Rattle.glue_check.specs.Naming.{bad_text, name_clash}
+use Rattle.glue_check.specs.Publishing as publishing
+use Rattle.glue_check.specs.Unbuilt.{global_of}
+use Rattle.glue_check.specs.Verdict.{verdict, is_shared}
+use Rattle.glue_check.proofs.Conditions.{none_of}
+use Rattle.glue_check.proofs.BuiltForm.{away, not_false}
+
+-- no memory is shared
+pub no_threads : (s : Settings) (l : Lowered) → verdict s l ≡ None → list_any is_shared l.«module».memories ≡ false
+unfolding answer
+no_threads s l h = where_true-none (list_any is_shared l.«module».memories) faults.Threads (none_of conditions.Threads s l (search rules) h)
+
+-- each instruction of an adapter is one that something carries out
+pub carried_out : (s : Settings) (l : Lowered) → verdict s l ≡ None → (e : ℕ × Adapter) → IsIn e l.wit.adapters → first_of adapters.unsupported_name (code_of e.1.kind) ≡ None
+unfolding answer
+carried_out s l h e i = option_map-none (λ name. faults.UnsupportedInstr e.0 name) (first_of adapters.unsupported_name (code_of e.1.kind)) (first_of-none adapters.unsupported_in l.wit.adapters e (none_of conditions.UnsupportedInstr s l (search rules) h) i)
+
+-- ---- adapters
+
+-- what is looked up is an entry
+pub looked_up : (entries : List (ℕ × Adapter)) (id : ℕ) (a : Adapter) → look_up nat_cmp entries id ≡ Some a → IsIn (id, a) entries
+looked_up [] id a h = cc
+looked_up (e ∷ entries) id a h = here (is_at (nat_cmp id) e.0) refl h (looked_up entries id a)
+  where
+    here : (b : Bool) → is_at (nat_cmp id) e.0 ≡ b → cond b (Some e.1) (look_up nat_cmp entries id) ≡ Some a
+        → (look_up nat_cmp entries id ≡ Some a → IsIn (id, a) entries) → IsIn (id, a) (e ∷ entries)
+    here true q h later = let key : id ≡ e.0 = exact_unsigned id e.0 ((Equal-is (nat_cmp id e.0)).0 q) in let same : e.1 ≡ a = cc in inl (ap (λ (k : ℕ). (k, a)) key ∙ ap (λ (x : Adapter). (e.0, x)) (sym same))
+    here false q h later = inr (later h)
+
+-- what is known of the adapters of a description without a fault
+pub record AreFit (l : Lowered) : Type 0 where
+  pub coded : (e : ℕ × Adapter) → IsIn e l.wit.adapters → is_bad_code l (pairs.paired l) e ≡ false
+  pub paired : first_after (is_bad_pair l (pairs.described l)) [] l.wit.implements ≡ None
+  pub exported : first_after (is_bad_export l (pairs.paired l) (pairs.called_back l)) [] l.aux.exports ≡ None
+  pub entries : (e : ℕ × AuxImport) → IsIn e l.aux.imports → pairs.is_bad_entry l e ≡ false
+
+pub fit_adapters : (s : Settings) (l : Lowered) → verdict s l ≡ None → AreFit l
+unfolding answer bad_id bad_local bad_paired bad_exported bad_described
+fit_adapters s l h =
+    let none = option_map-none faults.BadAdapter (bad_id l) (none_of conditions.BadAdapter s l (search rules) h) in
+    let answers = bad_local l ∷ bad_paired l ∷ bad_called l ∷ bad_exported l ∷ bad_described l ∷ bad_listed l ∷ [] in
+    let code = find (is_bad_code l (pairs.paired l)) l.wit.adapters in
+    let pair = first_after (is_bad_pair l (pairs.described l)) [] l.wit.implements in
+    let export = first_after (is_bad_export l (pairs.paired l) (pairs.called_back l)) [] l.aux.exports in
+    let entry = find (pairs.is_bad_entry l) l.aux.imports in record {
+      coded = λ e i. find-none (is_bad_code l (pairs.paired l)) l.wit.adapters e (option_map-none (λ (e : ℕ × Adapter). e.0) code (some-none answers (bad_local l) none (inl refl))) i;
+      paired = option_map-none (λ (p : ImportId × ℕ). p.1) pair (some-none answers (bad_paired l) none (inr (inl refl)));
+      exported = option_map-none (λ (e : AuxExport). e.adapter) export (some-none answers (bad_exported l) none (inr (inr (inr (inl refl)))));
+      entries = λ e i. find-none (pairs.is_bad_entry l) l.aux.imports e (option_map-none (λ (e : ℕ × AuxImport). e.0) entry (some-none answers (bad_described l) none (inr (inr (inr (inr (inl refl))))))) i;
+    }
+
+-- ---- exports
+
+-- an export with its adapter: it has code, passes JavaScript values to an export of the module, and is what it is described as
+pub record IsFitExport (l : Lowered) (e : AuxExport) : Type 0 where
+  pub adapter : Adapter
+  pub there : adapter_at l e.adapter ≡ Some adapter
+  pub coded : has_code adapter.kind ≡ true
+  pub passes : fits_outward l adapter ≡ true
+  pub names : pairs.names_fit e.args (length adapter.args) ≡ true
+  pub fits : pairs.fits_kind e.kind e adapter ≡ true
+
+fit_export : (l : Lowered) (e : AuxExport) (o : Option Adapter) → adapter_at l e.adapter ≡ o → pairs.fits_described e o ≡ true → has_number e.adapter (pairs.paired l) ≡ false → AreFit l → IsFitExport l e
+unfolding is_bad_code
+fit_export l e None q h u f = absurd (true≢false (sym h))
+fit_export l e (Some a) q h u f =
+    let p = and_parts (has_code a.kind) (pairs.names_fit e.args (length a.args) && pairs.fits_kind e.kind e a) h in
+    let rest = and_parts (pairs.names_fit e.args (length a.args)) (pairs.fits_kind e.kind e a) p.1 in
+    let good = f.coded (e.adapter, a) (looked_up l.wit.adapters e.adapter a q) in record {
+      adapter = a;
+      there = q;
+      coded = p.0;
+      passes = passing (has_code a.kind) (has_number e.adapter (pairs.paired l)) (fits_outward l a) p.0 u good;
+      names = rest.0;
+      fits = rest.1;
+    }
+  where
+    passing : (c n f : Bool) → c ≡ true → n ≡ false → (c && (not n && not f)) ≡ false → f ≡ true
+    passing true false true a b h = refl
+    passing true false false a b h = cc
+    passing true true f a b h = cc
+    passing false n f a b h = cc
+
+-- each export's adapter is fit for it
+pub exports_fit : (s : Settings) (l : Lowered) → verdict s l ≡ None → (e : AuxExport) → IsIn e l.aux.exports → IsFitExport l e
+unfolding fits_export is_bad_export
+exports_fit s l h e i =
+    let f = fit_adapters s l h in
+    let r = after-none (is_bad_export l (pairs.paired l) (pairs.called_back l)) [] l.aux.exports e f.exported i in
+    let told = map (λ (other : AuxExport). other.adapter) r.0 in
+    let others = has_number e.adapter (pairs.paired l) || has_number e.adapter (pairs.called_back l) in
+    let p = neither (has_number e.adapter told || others) (not (fits_export l e)) r.1 in
+    let away = neither (has_number e.adapter (pairs.paired l)) (has_number e.adapter (pairs.called_back l)) (neither (has_number e.adapter told) others p.0).1 in
+    fit_export l e (adapter_at l e.adapter) refl (not_false (fits_export l e) p.1) away.0 f
+
+-- no two exports have one adapter
+pub distinct_adapters : (s : Settings) (l : Lowered) → verdict s l ≡ None → AreDistinct (map (λ (e : AuxExport). e.adapter) l.aux.exports)
+unfolding is_bad_export
+distinct_adapters s l h =
+    let told : (before : List AuxExport) (e : AuxExport) → is_bad_export l (pairs.paired l) (pairs.called_back l) before e ≡ false → has_number e.adapter (map (λ (e : AuxExport). e.adapter) before) ≡ false =
+    λ before e k.
+    let others = has_number e.adapter (pairs.paired l) || has_number e.adapter (pairs.called_back l) in
+    let ids = has_number e.adapter (map (λ (e : AuxExport). e.adapter) before) in
+    (neither ids others (neither (ids || others) (not (fits_export l e)) k).0).0 in
+    (new_numbers (is_bad_export l (pairs.paired l) (pairs.called_back l)) (λ (e : AuxExport). e.adapter) told [] l.aux.exports (fit_adapters s l h).exported).distinct
+
+-- ---- imports
+
+-- an import with its adapter, which passes the values of the import's type to what is described
+pub record IsFitPair (l : Lowered) (pair : ImportId × ℕ) : Type 0 where
+  pub «import» : Import
+  pub stands : entry_at l.«module».imports pair.0.0 ≡ Some «import»
+  pub ty : FuncType
+  pub typed : pairs.import_type l.«module» «import».kind ≡ Some ty
+  pub adapter : Adapter
+  pub there : adapter_at l pair.1 ≡ Some adapter
+  pub passes : fits_inward l (pairs.described l) adapter ty ≡ true
+
+fit_pair : (l : Lowered) (pair : ImportId × ℕ) (i : Option Import) (t : Option FuncType) (a : Option Adapter)
+    → entry_at l.«module».imports pair.0.0 ≡ i → option_and_then (λ (i : Import). pairs.import_type l.«module» i.kind) i ≡ t → adapter_at l pair.1 ≡ a
+    → pairs.fits_type l (pairs.described l) t a ≡ true → IsFitPair l pair
+fit_pair l pair (Some i) (Some t) (Some a) p q r h = record { «import» = i; stands = p; ty = t; typed = q; adapter = a; there = r; passes = h }
+fit_pair l pair (Some i) (Some t) None p q r h = absurd (true≢false (sym h))
+fit_pair l pair (Some i) None a p q r h = absurd (true≢false (sym h))
+fit_pair l pair None None a p q r h = absurd (true≢false (sym h))
+fit_pair l pair None (Some t) a p q r h = cc
+
+-- each pair's adapter is fit for its import
+pub pairs_fit : (s : Settings) (l : Lowered) → verdict s l ≡ None → (pair : ImportId × ℕ) → IsIn pair l.wit.implements → IsFitPair l pair
+unfolding fits_pair is_bad_pair
+pairs_fit s l h pair i =
+    let r = after-none (is_bad_pair l (pairs.described l)) [] l.wit.implements pair (fit_adapters s l h).paired i in
+    let twice = has_number pair.0.0 (map (λ (p : ImportId × ℕ). p.0.0) r.0) || has_number pair.1 (map (λ (p : ImportId × ℕ). p.1) r.0) in
+    let fits = not_false (fits_pair l (pairs.described l) pair) (neither twice (not (fits_pair l (pairs.described l) pair)) r.1).1 in
+    fit_pair l pair (entry_at l.«module».imports pair.0.0) (pairs.imported_type l.«module» pair.0.0) (adapter_at l pair.1) refl refl refl fits
+
+-- no import stands in two pairs
+pub distinct_places : (s : Settings) (l : Lowered) → verdict s l ≡ None → AreDistinct (pairs.implemented l.wit)
+unfolding is_bad_pair
+distinct_places s l h =
+    let place : ImportId × ℕ → ℕ = λ pair. pair.0.0 in
+    let told : (before : List (ImportId × ℕ)) (pair : ImportId × ℕ) → is_bad_pair l (pairs.described l) before pair ≡ false → has_number pair.0.0 (map place before) ≡ false =
+    λ before pair k.
+    let places = has_number pair.0.0 (map place before) in
+    let ids = has_number pair.1 (map (λ (p : ImportId × ℕ). p.1) before) in
+    (neither places ids (neither (places || ids) (not (fits_pair l (pairs.described l) pair)) k).0).0 in
+    (new_numbers (is_bad_pair l (pairs.described l)) place told [] l.wit.implements (fit_adapters s l h).paired).distinct
+
+-- a number that is found is one of them
+number_in : (n : ℕ) (ns : List ℕ) → has_number n ns ≡ true → IsIn n ns
+number_in n [] h = absurd (true≢false (sym h))
+number_in n (k ∷ ns) h = here (k == n) refl h (number_in n ns)
+  where
+    here : (b : Bool) → (k == n) ≡ b → (b || has_number n ns) ≡ true → (has_number n ns ≡ true → IsIn n ns) → IsIn n (k ∷ ns)
+    here true q h later = inl (sym (eqb-true k n q))
+    here false q h later = inr (later h)
+
+bound_from : (defined : List ℕ) (from k : ℕ) (is : List (Option Import)) (i : Import) → pairs.unbound_from defined from is ≡ None → entry_at is k ≡ Some i → pairs.is_placeholder (Some i) ≡ true
+    → has_number (from + k) defined ≡ true
+bound_from defined from k [] i h e p = cc
+bound_from defined from zero (x ∷ is) i h e p =
+    let same : x ≡ Some i = e in
+    let here : from + 0 ≡ from = omega arith in
+    ap (λ n. has_number n defined) here ∙ bound (pairs.is_placeholder x) (has_number from defined) (pairs.unbound_from defined (from + 1) is) (ap pairs.is_placeholder same ∙ p) h
+  where
+    bound : (b d : Bool) (rest : Option ℕ) → b ≡ true → cond (b && not d) (Some from) rest ≡ None → d ≡ true
+    bound true true rest e h = refl
+    bound true false rest e h = cc
+    bound false d rest e h = cc
+bound_from defined from (suc k) (x ∷ is) i h e p =
+    let later : from + 1 + k ≡ from + suc k = omega arith in
+    ap (λ n. has_number n defined) (sym later) ∙ bound_from defined (from + 1) k is i (skipped (pairs.is_placeholder x && not (has_number from defined)) (pairs.unbound_from defined (from + 1) is) h) e p
+  where
+    skipped : (b : Bool) (rest : Option ℕ) → cond b (Some from) rest ≡ None → rest ≡ None
+    skipped true rest h = cc
+    skipped false rest h = h
+
+-- an adapter stands for each import that the glue file is to define
+pub imports_bound : (s : Settings) (l : Lowered) → verdict s l ≡ None → (k : ℕ) (i : Import) → entry_at l.«module».imports k ≡ Some i → pairs.is_placeholder (Some i) ≡ true → IsIn k (pairs.implemented l.wit)
+unfolding answer
+imports_bound s l h k i e p =
+    let here : 0 + k ≡ k = omega arith in
+    let none = option_map-none _ (pairs.unbound_from (pairs.implemented l.wit) 0 l.«module».imports) (none_of conditions.UnboundImport s l (search rules) h) in
+    number_in k (pairs.implemented l.wit) (sym (ap (λ n. has_number n (pairs.implemented l.wit)) here) ∙ bound_from (pairs.implemented l.wit) 0 k l.«module».imports i none e p)
+
+-- ---- names
+
+no_texts : (s : Settings) (l : Lowered) → verdict s l ≡ None → bad_text l.«module» l.aux ≡ None
+unfolding answer
+no_texts s l h = option_map-none faults.BadName (bad_text l.«module» l.aux) (none_of conditions.BadName s l (search rules) h)
+
+chosen-none : (name : List ℕ) (o : Option (List ℕ)) (f : List ℕ → Option (List ℕ)) → o ≡ Some name → option_and_then f o ≡ None → f name ≡ None
+chosen-none name None f e h = cc
+chosen-none name (Some other) f e h = let same : name ≡ other = cc in ap f same ∙ h
+
+-- the global of an import is an identifier
+pub global_ident : (s : Settings) (l : Lowered) → verdict s l ≡ None → (e : ℕ × AuxImport) → IsIn e l.aux.imports → (name : List ℕ) → global_of e.1 ≡ Some name → is_ident name ≡ true
+unfolding bad_text
+global_ident s l h e i name g =
+    let none = some-none (first_of naming.bad_segment l.aux.exports ∷ first_of naming.bad_global l.aux.imports ∷ first_of naming.bad_import l.«module».imports ∷ []) (first_of naming.bad_global l.aux.imports) (no_texts s l h) (inr (inl refl)) in
+    let here = chosen-none name (global_of e.1) (λ n. where_true (not (is_ident n)) n) g (first_of-none naming.bad_global l.aux.imports e none i) in
+    not_false (is_ident name) (where_true-none (not (is_ident name)) name here)
+
+-- and none that the glue file binds
+pub global_apart : (s : Settings) (l : Lowered) → verdict s l ≡ None → (e : ℕ × AuxImport) → IsIn e l.aux.imports → (name : List ℕ) → global_of e.1 ≡ Some name → IsAway name (fixed_names s l.«module»)
+unfolding answer
+global_apart s l h e i name g =
+    let taken = fixed_names s l.«module» in
+    let none = option_map-none faults.GlobalTwice (first_of (naming.taken_global taken) l.aux.imports) (none_of conditions.GlobalTwice s l (search rules) h) in
+    let here = chosen-none name (global_of e.1) (λ n. where_true (is_one_of taken n) n) g (first_of-none (naming.taken_global taken) l.aux.imports e none i) in
+    away name taken (where_true-none (is_one_of taken name) name here)
+
+-- no import that the glue file is to define is called `__proto__`
+pub import_named : (s : Settings) (l : Lowered) → verdict s l ≡ None → (i : Import) → IsIn (Some i) l.«module».imports → pairs.is_placeholder (Some i) ≡ true → naming.is_proto i.name ≡ false
+unfolding bad_text
+import_named s l h i k p =
+    let none = some-none (first_of naming.bad_segment l.aux.exports ∷ first_of naming.bad_global l.aux.imports ∷ first_of naming.bad_import l.«module».imports ∷ []) (first_of naming.bad_import l.«module».imports) (no_texts s l h) (inr (inr (inl refl))) in
+    let named : naming.own_name (Some i) ≡ Some i.name = ap (λ b. where_true b i.name) p in
+    let here = chosen-none i.name (naming.own_name (Some i)) (λ n. where_true (naming.is_proto n) n) named (first_of-none naming.bad_import l.«module».imports (Some i) none k) in
+    where_true-none (naming.is_proto i.name) i.name here
+
+-- ---- things of one name
+
+-- an export of one of these names
+named_in : (name : List ℕ) (exports : List (Option Export)) → IsIn name (filter_map export_name exports)
+    → (e : Export) × IsIn (Some e) exports × (name ≡ e.name)
+named_in name [] i = absurd i
+named_in name (None ∷ exports) i = let r = named_in name exports i in (r.0, inr r.1, r.2)
+named_in name (Some e ∷ exports) i =
+    elim i [ inl is ↦ (e, inl refl, is) | inr later ↦ let r = named_in name exports later in (r.0, inr r.1, r.2) ]
+
+distinct_names : (exports : List (Option Export)) → AreCompatible naming.same_export exports → AreDistinct (filter_map export_name exports)
+distinct_names [] h = tt
+distinct_names (None ∷ exports) h = distinct_names exports h.1
+distinct_names (Some e ∷ exports) h =
+    (λ i. let r = named_in e.name exports i in false≢true (sym (h.0 (Some r.0) r.1) ∙ (bytes_eq-Decides e.name (r.0).name).1 r.2), distinct_names exports h.1)
+
+-- no two exports of the module have one name
+pub distinct_exports : (s : Settings) (l : Lowered) → verdict s l ≡ None → AreDistinct (export_names l.«module»)
+unfolding answer name_clash
+distinct_exports s l h =
+    let none = some-none (naming.import_clash l.«module».imports ∷ naming.wasm_clash l.«module».exports ∷ naming.start_clash l.«module» ∷ []) (naming.wasm_clash l.«module».exports) (none_of conditions.NameClash s l (search rules) h) (inr (inl refl)) in
+    distinct_names l.«module».exports (compatible naming.same_export l.«module».exports (option_map-none (λ e. faults.NameClash (naming.name_of e)) (first_clash naming.same_export l.«module».exports) none))
+
+-- no two exported functions have one path
+pub compatible_paths : (s : Settings) (l : Lowered) → verdict s l ≡ None → AreCompatible publishing.same_path l.aux.exports
+unfolding answer
+compatible_paths s l h =
+    compatible publishing.same_path l.aux.exports (option_map-none (λ e. faults.ExportClash (publishing.qualified e)) (first_clash publishing.same_path l.aux.exports) (none_of conditions.ExportClash s l (search rules) h))

@@ -1,0 +1,35 @@
+-- What each condition answers: the code goes through the conditions by their names.
+use Rattle.std.specs.Prelude.{Option}
+use Rattle.glue_shared.specs.declared.description.Lowered.{Lowered}
+use Rattle.glue_shared.specs.declared.settings.Settings.{Settings}
+use Rattle.glue_faults.specs.declared.fault.Fault.{Fault}
+use Rattle.glue_adapters.specs.Adapters.{unsupported}
+use Rattle.glue_adapters.specs.Pairs.{bad_adapter, unbound_import}
+use Rattle.glue_check.specs.declared.files.FileFlags.{FileFlags}
+use Rattle.glue_check.specs.declared.verdict.Condition.{Condition}
+use Rattle.glue_check.specs.declared.verdict.Condition.TheVariants as conditions
+use Rattle.glue_check.specs.Naming.{bad_name, global_twice, name_clash}
+use Rattle.glue_check.specs.Publishing.{export_clash, fixed_export}
+use Rattle.glue_check.specs.Unbuilt.{unbuilt_target, unbuilt_imports, unbuilt_exports, unbuilt_instructions, unbuilt_classes, unbuilt_settings, unbuilt_lifecycle, unbuilt_files}
+use Rattle.glue_check.specs.Verdict.{threads, package_json}
+
+-- the answer of a condition
+unfoldable pub answer : FileFlags → Settings → Lowered → Condition → Option Fault
+answer files settings l conditions.UnbuiltTarget = unbuilt_target settings
+answer files settings l conditions.UnbuiltImports = unbuilt_imports settings l
+answer files settings l conditions.UnbuiltExports = unbuilt_exports settings l
+answer files settings l conditions.UnbuiltInstructions = unbuilt_instructions l
+answer files settings l conditions.UnbuiltClasses = unbuilt_classes l
+answer files settings l conditions.UnbuiltSettings = unbuilt_settings settings
+answer files settings l conditions.UnbuiltLifecycle = unbuilt_lifecycle l
+answer files settings l conditions.UnbuiltFiles = unbuilt_files files l
+answer files settings l conditions.Threads = threads l.«module»
+answer files settings l conditions.PackageJson = package_json l.aux
+answer files settings l conditions.UnsupportedInstr = unsupported l.wit
+answer files settings l conditions.BadAdapter = bad_adapter l
+answer files settings l conditions.UnboundImport = unbound_import l
+answer files settings l conditions.BadName = bad_name l.«module» l.aux
+answer files settings l conditions.GlobalTwice = global_twice settings l.«module» l.aux
+answer files settings l conditions.NameClash = name_clash l.«module»
+answer files settings l conditions.ExportClash = export_clash l.aux
+answer files settings l conditions.FixedExport = fixed_export settings l.«module» l.aux

@@ -1,0 +1,217 @@
+-- What isn't built yet: each kind of it by a name.
+use Rattle.std.specs.Prelude.{ℕ, nat_eq, Bool, true, false, not, ◌&&◌, ◌||◌, is_some, List, codes, Option, Some, None}
+use Rattle.std.specs.List.{list_any, list_all, starts_with}
+use Rattle.wasm_core.specs.declared.types.Func.{Func}
+use Rattle.wasm_core.specs.declared.types.Import.{Import}
+use Rattle.wasm_core.specs.declared.types.ImportKind.{ImportKind}
+use Rattle.wasm_core.specs.declared.types.ImportKind.TheVariants as import_kinds
+use Rattle.glue_words.specs.Ident.{is_ident}
+use Rattle.glue_shared.specs.declared.adapter.Adapter.{Adapter}
+use Rattle.glue_shared.specs.declared.adapter.AdapterKind.{AdapterKind}
+use Rattle.glue_shared.specs.declared.adapter.AdapterKind.TheVariants as kinds
+use Rattle.glue_shared.specs.declared.adapter.AdapterJsImportKind.TheVariants as calls
+use Rattle.glue_shared.specs.declared.adapter.AdapterType.{AdapterType}
+use Rattle.glue_shared.specs.declared.adapter.AdapterType.TheVariants as types
+use Rattle.glue_shared.specs.declared.adapter.Instruction.{Instruction}
+use Rattle.glue_shared.specs.declared.adapter.Instruction.TheVariants as instr
+use Rattle.glue_shared.specs.declared.aux.AuxExport.{AuxExport}
+use Rattle.glue_shared.specs.declared.aux.AuxExportKind.{AuxExportKind}
+use Rattle.glue_shared.specs.declared.aux.AuxExportKind.TheVariants as export_kinds
+use Rattle.glue_shared.specs.declared.import.AuxImport.{AuxImport}
+use Rattle.glue_shared.specs.declared.import.AuxImport.TheVariants as imports
+use Rattle.glue_shared.specs.declared.import.AuxValue.TheVariants as values
+use Rattle.glue_shared.specs.declared.import.JsImportName.{JsImportName}
+use Rattle.glue_shared.specs.declared.import.JsImportName.TheVariants as names
+use Rattle.glue_shared.specs.declared.description.Lowered.{Lowered}
+use Rattle.glue_shared.specs.declared.settings.Settings.{Settings}
+use Rattle.glue_shared.specs.declared.settings.Target.{Target}
+use Rattle.glue_shared.specs.declared.settings.Target.TheVariants as targets
+use Rattle.glue_shared.specs.Names.{is_one_of, host_names, fixed_names}
+use Rattle.glue_adapters.specs.Resolving.{is_some_item}
+use Rattle.glue_faults.specs.declared.fault.Fault.{Fault}
+use Rattle.glue_faults.specs.declared.fault.Fault.TheVariants as faults
+use Rattle.glue_faults.specs.First.{where_true}
+use Rattle.glue_adapters.specs.Adapters.{adapter_at, code_of}
+use Rattle.glue_adapters.specs.Pairs.{is_placeholder}
+use Rattle.glue_check.specs.declared.files.FileFlags.{FileFlags}
+
+-- ---- targets
+
+abbrev pub is_deno : Target → Bool
+is_deno targets.Deno = true
+is_deno other = false
+
+-- another target than Deno
+abbrev pub unbuilt_target : Settings → Option Fault
+unbuilt_target settings = where_true (not (is_deno settings.target)) (faults.NotBuilt (codes "target"))
+
+-- ---- imports
+
+abbrev pub is_function : ImportKind → Bool
+is_function (import_kinds.Func func) = true
+is_function other = false
+
+-- an import that isn't a function of the module of placeholders
+abbrev pub is_other_import : Option Import → Bool
+is_other_import None = false
+is_other_import (Some i) = not (is_placeholder (Some i) && is_function i.kind)
+
+-- the global that an import is described as
+abbrev pub global_name : JsImportName → Option (List ℕ)
+global_name (names.Global name) = Some name
+global_name other = None
+
+abbrev pub global_of : AuxImport → Option (List ℕ)
+global_of (imports.Value (values.Bare js)) = global_name js.name
+global_of other = None
+
+-- a call of an import as a method or as a constructor
+abbrev pub is_special_kind : AdapterKind → Bool
+is_special_kind (kinds.Local code) = false
+is_special_kind (kinds.Import calls.Normal) = false
+is_special_kind (kinds.Import calls.Method) = true
+is_special_kind (kinds.Import calls.Constructor) = true
+
+-- an adapter is called as a method or as a constructor
+abbrev pub is_special_call : Option Adapter → Bool
+is_special_call None = false
+is_special_call (Some a) = is_special_kind a.kind
+
+-- an import that is described as something else than a global that is called
+unfoldable pub is_unbuilt_entry : Lowered → ℕ × AuxImport → Bool
+is_unbuilt_entry l entry = not (is_some (global_of entry.1)) || is_special_call (adapter_at l entry.0)
+
+-- imports of another form, or settings that change them
+abbrev pub unbuilt_imports : Settings → Lowered → Option Fault
+unbuilt_imports settings l = where_true (
+    (list_any is_other_import l.«module».imports || list_any (is_unbuilt_entry l) l.aux.imports)
+    || ((is_some_item l.aux.imports_with_variadic || is_some_item l.aux.static_slots) || (settings.omit_imports || settings.split_linked_modules))
+    ) (faults.NotBuilt (codes "imports"))
+
+-- ---- exports
+
+-- a name that the glue file may declare as it is
+abbrev pub is_free_name : Settings → Lowered → List ℕ → Bool
+is_free_name settings l name =
+    is_ident name && (not (is_one_of (host_names settings l.aux) name) && not (is_one_of (fixed_names settings l.«module») name))
+
+abbrev pub is_function_kind : AuxExportKind → Bool
+is_function_kind export_kinds.Function = true
+is_function_kind export_kinds.FunctionThis = true
+is_function_kind export_kinds.Constructor = false
+is_function_kind (export_kinds.Method m) = false
+
+-- a text that isn't empty
+abbrev pub has_text : Option (List ℕ) → Bool
+has_text None = false
+has_text (Some text) = is_some_item text
+
+-- an export in a namespace, one with comments, or a function whose name would have to be another one in the glue file
+unfoldable pub is_unbuilt_export : Settings → Lowered → AuxExport → Bool
+is_unbuilt_export settings l e =
+    (is_some_item e.namespace || has_text e.comments) || (is_function_kind e.kind && not (is_free_name settings l e.name))
+
+-- such exports, enums and re-exports
+abbrev pub unbuilt_exports : Settings → Lowered → Option Fault
+unbuilt_exports settings l = where_true (
+    list_any (is_unbuilt_export settings l) l.aux.exports
+    || (is_some_item l.aux.enums || (is_some_item l.aux.string_enums || is_some_item l.aux.reexports))
+    ) (faults.NotBuilt (codes "exports"))
+
+-- ---- instructions
+
+-- an instruction that passes another value than a number, or keeps something for later
+abbrev pub is_unbuilt_instruction : Instruction → Bool
+is_unbuilt_instruction (instr.ArgGet n) = false
+is_unbuilt_instruction instr.Int32ToWasm = false
+is_unbuilt_instruction (instr.WasmToInt32 unsigned) = false
+is_unbuilt_instruction (instr.CallExport id) = false
+is_unbuilt_instruction (instr.CallAdapter id) = false
+is_unbuilt_instruction (instr.Other name) = false
+is_unbuilt_instruction other = true
+
+-- an integer of 32 bits
+abbrev pub is_number : AdapterType → Bool
+is_number types.I32 = true
+is_number types.S32 = true
+is_number types.U32 = true
+is_number other = false
+
+unfoldable pub is_unbuilt_adapter : ℕ × Adapter → Bool
+is_unbuilt_adapter entry =
+    not (list_all is_number entry.1.args && list_all is_number entry.1.results) || list_any is_unbuilt_instruction (code_of entry.1.kind)
+
+abbrev pub takes_this : AuxExportKind → Bool
+takes_this export_kinds.FunctionThis = true
+takes_this other = false
+
+-- a function that takes `this` or a rest parameter, or whose note tells its types
+abbrev pub is_special_export : AuxExport → Bool
+is_special_export e = takes_this e.kind || (e.variadic || e.jsdoc)
+
+-- other values than numbers, closures, caught throws, and such exports
+abbrev pub unbuilt_instructions : Lowered → Option Fault
+unbuilt_instructions l = where_true (
+    (list_any is_unbuilt_adapter l.wit.adapters || is_some_item l.wit.exports)
+    || (is_some_item l.aux.imports_with_catch || list_any is_special_export l.aux.exports)
+    ) (faults.NotBuilt (codes "instructions"))
+
+-- ---- classes
+
+abbrev pub is_member : AuxExport → Bool
+is_member e = not (is_function_kind e.kind)
+
+-- classes and their members
+abbrev pub unbuilt_classes : Lowered → Option Fault
+unbuilt_classes l = where_true (is_some_item l.aux.structs || list_any is_member l.aux.exports) (faults.NotBuilt (codes "classes"))
+
+-- ---- settings
+
+-- tests at run time, declarations, and what is published beside the description
+abbrev pub unbuilt_settings : Settings → Option Fault
+unbuilt_settings settings = where_true (
+    (settings.debug || settings.typescript) || (settings.export_wasm || settings.reset_state)
+    ) (faults.NotBuilt (codes "settings"))
+
+-- ---- lifecycle
+
+abbrev pub is_tag : Option Import → Bool
+is_tag None = false
+is_tag (Some i) = tag i.kind
+  where
+    tag : ImportKind → Bool
+    tag (import_kinds.Tag id) = true
+    tag other = false
+
+-- tags and parts that exceptions need
+abbrev pub has_exceptions : Lowered → Bool
+has_exceptions l =
+    (l.aux.legacy_exception_handling || list_any is_tag l.«module».imports)
+    || (is_some l.aux.js_tag || (is_some l.aux.wrapped_js_tag || is_some l.aux.rethrow_critical))
+
+-- what TypeScript alone reads
+abbrev pub has_types : Lowered → Bool
+has_types l = is_some_item l.aux.unions || (is_some_item l.aux.extra_typescript || list_any (λ e. e.asyncness) l.aux.exports)
+
+-- a module that is made anew, exceptions, and what TypeScript alone reads
+abbrev pub unbuilt_lifecycle : Lowered → Option Fault
+unbuilt_lifecycle l = where_true (l.aux.uses_reinit || (has_exceptions l || has_types l)) (faults.NotBuilt (codes "lifecycle"))
+
+-- ---- files
+
+-- a name that begins as a mangled one of Rust, of the older form
+abbrev pub is_mangled : Option (List ℕ) → Bool
+is_mangled None = false
+is_mangled (Some name) = starts_with nat_eq name (codes "_ZN") || (starts_with nat_eq name (codes "ZN") || starts_with nat_eq name (codes "__ZN"))
+
+-- a function of such a name
+abbrev pub is_mangled_func : Option Func → Bool
+is_mangled_func None = false
+is_mangled_func (Some func) = is_mangled func.name
+
+-- debug information in a file of its own, files that are handed in with the description, and names that are to be demangled
+abbrev pub unbuilt_files : FileFlags → Lowered → Option Fault
+unbuilt_files files l = where_true (
+    (files.split_debug_info || (is_some_item l.aux.snippets || is_some_item l.aux.local_modules))
+    || (files.demangle && list_any is_mangled_func l.«module».funcs)
+    ) (faults.NotBuilt (codes "files"))

@@ -1,0 +1,337 @@
+//! Names that can't stand where they would have to, and things of one name.
+ghost use Rattle.std.specs.Prelude.{◌≡◌, ℕ, List, Option, IfOk, find};
+ghost use Rattle.std.specs.List.{list_any};
+ghost use Rattle.glue_faults.specs.declared.fault.Fault.TheVariants as faults;
+ghost use Rattle.std.specs.Option.{option_copied};
+ghost use Rattle.std.specs.FinSet as set;
+ghost use Rattle.values.specs.TextSet.{with_texts};
+ghost use Rattle.glue_faults.specs.First as first;
+ghost use Rattle.glue_shared.specs.Names.{fixed_names};
+ghost use Rattle.glue_check.specs.Naming as spec;
+ghost use Rattle.glue_check.specs.Taken.{global_in};
+
+use crate::clash::{Claim, first_clash};
+use crate::taken::with_fixed;
+use crate::unbuilt::global_of;
+use glue_adapters::is_placeholder;
+use glue_faults::Fault;
+use glue_scope::{IdentScope, Names};
+use glue_shared::{AdapterId, AuxExport, AuxImport, Settings, WasmBindgenAux};
+use glue_words::is_valid_ident;
+use std::alloc::{AllocError, Global};
+use values::{Duplicate, Text};
+use wasm_core::{Export, Import, Module};
+
+// What can have a name that is bad.
+trait Named {
+    ghost bad: { Self → Option (List ℕ) };
+
+    // The bad name, if it has one.
+    fn bad(&self) -> Option<&Text>
+        ensures bad { option_copied result ≡ bad self.now };
+}
+
+// The first bad name of a list.
+fn first_bad<T: Named>(items: &[T]) -> Option<&Text>
+    ensures first { option_copied result ≡ first.first_of T.bad items.now }
+{
+    for item in items {
+        let name = item.bad();
+        if name.is_some() {
+            return name;
+        }
+    }
+    None
+}
+
+// Whether an object can't hold the name.
+fn is_proto(name: &str) -> bool
+    ensures test { result ≡ spec.is_proto name.now }
+{
+    name == "__proto__"
+}
+
+// The name, where a test holds.
+fn where_true(test: bool, name: &Text) -> Option<&Text>
+    ensures chosen { option_copied result ≡ first.where_true test name.now }
+{
+    if test { Some(name) } else { None }
+}
+
+// The first of the texts that an object can't hold as a name.
+fn first_proto(texts: &[Text]) -> Option<&Text>
+    ensures first { option_copied result ≡ find spec.is_proto texts.now }
+{
+    texts.iter().find(|text| is_proto(text.as_str()))
+}
+
+impl Named for AuxExport {
+    ghost bad = { spec.bad_segment };
+
+    fn bad(&self) -> Option<&Text> {
+        let segment = first_proto(self.namespace.as_slice());
+        if segment.is_some() {
+            return segment;
+        }
+        where_true(is_proto(self.name.as_str()), &self.name)
+    }
+}
+
+impl Named for (AdapterId, AuxImport) {
+    ghost bad = { spec.bad_global };
+
+    fn bad(&self) -> Option<&Text> {
+        match global_of(&self.1) {
+            None => None,
+            Some(name) => where_true(!is_valid_ident(name.as_str()), name),
+        }
+    }
+}
+
+/// The name of an import that the glue file is to define.
+pub(crate) fn own_name(import: &Option<Import>) -> Option<&Text>
+    ensures name { option_copied result ≡ spec.own_name import.now }
+{
+    match import {
+        None => None,
+        Some(known) => where_true(is_placeholder(import), &known.name),
+    }
+}
+
+impl Named for Option<Import> {
+    ghost bad = { spec.bad_import };
+
+    fn bad(&self) -> Option<&Text> {
+        match own_name(self) {
+            None => None,
+            Some(name) => where_true(is_proto(name.as_str()), name),
+        }
+    }
+}
+
+// The first bad name, in the description's order.
+#[tactic(auto, unfolding(crate::specs::Naming::bad_text))]
+fn bad_text<'a>(module: &'a Module, aux: &'a WasmBindgenAux) -> Option<&'a Text>
+    ensures bad { option_copied result ≡ spec.bad_text «module».now aux.now }
+{
+    let exported = first_bad(aux.exports.as_slice());
+    if exported.is_some() {
+        return exported;
+    }
+    let global = first_bad(aux.imports.as_slice());
+    if global.is_some() {
+        return global;
+    }
+    first_bad(module.imports())
+}
+
+/// The first name that is `__proto__` or no identifier where it has to be another. Want of memory is the only error.
+pub(crate) fn bad_name(
+    alloc: Global,
+    module: &Module,
+    aux: &WasmBindgenAux,
+) -> Result<Option<Fault>, AllocError>
+    ensures fault { IfOk result (λ fault. fault ≡ spec.bad_name «module».now aux.now) }
+{
+    match bad_text(module, aux) {
+        None => Ok(None),
+        Some(name) => Ok(Some(Fault::BadName {
+            name: name.copy(alloc)?,
+        })),
+    }
+}
+
+// The global that an import is described as, where the glue file may bind it.
+fn taken_global<'a, N: Names>(taken: &N, entry: &'a (AdapterId, AuxImport)) -> Option<&'a Text>
+    ensures name { option_copied result ≡ global_in (N.bound taken.now) entry.now }
+{
+    match global_of(&entry.1) {
+        None => None,
+        Some(name) => where_true(taken.is_bound(name.as_str()), name),
+    }
+}
+
+// The first such global.
+fn first_taken<'a, N: Names>(taken: &N, entries: &'a [(AdapterId, AuxImport)]) -> Option<&'a Text>
+    ensures name { option_copied result ≡ first.first_of (global_in (N.bound taken.now)) entries.now }
+{
+    for entry in entries {
+        let name = taken_global(taken, entry);
+        if name.is_some() {
+            return name;
+        }
+    }
+    None
+}
+
+// The names that the glue file may bind itself.
+fn fixed_scope<N: Names>(
+    alloc: Global,
+    settings: &Settings,
+    module: &Module,
+) -> Result<N, AllocError>
+    ensures bound { IfOk result (λ taken. N.bound taken ≡ with_texts set.empty (fixed_names settings.now «module».now)) }
+{
+    let none: N = Names::new(alloc);
+    with_fixed(alloc, none, settings, module)
+}
+
+/// The first global that the glue file may bind itself. Want of memory is the only error.
+#[tactic(auto, using(crate::proofs::TakenNames::globals_same))]
+pub(crate) fn global_twice(
+    alloc: Global,
+    settings: &Settings,
+    module: &Module,
+    aux: &WasmBindgenAux,
+) -> Result<Option<Fault>, AllocError>
+    ensures fault { IfOk result (λ fault. fault ≡ spec.global_twice settings.now «module».now aux.now) }
+{
+    let taken: IdentScope = fixed_scope(alloc, settings, module)?;
+    match first_taken(&taken, aux.imports.as_slice()) {
+        None => Ok(None),
+        Some(name) => Ok(Some(Fault::GlobalTwice {
+            name: name.copy(alloc)?,
+        })),
+    }
+}
+
+impl Claim for Option<Import> {
+    ghost asks = { spec.import_words };
+
+    ghost tells = { spec.import_words };
+
+    fn is_met<N: Names>(&self, _alloc: Global, told: &N) -> Result<bool, AllocError> {
+        match self {
+            None => Ok(false),
+            Some(import) => Ok(is_placeholder(self) && told.is_bound(import.name.as_str())),
+        }
+    }
+
+    fn tell<N: Names>(&self, _alloc: Global, told: &mut N) -> Result<(), AllocError> {
+        if let Some(import) = self {
+            if is_placeholder(self) {
+                told.reserve(import.name.as_str())?;
+            }
+        }
+        Ok(())
+    }
+}
+
+impl Claim for Option<Export> {
+    ghost asks = { spec.export_words };
+
+    ghost tells = { spec.export_words };
+
+    fn is_met<N: Names>(&self, _alloc: Global, told: &N) -> Result<bool, AllocError> {
+        match self {
+            None => Ok(false),
+            Some(export) => Ok(told.is_bound(export.name.as_str())),
+        }
+    }
+
+    fn tell<N: Names>(&self, _alloc: Global, told: &mut N) -> Result<(), AllocError> {
+        match self {
+            None => Ok(()),
+            Some(export) => {
+                told.reserve(export.name.as_str())?;
+                Ok(())
+            }
+        }
+    }
+}
+
+fn import_name(alloc: Global, import: &Option<Import>) -> Result<Text, AllocError>
+    ensures name { IfOk result (λ name. name ≡ spec.import_name import.now) }
+{
+    match import {
+        None => Text::from_str(alloc, ""),
+        Some(import) => import.name.copy(alloc),
+    }
+}
+
+fn name_of(alloc: Global, export: &Option<Export>) -> Result<Text, AllocError>
+    ensures name { IfOk result (λ name. name ≡ spec.name_of export.now) }
+{
+    match export {
+        None => Text::from_str(alloc, ""),
+        Some(export) => export.name.copy(alloc),
+    }
+}
+
+// The first import whose name an earlier one has.
+#[tactic(auto, using(crate::proofs::SameNames::first_same_import))]
+fn import_clash(alloc: Global, imports: &[Option<Import>]) -> Result<Option<Fault>, AllocError>
+    ensures fault { IfOk result (λ fault. fault ≡ spec.import_clash imports.now) }
+{
+    match first_clash(alloc, imports)? {
+        None => Ok(None),
+        Some(import) => Ok(Some(Fault::NameClash {
+            name: import_name(alloc, import)?,
+        })),
+    }
+}
+
+// The first export whose name an earlier one has.
+#[tactic(auto, using(crate::proofs::SameNames::first_same_export))]
+fn wasm_clash(alloc: Global, exports: &[Option<Export>]) -> Result<Option<Fault>, AllocError>
+    ensures fault { IfOk result (λ fault. fault ≡ spec.wasm_clash exports.now) }
+{
+    match first_clash(alloc, exports)? {
+        None => Ok(None),
+        Some(export) => Ok(Some(Fault::NameClash {
+            name: name_of(alloc, export)?,
+        })),
+    }
+}
+
+fn is_start(export: &Option<Export>) -> bool
+    ensures test { result ≡ spec.is_called spec.start_name export.now }
+{
+    match export {
+        None => false,
+        Some(export) => export.name.as_str() == "__wbindgen_start",
+    }
+}
+
+// Whether an export has the name under which the start function is exported.
+fn has_start_export(exports: &[Option<Export>]) -> bool
+    ensures test { result ≡ list_any (spec.is_called spec.start_name) exports.now }
+{
+    exports.iter().any(|export| is_start(export))
+}
+
+// That this name is met twice, where it is asked for.
+fn start_fault(alloc: Global, asked: bool) -> Result<Option<Fault>, AllocError>
+    ensures fault { IfOk result (λ fault. fault ≡ first.where_true asked (faults.NameClash spec.start_name)) }
+{
+    if !asked {
+        return Ok(None);
+    }
+    Ok(Some(Fault::NameClash {
+        name: Text::from_str(alloc, "__wbindgen_start")?,
+    }))
+}
+
+fn start_clash(alloc: Global, module: &Module) -> Result<Option<Fault>, AllocError>
+    ensures fault { IfOk result (λ fault. fault ≡ spec.start_clash «module».now) }
+{
+    let asked = module.start().is_some() && has_start_export(module.exports());
+    start_fault(alloc, asked)
+}
+
+/// The first name of two imports that the glue file is to define, of two exports, or of an export and that of the start function.
+/// Want of memory is the only error.
+#[tactic(auto, unfolding(crate::specs::Naming::name_clash))]
+pub(crate) fn name_clash(alloc: Global, module: &Module) -> Result<Option<Fault>, AllocError>
+    ensures fault { IfOk result (λ fault. fault ≡ spec.name_clash «module».now) }
+{
+    let imported = import_clash(alloc, module.imports())?;
+    if imported.is_some() {
+        return Ok(imported);
+    }
+    let exported = wasm_clash(alloc, module.exports())?;
+    if exported.is_some() {
+        return Ok(exported);
+    }
+    start_clash(alloc, module)
+}

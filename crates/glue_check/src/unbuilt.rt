@@ -1,0 +1,431 @@
+//! What isn't built yet, each kind of it by a name.
+ghost use Rattle.std.specs.Prelude.{◌≡◌, IfOk, not};
+ghost use Rattle.std.specs.List.{list_all, list_any};
+ghost use Rattle.std.specs.Option.{option_copied};
+ghost use Rattle.glue_adapters.specs.Adapters as adapters;
+ghost use Rattle.glue_adapters.specs.Adapters.{adapter_at};
+ghost use Rattle.glue_check.specs.Taken as by_set;
+ghost use Rattle.glue_check.specs.Unbuilt as spec;
+
+use crate::files::FileFlags;
+use crate::taken::{with_fixed, with_hosts};
+use glue_adapters::is_placeholder;
+use glue_faults::{Fault, not_built};
+use glue_scope::{IdentScope, Names};
+use glue_shared::{
+    Adapter, AdapterId, AdapterJsImportKind, AdapterKind, AdapterType, AuxExport, AuxExportKind,
+    AuxImport, AuxValue, Instruction, JsImportName, Lowered, Settings, Target,
+};
+use glue_words::is_valid_ident;
+use std::alloc::{AllocError, Global};
+use values::Text;
+use wasm_core::{Func, Import, ImportKind};
+
+fn is_deno(target: &Target) -> bool
+    ensures test { result ≡ spec.is_deno target.now }
+{
+    matches!(target, Target::Deno)
+}
+
+/// That the target isn't built. Want of memory is the only error.
+pub(crate) fn unbuilt_target(
+    alloc: Global,
+    settings: &Settings,
+) -> Result<Option<Fault>, AllocError>
+    ensures fault { IfOk result (λ fault. fault ≡ spec.unbuilt_target settings.now) }
+{
+    not_built(alloc, !is_deno(&settings.target), "target")
+}
+
+fn is_function(kind: ImportKind) -> bool
+    ensures test { result ≡ spec.is_function kind }
+{
+    matches!(kind, ImportKind::Func(_))
+}
+
+// Whether an import isn't a function of the module of placeholders.
+fn is_other_import(import: &Option<Import>) -> bool
+    ensures test { result ≡ spec.is_other_import import.now }
+{
+    match import {
+        None => false,
+        Some(known) => !(is_placeholder(import) && is_function(known.kind)),
+    }
+}
+
+fn global_name(name: &JsImportName) -> Option<&Text>
+    ensures name { option_copied result ≡ spec.global_name name.now }
+{
+    match name {
+        JsImportName::Global { name } => Some(name),
+        _ => None,
+    }
+}
+
+/// The global that an import is described as.
+pub(crate) fn global_of(import: &AuxImport) -> Option<&Text>
+    ensures name { option_copied result ≡ spec.global_of import.now }
+{
+    match import {
+        AuxImport::Value(AuxValue::Bare(js)) => global_name(&js.name),
+        _ => None,
+    }
+}
+
+// Whether an adapter is called as a method or as a constructor.
+fn is_special_call(adapter: Option<&Adapter>) -> bool
+    ensures test { result ≡ spec.is_special_call (option_copied adapter.entry) }
+{
+    match adapter {
+        None => false,
+        Some(adapter) => match adapter.kind {
+            AdapterKind::Import(AdapterJsImportKind::Method)
+            | AdapterKind::Import(AdapterJsImportKind::Constructor) => true,
+            AdapterKind::Import(AdapterJsImportKind::Normal) | AdapterKind::Local(_) => false,
+        },
+    }
+}
+
+// Whether an import is described as something else than a global that is called.
+#[tactic(auto, unfolding(crate::specs::Unbuilt::is_unbuilt_entry))]
+fn is_unbuilt_entry(lowered: &Lowered, entry: &(AdapterId, AuxImport)) -> bool
+    ensures test { result ≡ spec.is_unbuilt_entry lowered.now entry.now }
+{
+    global_of(&entry.1).is_none() || is_special_call(lowered.wit.adapters.get(&entry.0))
+}
+
+// Whether an import isn't one of those that are built.
+fn has_other_import(imports: &[Option<Import>]) -> bool
+    ensures test { result ≡ list_any spec.is_other_import imports.now }
+{
+    imports.iter().any(|import| is_other_import(import))
+}
+
+fn has_unbuilt_entry(lowered: &Lowered) -> bool
+    ensures test { result ≡ list_any (spec.is_unbuilt_entry lowered.now) lowered.now.aux.imports }
+{
+    lowered
+        .aux
+        .imports
+        .as_slice()
+        .iter()
+        .any(|entry| is_unbuilt_entry(lowered, entry))
+}
+
+/// That imports of this form aren't built. Want of memory is the only error.
+pub(crate) fn unbuilt_imports(
+    alloc: Global,
+    settings: &Settings,
+    lowered: &Lowered,
+) -> Result<Option<Fault>, AllocError>
+    ensures fault { IfOk result (λ fault. fault ≡ spec.unbuilt_imports settings.now lowered.now) }
+{
+    let asked = has_other_import(lowered.module.imports())
+        || has_unbuilt_entry(lowered)
+        || !lowered.aux.imports_with_variadic.is_empty()
+        || !lowered.aux.static_slots.is_empty()
+        || settings.omit_imports
+        || settings.split_linked_modules;
+    not_built(alloc, asked, "imports")
+}
+
+// Whether the glue file may declare the name as it is.
+fn is_free_name<N: Names>(taken: &N, name: &str) -> bool
+    ensures test { result ≡ by_set.is_free_of (N.bound taken.now) name.now }
+{
+    is_valid_ident(name) && !taken.is_bound(name)
+}
+
+/// Whether an export is a function that stands by itself.
+pub(crate) fn is_function_kind(kind: AuxExportKind) -> bool
+    ensures test { result ≡ spec.is_function_kind kind }
+{
+    match kind {
+        AuxExportKind::Function | AuxExportKind::FunctionThis => true,
+        AuxExportKind::Constructor | AuxExportKind::Method(_) => false,
+    }
+}
+
+fn has_text(text: &Option<Text>) -> bool
+    ensures test { result ≡ spec.has_text text.now }
+{
+    match text {
+        None => false,
+        Some(text) => !text.is_empty(),
+    }
+}
+
+// Whether an export stands in a namespace, has comments, or would have to be declared by another name.
+fn is_unbuilt_export<N: Names>(taken: &N, export: &AuxExport) -> bool
+    ensures test { result ≡ by_set.is_unbuilt_by (N.bound taken.now) export.now }
+{
+    !export.namespace.is_empty()
+        || has_text(&export.comments)
+        || (is_function_kind(export.kind) && !is_free_name(taken, export.name.as_str()))
+}
+
+fn is_any_unbuilt<N: Names>(taken: &N, exports: &[AuxExport]) -> bool
+    ensures test { result ≡ list_any (by_set.is_unbuilt_by (N.bound taken.now)) exports.now }
+{
+    exports
+        .iter()
+        .any(|export| is_unbuilt_export(taken, export))
+}
+
+// The names that the glue file may not declare as they are.
+fn taken_names<N: Names>(
+    alloc: Global,
+    settings: &Settings,
+    lowered: &Lowered,
+) -> Result<N, AllocError>
+    ensures bound { IfOk result (λ taken. N.bound taken ≡ by_set.taken_names settings.now lowered.now) }
+{
+    let none: N = Names::new(alloc);
+    let hosts = with_hosts(alloc, none, settings, &lowered.aux)?;
+    with_fixed(alloc, hosts, settings, &lowered.module)
+}
+
+// Whether there is such an export. The names that are taken are found once for all of them.
+#[tactic(auto, using(crate::proofs::TakenNames::unbuilt_any))]
+fn has_unbuilt_export(
+    alloc: Global,
+    settings: &Settings,
+    lowered: &Lowered,
+) -> Result<bool, AllocError>
+    ensures test { IfOk result (λ test. test ≡ list_any (spec.is_unbuilt_export settings.now lowered.now) lowered.now.aux.exports) }
+{
+    let taken: IdentScope = taken_names(alloc, settings, lowered)?;
+    Ok(is_any_unbuilt(&taken, lowered.aux.exports.as_slice()))
+}
+
+/// That exports of this form aren't built. Want of memory is the only error.
+pub(crate) fn unbuilt_exports(
+    alloc: Global,
+    settings: &Settings,
+    lowered: &Lowered,
+) -> Result<Option<Fault>, AllocError>
+    ensures fault { IfOk result (λ fault. fault ≡ spec.unbuilt_exports settings.now lowered.now) }
+{
+    let exported = has_unbuilt_export(alloc, settings, lowered)?;
+    let asked = exported
+        || !lowered.aux.enums.is_empty()
+        || !lowered.aux.string_enums.is_empty()
+        || !lowered.aux.reexports.is_empty();
+    not_built(alloc, asked, "exports")
+}
+
+// Whether an instruction passes another value than a number, or keeps something for later.
+fn is_unbuilt_instruction(instruction: &Instruction) -> bool
+    ensures test { result ≡ spec.is_unbuilt_instruction instruction.now }
+{
+    match instruction {
+        Instruction::ArgGet(_)
+        | Instruction::Int32ToWasm
+        | Instruction::WasmToInt32(_)
+        | Instruction::CallExport(_)
+        | Instruction::CallAdapter(_)
+        | Instruction::Other(_) => false,
+        _ => true,
+    }
+}
+
+fn is_number(ty: &AdapterType) -> bool
+    ensures test { result ≡ spec.is_number ty.now }
+{
+    matches!(ty, AdapterType::I32 | AdapterType::S32 | AdapterType::U32)
+}
+
+// Whether each of the types is an integer of 32 bits.
+fn are_numbers(types: &[AdapterType]) -> bool
+    ensures test { result ≡ list_all spec.is_number types.now }
+{
+    types.iter().all(|ty| is_number(ty))
+}
+
+fn has_unbuilt_instruction(kind: &AdapterKind) -> bool
+    ensures test { result ≡ list_any spec.is_unbuilt_instruction (adapters.code_of kind.now) }
+{
+    match kind {
+        AdapterKind::Local(code) => code
+            .as_slice()
+            .iter()
+            .any(|instruction| is_unbuilt_instruction(instruction)),
+        AdapterKind::Import(_) => false,
+    }
+}
+
+#[tactic(auto, unfolding(crate::specs::Unbuilt::is_unbuilt_adapter))]
+fn is_unbuilt_adapter(id: AdapterId, adapter: &Adapter) -> bool
+    ensures test { result ≡ spec.is_unbuilt_adapter (id, adapter.now) }
+{
+    !(are_numbers(adapter.args.as_slice()) && are_numbers(adapter.results.as_slice()))
+        || has_unbuilt_instruction(&adapter.kind)
+}
+
+// Whether an adapter passes another value than a number.
+fn has_unbuilt_adapter(lowered: &Lowered) -> bool
+    ensures test { result ≡ list_any spec.is_unbuilt_adapter lowered.now.wit.adapters }
+{
+    for (id, adapter) in lowered.wit.adapters.iter() {
+        if is_unbuilt_adapter(*id, adapter) {
+            return true;
+        }
+    }
+    false
+}
+
+fn takes_this(kind: AuxExportKind) -> bool
+    ensures test { result ≡ spec.takes_this kind }
+{
+    matches!(kind, AuxExportKind::FunctionThis)
+}
+
+fn is_special_export(export: &AuxExport) -> bool
+    ensures test { result ≡ spec.is_special_export export.now }
+{
+    takes_this(export.kind) || export.variadic || export.jsdoc
+}
+
+// Whether a function takes `this` or a rest parameter, or its note tells its types.
+fn has_special_export(exports: &[AuxExport]) -> bool
+    ensures test { result ≡ list_any spec.is_special_export exports.now }
+{
+    exports.iter().any(|export| is_special_export(export))
+}
+
+/// That adapters of this form aren't built. Want of memory is the only error.
+pub(crate) fn unbuilt_instructions(
+    alloc: Global,
+    lowered: &Lowered,
+) -> Result<Option<Fault>, AllocError>
+    ensures fault { IfOk result (λ fault. fault ≡ spec.unbuilt_instructions lowered.now) }
+{
+    let asked = has_unbuilt_adapter(lowered)
+        || !lowered.wit.exports.is_empty()
+        || !lowered.aux.imports_with_catch.is_empty()
+        || has_special_export(lowered.aux.exports.as_slice());
+    not_built(alloc, asked, "instructions")
+}
+
+fn has_member(exports: &[AuxExport]) -> bool
+    ensures test { result ≡ list_any spec.is_member exports.now }
+{
+    exports.iter().any(|export| !is_function_kind(export.kind))
+}
+
+/// That classes aren't built. Want of memory is the only error.
+pub(crate) fn unbuilt_classes(alloc: Global, lowered: &Lowered) -> Result<Option<Fault>, AllocError>
+    ensures fault { IfOk result (λ fault. fault ≡ spec.unbuilt_classes lowered.now) }
+{
+    let asked = !lowered.aux.structs.is_empty() || has_member(lowered.aux.exports.as_slice());
+    not_built(alloc, asked, "classes")
+}
+
+/// That these settings aren't built. Want of memory is the only error.
+pub(crate) fn unbuilt_settings(
+    alloc: Global,
+    settings: &Settings,
+) -> Result<Option<Fault>, AllocError>
+    ensures fault { IfOk result (λ fault. fault ≡ spec.unbuilt_settings settings.now) }
+{
+    let asked = settings.debug
+        || settings.typescript
+        || settings.export_wasm
+        || settings.reset_state;
+    not_built(alloc, asked, "settings")
+}
+
+fn is_tag(import: &Option<Import>) -> bool
+    ensures test { result ≡ spec.is_tag import.now }
+{
+    match import {
+        None => false,
+        Some(import) => matches!(import.kind, ImportKind::Tag(_)),
+    }
+}
+
+fn has_tag(imports: &[Option<Import>]) -> bool
+    ensures test { result ≡ list_any spec.is_tag imports.now }
+{
+    imports.iter().any(|import| is_tag(import))
+}
+
+// Whether there are tags or parts that exceptions need.
+fn has_exceptions(lowered: &Lowered) -> bool
+    ensures test { result ≡ spec.has_exceptions lowered.now }
+{
+    lowered.aux.legacy_exception_handling
+        || has_tag(lowered.module.imports())
+        || lowered.aux.js_tag.is_some()
+        || lowered.aux.wrapped_js_tag.is_some()
+        || lowered.aux.rethrow_critical.is_some()
+}
+
+fn has_async_export(exports: &[AuxExport]) -> bool
+    ensures test { result ≡ list_any (λ e. e.asyncness) exports.now }
+{
+    exports.iter().any(|export| export.asyncness)
+}
+
+// Whether there is something that TypeScript alone reads.
+fn has_types(lowered: &Lowered) -> bool
+    ensures test { result ≡ spec.has_types lowered.now }
+{
+    !lowered.aux.unions.is_empty()
+        || !lowered.aux.extra_typescript.is_empty()
+        || has_async_export(lowered.aux.exports.as_slice())
+}
+
+/// That making a module anew, exceptions and types aren't built. Want of memory is the only error.
+pub(crate) fn unbuilt_lifecycle(
+    alloc: Global,
+    lowered: &Lowered,
+) -> Result<Option<Fault>, AllocError>
+    ensures fault { IfOk result (λ fault. fault ≡ spec.unbuilt_lifecycle lowered.now) }
+{
+    let asked = lowered.aux.uses_reinit || has_exceptions(lowered) || has_types(lowered);
+    not_built(alloc, asked, "lifecycle")
+}
+
+// Whether the name is one as compilers mangle them.
+fn is_mangled(name: &Option<Text>) -> bool
+    ensures test { result ≡ spec.is_mangled name.now }
+{
+    match name {
+        None => false,
+        Some(name) => {
+            let name = name.as_str().as_bytes();
+            name.starts_with(b"_ZN") || name.starts_with(b"ZN") || name.starts_with(b"__ZN")
+        }
+    }
+}
+
+fn is_mangled_func(func: &Option<Func>) -> bool
+    ensures test { result ≡ spec.is_mangled_func func.now }
+{
+    match func {
+        None => false,
+        Some(func) => is_mangled(&func.name),
+    }
+}
+
+fn has_mangled_func(funcs: &[Option<Func>]) -> bool
+    ensures test { result ≡ list_any spec.is_mangled_func funcs.now }
+{
+    funcs.iter().any(|func| is_mangled_func(func))
+}
+
+/// That other files than the glue file and the module aren't built, nor other names of functions. Want of memory is the only error.
+pub(crate) fn unbuilt_files(
+    alloc: Global,
+    files: FileFlags,
+    lowered: &Lowered,
+) -> Result<Option<Fault>, AllocError>
+    ensures fault { IfOk result (λ fault. fault ≡ spec.unbuilt_files files lowered.now) }
+{
+    let asked = files.split_debug_info
+        || !lowered.aux.snippets.is_empty()
+        || !lowered.aux.local_modules.is_empty()
+        || (files.demangle && has_mangled_func(lowered.module.funcs()));
+    not_built(alloc, asked, "files")
+}
