@@ -1,98 +1,32 @@
 -- The tree of any steps is fit: names are identifiers, and its words are spaced.
 use Rattle.std.proofs.Common.{◌≡◌, ℕ, ◌≤◌, List, [], ◌∷◌, ◌++◌, length, map, refl, ap, sym, ◌∙◌, subst, Bool, true, false, append_assoc}
 use Rattle.std.proofs.lemmas.Bool.{and_parts}
-use Rattle.std.proofs.lemmas.List.{append-nil}
-use Rattle.std.specs.Prelude.{Option, Some, None, ◌&&◌, not, nat_le, codes}
-use Rattle.std.specs.List.{list_all, flat_map}
+use Rattle.std.specs.Prelude.{Option, Some, None, ◌&&◌, codes}
+use Rattle.std.specs.List.{list_all}
 use Rattle.glue_words.specs.declared.word.Word.{Word}
 use Rattle.glue_words.specs.declared.word.Word.TheVariants as w
 use Rattle.glue_words.specs.Ident.{is_ident}
-use Rattle.glue_words.specs.Limits.{is_prop}
 use Rattle.glue_words.proofs.Idents.{ascii_ident}
-use Rattle.glue_tree.specs.Term.{Term, Outside, Field, Apply, Terms, Line, Bind, Run, Lines, NoLines}
-use Rattle.glue_tree.specs.Operands.{place, place_of_member, place_of_call, place_of_taken, is_number, takes}
-use Rattle.glue_tree.specs.Operands.{begins_with_brace}
-use Rattle.glue_tree.specs.declared.operand.Position.TheVariants as p
-use Rattle.glue_tree.specs.Spelling.{term_words, line_words, in_parens, parts_of, parens_if, const_start}
-use Rattle.glue_tree.specs.FixedWords.{dot, semicolon}
+use Rattle.glue_tree.specs.Term.{Outside, Apply, Terms, Line, Bind, Run, Lines, NoLines}
+use Rattle.glue_tree.specs.Spelling.{line_words, in_parens, parts_of, listed, const_start}
+use Rattle.glue_tree.specs.FixedWords.{close_paren, semicolon}
 use Rattle.glue_tree.proofs.Fit.{fit, all_fit, is_line, line_fit, lines_fit}
 use Rattle.glue_tree.proofs.Spacing.{line, line_is}
 use Rattle.glue_steps.specs.declared.step.Step.{Step}
 use Rattle.glue_steps.specs.declared.step.Step.TheVariants.{CallImport}
-use Rattle.glue_binding.specs.Spelling.{Plain, Missing, Local, Unsigned, term_of, terms, import_words, import_line_words, Piece, Ahead, Cleanup, pieces_of, nested, tree_of, temporaries}
+use Rattle.glue_binding.specs.Spelling.{Plain, Missing, Local, Unsigned, term_of, terms, path_words, import_call_words, import_line_words, Piece, Ahead, Cleanup, pieces_of, nested, tree_of, temporaries}
 use Rattle.glue_binding.proofs.Each.{Each}
+use Rattle.glue_binding.proofs.Paths.{line_with_path}
 use Rattle.glue_binding.proofs.Rowwise.{IsRowwise, AllHave, pieces_have}
 
 and_true : (a b : Bool) → a ≡ true → b ≡ true → (a && b) ≡ true
 and_true a b h k = ap (λ x. x && b) h ∙ k
 
--- ---- an import's call is spelled as a tree is
-
--- `e.field.field`
-abbrev pub chain : Term → List (List ℕ) → Term
-chain e [] = e
-chain e (field ∷ fields) = chain (Field e field) fields
-
--- what is no number and no call stands before a dot as it is
-bare : (e : Term) → is_number e ≡ false → place e ≡ place_of_member → takes p.Object e ≡ true
-bare e n h = rw (n, h) refl
-
-chain_words : (e : Term) (fields : List (List ℕ)) → is_number e ≡ false → place e ≡ place_of_member
-    → term_words (chain e fields) ≡ term_words e ++ flat_map (λ field. dot ∷ w.Prop field ∷ []) fields
-chain_words e [] n h = sym (append-nil (term_words e))
-chain_words e (field ∷ fields) n h =
-    let rest = flat_map (λ (name : List ℕ). dot ∷ w.Prop name ∷ []) fields in
-    chain_words (Field e field) fields refl (ap place_of_taken h)
-    ∙ ap (λ b. (parens_if (not b) (term_words e) ++ dot ∷ w.Prop field ∷ []) ++ rest) (bare e n h)
-    ∙ append_assoc (term_words e) (dot ∷ w.Prop field ∷ []) rest
-
-chain_place : (e : Term) (fields : List (List ℕ)) → place e ≡ place_of_member → place (chain e fields) ≡ place_of_member
-chain_place e [] h = h
-chain_place e (field ∷ fields) h = chain_place (Field e field) fields (ap place_of_taken h)
-
-chain_brace : (e : Term) (fields : List (List ℕ)) → begins_with_brace e ≡ false
-    → begins_with_brace (chain e fields) ≡ false
-chain_brace e [] h = h
-chain_brace e (field ∷ fields) h = chain_brace (Field e field) fields (rw h refl)
-
-chain_fit : (e : Term) (fields : List (List ℕ)) → fit e ≡ true → list_all is_prop fields ≡ true
-    → fit (chain e fields) ≡ true
-chain_fit e [] h k = h
-chain_fit e (field ∷ fields) h k =
-    let parts = and_parts (is_prop field) (list_all is_prop fields) k in chain_fit (Field e field) fields
-    (and_true _ _ h parts.0) parts.1
-
--- the tree of an import's call
-abbrev pub import_line : Option (List ℕ) → (global : List ℕ) (fields : List (List ℕ)) → Terms → Line
-import_line None global fields es = Run (Apply (chain (Outside global) fields) es)
-import_line (Some bound) global fields es = Bind bound (Apply (chain (Outside global) fields) es)
-
-call_spelled : (global : List ℕ) (fields : List (List ℕ)) (es : Terms)
-    → term_words (Apply (chain (Outside global) fields) es) ≡ import_words global fields ++ in_parens (parts_of es)
-call_spelled global fields es =
-    ap (λ n. parens_if (not (nat_le n place_of_call)) (term_words (chain (Outside global) fields))
-    ++ in_parens (parts_of es))
-    (chain_place (Outside global) fields refl)
-    ∙ ap (λ (ws : List Word). ws ++ in_parens (parts_of es)) (chain_words (Outside global) fields refl refl)
-
-call_brace : (global : List ℕ) (fields : List (List ℕ)) (es : Terms)
-    → begins_with_brace (Apply (chain (Outside global) fields) es) ≡ false
-call_brace global fields es = rw (chain_brace (Outside global) fields refl) refl
-
-pub import_spelled : (bound : Option (List ℕ)) (global : List ℕ) (fields : List (List ℕ)) (es : Terms)
-    → line_words (import_line bound global fields es) ≡ import_line_words bound global fields es
-import_spelled None global fields es =
-    ap (λ b. parens_if b (term_words (Apply (chain (Outside global) fields) es)) ++ semicolon ∷ [])
-    (call_brace global fields es)
-    ∙ ap (λ (ws : List Word). ws ++ semicolon ∷ []) (call_spelled global fields es)
-import_spelled (Some bound) global fields es = ap (λ (ws : List Word). const_start bound ++ (ws ++ semicolon ∷ []))
-    (call_spelled global fields es)
-
 -- ---- fit
 
 -- the names that a step brings along are right
 abbrev pub step_fit : Step → Bool
-step_fit (CallImport adapter n has_result global fields) = is_ident global && list_all is_prop fields
+step_fit (CallImport adapter n has_result global fields) = is_ident global
 step_fit other = true
 
 -- the local of an operand is an identifier
@@ -113,17 +47,28 @@ terms_fit : (ps : List Plain) → Each IsNamed ps → all_fit (terms ps) ≡ tru
 terms_fit [] h = refl
 terms_fit (p ∷ ps) h = and_true _ _ (plain_fit p h.0) (terms_fit ps h.1)
 
-import_fit : (bound : Option (List ℕ)) (global : List ℕ) (fields : List (List ℕ)) (es : Terms)
-    → line_fit (import_line bound global fields es) ≡ true → is_line (import_line_words bound global fields es) ≡ true
-import_fit bound global fields es h =
-    subst (λ (ws : List Word). is_line ws ≡ true) (import_spelled bound global fields es)
-    (line_is (line_words (import_line bound global fields es)) (line (import_line bound global fields es) h))
+-- the call of a host's function by its name alone
+abbrev named_call : Option (List ℕ) → (global : List ℕ) → Terms → Line
+named_call None global es = Run (Apply (Outside global) es)
+named_call (Some bound) global es = Bind bound (Apply (Outside global) es)
 
-call_fit : (global : List ℕ) (fields : List (List ℕ)) (es : Terms) → (is_ident global && list_all is_prop fields) ≡ true
-    → all_fit es ≡ true → fit (Apply (chain (Outside global) fields) es) ≡ true
-call_fit global fields es h k =
-    let parts = and_parts (is_ident global) (list_all is_prop fields) h in and_true _ _
-    (chain_fit (Outside global) fields parts.0 parts.1) k
+-- with fields it stands where it stands without
+call_fit : (front : List Word) (global : List ℕ) (fields : List (List ℕ)) (es : Terms)
+    → is_line (front ++ w.Host global false ∷ (in_parens (parts_of es) ++ semicolon ∷ [])) ≡ true
+    → is_line (front ++ import_call_words global fields es) ≡ true
+call_fit front global fields es h =
+    subst (λ (words : List Word). is_line (front ++ w.Host global false ∷ words) ≡ true)
+    (sym (append_assoc (path_words fields) (in_parens (parts_of es)) (semicolon ∷ [])))
+    (line_with_path front ((listed (parts_of es) ++ close_paren ∷ []) ++ semicolon ∷ []) global fields h)
+
+import_fit : (bound : Option (List ℕ)) (global : List ℕ) (fields : List (List ℕ)) (es : Terms)
+    → line_fit (named_call bound global es) ≡ true → is_line (import_line_words bound global fields es) ≡ true
+import_fit None global fields es h =
+    let named = named_call None global es in
+    call_fit [] global fields es (line_is (line_words named) (line named h))
+import_fit (Some bound) global fields es h =
+    let named = named_call (Some bound) global es in
+    call_fit (const_start bound) global fields es (line_is (line_words named) (line named h))
 
 fits : IsRowwise (λ l. line_fit l ≡ true) IsNamed IsName (λ s. step_fit s ≡ true)
 fits = record {
@@ -134,9 +79,9 @@ fits = record {
   export_runs = λ name n f args h. terms_fit args h;
   export_binds = λ name n f x d args h. and_true _ _ d (terms_fit args h);
   import_runs = λ adapter n global fields f args h. import_fit None global fields (terms args)
-      (call_fit global fields (terms args) f (terms_fit args h));
+      (and_true _ _ f (terms_fit args h));
   import_binds = λ adapter n global fields f x d args h. import_fit (Some x) global fields (terms args)
-      (and_true _ _ d (call_fit global fields (terms args) f (terms_fit args h)));
+      (and_true _ _ d (and_true _ _ f (terms_fit args h)));
   takes = λ f x d p h. and_true _ _ d (rw (ascii_ident (codes "takeObject") refl) (terms_fit (p ∷ []) (h, tt)));
   borrows = λ f x d p h. and_true _ _ d (rw (ascii_ident (codes "addBorrowedObject") refl)
       (terms_fit (p ∷ []) (h, tt)));

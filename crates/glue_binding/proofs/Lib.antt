@@ -5,7 +5,7 @@ mod Functions
 pub mod Linked
 pub mod Outer
 pub mod Outside
-pub mod Passing
+pub mod Paths
 mod Plain
 mod Rowwise
 mod Runs

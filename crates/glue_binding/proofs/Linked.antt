@@ -18,7 +18,7 @@ use Rattle.glue_words.specs.Names.{bound_name, bound_in, used_name, hosted_name,
 use Rattle.glue_words.specs.Linking.{AreAmong, KeepsLocals, Resolves, TakesExports, TakesKeys}
 use Rattle.glue_words.proofs.Belonging.{StandAlone}
 use Rattle.glue_words.proofs.Among.{among_left, among_right, among_both, among_trans, apart_by, apart_swap, apart_among, apart_joined, apart_split}
-use Rattle.glue_scope.proofs.Drawn.{length-drawn, drawn_new, drawn_distinct, drawn_idents, with_names_there}
+use Rattle.glue_scope.proofs.Drawn.{length-drawn, drawn_new, drawn_distinct, drawn_idents, with_texts_there}
 use Rattle.glue_tree.specs.Plainly.{plain_stmts}
 use Rattle.glue_tree.specs.Spelling.{function_words}
 use Rattle.glue_tree.specs.declared.tree.JsFunction.{JsFunction}
@@ -150,7 +150,7 @@ own_names steps wanted f b =
       distinct = drawn_distinct scope all names b.drawn;
       idents = drawn_idents scope all names b.drawn;
       apart = apart_by names (outer_names steps) (λ x k i. drawn_new scope all names x b.drawn k
-          (with_names_there set.empty (outer_names steps) x i));
+          (with_texts_there set.empty (outer_names steps) x i));
     }
 
 -- as many temporaries as the steps want

@@ -1,9 +1,9 @@
 -- The names in the words of the function of any steps: those that the steps bring along, and its parameters and
 -- temporaries.
-use Rattle.std.proofs.Common.{◌≡◌, ℕ, ◌≤◌, List, [], ◌∷◌, ◌++◌, length, map, refl, ap, sym, ◌∙◌, subst, true, false, arith, append_assoc}
+use Rattle.std.proofs.Common.{◌≡◌, ℕ, ◌≤◌, List, [], ◌∷◌, ◌++◌, length, map, refl, ap, sym, ◌∙◌, subst, true, false, arith}
 use Rattle.std.proofs.lemmas.List.{append-nil}
 use Rattle.std.proofs.lemmas.List.Elements.{filter_map-append}
-use Rattle.std.specs.Prelude.{Option, Some, None, codes}
+use Rattle.std.specs.Prelude.{Option, codes}
 use Rattle.std.specs.List.{filter_map, flat_map}
 use Rattle.values.specs.Lists.{IsIn}
 use Rattle.values.proofs.Members.{in_left, in_right}
@@ -12,24 +12,26 @@ use Rattle.glue_words.specs.declared.word.Word.TheVariants as w
 use Rattle.glue_words.specs.Names.{local_bound_name, local_name, local_bound_in, local_in}
 use Rattle.glue_words.specs.Linking.{AreAmong}
 use Rattle.glue_words.proofs.Among.{among_both, among_parts, among_itself}
-use Rattle.glue_tree.specs.Term.{Term, Outside, Field, Apply, Terms, Lines, NoLines}
-use Rattle.glue_tree.specs.Spelling.{line_words, function_words}
+use Rattle.glue_tree.specs.Term.{Lines, NoLines}
+use Rattle.glue_tree.specs.Spelling.{in_parens, parts_of, listed, const_start, function_words}
+use Rattle.glue_tree.specs.FixedWords.{close_paren, semicolon, const_word}
+use Rattle.glue_words.specs.Words.{space}
 use Rattle.glue_tree.specs.Leaves.{leaves, leaves_of, line_leaves, lines_leaves, function_leaves}
-use Rattle.glue_tree.proofs.Names.{IsKind, Has, line_names, function_names}
+use Rattle.glue_tree.proofs.Names.{IsKind, Has, listed_names, function_names}
 use Rattle.glue_tree.proofs.Functions.{local_kind, local_bound_kind}
 use Rattle.glue_steps.specs.Stack.{top, below, operands}
 use Rattle.glue_steps.specs.declared.step.Step.{Step}
 use Rattle.glue_steps.specs.declared.step.Step.TheVariants.{Parameter, Unchanged, CallExport, CallImport, ToUnsigned, TakeIndex, IndexFromBorrow, UnwrapResult}
-use Rattle.glue_binding.specs.Spelling.{Plain, Missing, Local, Unsigned, term_of, terms, import_call_words, import_line_words, Piece, Ahead, Cleanup, ending, pieces_of, nested, tree_of, counted, wanted_from, temporaries}
+use Rattle.glue_binding.specs.Spelling.{Plain, Missing, Local, Unsigned, term_of, terms, import_words, import_call_words, Piece, Ahead, Cleanup, ending, pieces_of, nested, tree_of, counted, wanted_from, temporaries}
 use Rattle.glue_binding.proofs.Each.{Each, each_by}
 use Rattle.glue_binding.proofs.Rowwise.{IsRowwise, AllHave, pieces_have}
-use Rattle.glue_binding.proofs.Fits.{chain, import_line, import_spelled}
+use Rattle.glue_binding.proofs.Paths.{path_tells}
 use Rattle.glue_binding.proofs.Outer.{IsOuter, plain_none, terms_none}
 
 -- the words from outside that the text of a step holds
 abbrev pub outside_words : Step → List Word
 outside_words (CallExport name n has_result) = w.Refer (codes "wasm") false ∷ w.Wasm name ∷ []
-outside_words (CallImport adapter n has_result global fields) = w.Host global false ∷ map w.Prop fields
+outside_words (CallImport adapter n has_result global fields) = import_words global fields
 outside_words TakeIndex = w.Refer (codes "takeObject") false ∷ []
 outside_words IndexFromBorrow =
     w.Refer (codes "addBorrowedObject") false ∷ w.Refer (codes "heap") false ∷ w.Refer (codes "stack_pointer") false
@@ -41,21 +43,7 @@ outside_words other = []
 abbrev pub outside_of : List Step → List Word
 outside_of steps = flat_map outside_words steps
 
-chain_leaves : (e : Term) (fields : List (List ℕ)) → leaves (chain e fields) ≡ leaves e ++ map w.Prop fields
-chain_leaves e [] = sym (append-nil (leaves e))
-chain_leaves e (field ∷ fields) = chain_leaves (Field e field) fields
-    ∙ append_assoc (leaves e) (w.Prop field ∷ []) (map w.Prop fields)
-
 module _ (kind : Word → Option (List ℕ)) (is : IsKind kind) where
-  -- the names of an import's words are those of the tree that is spelled alike
-  import_names : (bound : Option (List ℕ)) (global : List ℕ) (fields : List (List ℕ)) (es : Terms)
-      → filter_map kind (import_line_words bound global fields es)
-      ≡ filter_map kind (line_leaves (import_line bound global fields es))
-  import_names bound global fields es =
-      let tree = import_line bound global fields es in
-      let has : Has kind is (line_words tree) (line_leaves tree) = line_names kind is tree in
-      ap (filter_map kind) (sym (import_spelled bound global fields es)) ∙ has.same
-
   module _ (ys : List (List ℕ)) where
     -- the names of the words are among those of a list
     record Holds (words : List Word) : Type 0 where
@@ -96,18 +84,31 @@ module _ (kind : Word → Option (List ℕ)) (is : IsKind kind) where
       pub declared : Holds (w.LocalBind x ∷ [])
       pub used : Holds (w.Local x ∷ [])
 
-    call_holds : (global : List ℕ) (fields : List (List ℕ)) (ps : List Plain)
-        → Holds (w.Host global false ∷ map w.Prop fields) → Each OfPlain ps
-        → Holds (leaves (Apply (chain (Outside global) fields) (terms ps)))
-    call_holds global fields ps f h = merge (subst Holds (sym (chain_leaves (Outside global) fields)) f)
-        (terms_hold ps h)
+    -- a word of punctuation, and a space
+    mark : (place : ℕ) → Holds (w.Punct place ∷ [])
+    mark place = record { among = rw (is.punct place) tt }
 
-    import_holds : (bound : Option (List ℕ)) (global : List ℕ) (fields : List (List ℕ)) (es : Terms)
-        → Holds (line_leaves (import_line bound global fields es)) → Holds (import_line_words bound global fields es)
-    import_holds bound global fields es h = record {
-      among = subst (λ (ns : List (List ℕ)). AreAmong ns ys)
-          (sym (import_names bound global fields es)) h.among;
-    }
+    gap : Holds (space ∷ [])
+    gap = record { among = rw (is.gap (codes " ")) tt }
+
+    -- `const x = `
+    start_holds : (x : List ℕ) → OfName x → Holds (const_start x)
+    start_holds x d =
+        let word : Holds (const_word ∷ []) = record { among = rw (is.key 8) tt } in
+        merge word (merge gap (merge d.declared (merge gap (merge (mark 14) gap))))
+
+    -- `(args)`
+    passed_hold : (ps : List Plain) → Each OfPlain ps → Holds (in_parens (parts_of (terms ps)))
+    passed_hold ps h =
+        let names : Has kind is (listed (parts_of (terms ps))) (leaves_of (terms ps)) = listed_names kind is (terms ps) in
+        let inside : Holds (listed (parts_of (terms ps))) = record {
+          among = subst (λ (ns : List (List ℕ)). AreAmong ns ys) (sym names.same) (terms_hold ps h).among;
+        } in
+        merge (mark 2) (merge inside (mark 3))
+
+    call_holds : (global : List ℕ) (fields : List (List ℕ)) (ps : List Plain) → Holds (import_words global fields)
+        → Each OfPlain ps → Holds (import_call_words global fields (terms ps))
+    call_holds global fields ps f h = merge (merge f (passed_hold ps h)) (mark 8)
 
     held : IsRowwise (λ l. Holds (line_leaves l)) OfPlain OfName (λ s. Holds (outside_words s))
     held = record {
@@ -117,10 +118,9 @@ module _ (kind : Word → Option (List ℕ)) (is : IsKind kind) where
       ends = λ p h. plain_holds p h;
       export_runs = λ name n f args h. merge f (terms_hold args h);
       export_binds = λ name n f x d args h. merge d.declared (merge f (terms_hold args h));
-      import_runs = λ adapter n global fields f args h. import_holds None global fields (terms args)
+      import_runs = λ adapter n global fields f args h. call_holds global fields args f h;
+      import_binds = λ adapter n global fields f x d args h. merge (start_holds x d)
           (call_holds global fields args f h);
-      import_binds = λ adapter n global fields f x d args h. import_holds (Some x) global fields (terms args)
-          (merge d.declared (call_holds global fields args f h));
       takes = λ f x d p h. merge d.declared (merge f (terms_hold (p ∷ []) (h, tt)));
       borrows = λ f x d p h. merge d.declared (merge (split (w.Refer (codes "addBorrowedObject") false ∷ []) _ f).0
           (terms_hold (p ∷ []) (h, tt)));
@@ -181,12 +181,8 @@ outside_among kind outer steps params temps le =
 
 -- ---- locals
 
-props_local : (fields : List (List ℕ)) → local_in (map w.Prop fields) ≡ []
-props_local [] = refl
-props_local (field ∷ fields) = props_local fields
-
 outside_local : (s : Step) → local_in (outside_words s) ≡ []
-outside_local (CallImport adapter n has_result global fields) = props_local fields
+outside_local (CallImport adapter n has_result global fields) = (path_tells fields).locals
 outside_local other = refl
 
 steps_local : (steps : List Step) → local_in (outside_of steps) ≡ []
@@ -232,19 +228,19 @@ nested_declared (Cleanup l ∷ pieces) =
 terms_declare : (ps : List Plain) → local_bound_in (leaves_of (terms ps)) ≡ []
 terms_declare ps = terms_none local_bound_name (λ n. refl) ps
 
-props_declare : (fields : List (List ℕ)) → local_bound_in (map w.Prop fields) ≡ []
-props_declare [] = refl
-props_declare (field ∷ fields) = props_declare fields
+none_declared : (xs ys : List Word) → local_bound_in xs ≡ [] → local_bound_in ys ≡ [] → local_bound_in (xs ++ ys) ≡ []
+none_declared xs ys h k = two_declared xs ys ∙ ap (λ (ns : List (List ℕ)). ns ++ local_bound_in ys) h ∙ k
 
 -- the call of an import declares nothing but the local of its answer
 call_declares : (global : List ℕ) (fields : List (List ℕ)) (ps : List Plain)
     → local_bound_in (import_call_words global fields (terms ps)) ≡ []
 call_declares global fields ps =
-    import_names local_bound_name local_bound_kind None global fields (terms ps)
-    ∙ two_declared (leaves (chain (Outside global) fields)) (leaves_of (terms ps))
-    ∙ ap (λ (ns : List (List ℕ)). ns ++ local_bound_in (leaves_of (terms ps)))
-    (ap local_bound_in (chain_leaves (Outside global) fields) ∙ props_declare fields)
-    ∙ terms_declare ps
+    let args = listed (parts_of (terms ps)) in
+    let names : Has local_bound_name local_bound_kind args (leaves_of (terms ps)) =
+    listed_names local_bound_name local_bound_kind (terms ps) in
+    none_declared (import_words global fields ++ in_parens (parts_of (terms ps))) (semicolon ∷ [])
+    (none_declared (import_words global fields) (in_parens (parts_of (terms ps))) (path_tells fields).declares
+    (none_declared args (close_paren ∷ []) (names.same ∙ terms_declare ps) refl)) refl
 
 -- after words that declare nothing
 after_none : (xs : List Word) (ns ms : List (List ℕ)) → local_bound_in xs ≡ [] → ns ≡ ms → local_bound_in xs ++ ns ≡ ms

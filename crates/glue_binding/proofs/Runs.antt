@@ -5,7 +5,7 @@ use Rattle.std.specs.Bool.{Decides}
 use Rattle.std.specs.Cmp.Lexicographic.{pointwise}
 use Rattle.std.proofs.lemmas.Slice.Eq.{bytes_eq-Decides}
 use Rattle.values.specs.Lists.{IsIn, IsAway, AreDistinct}
-use Rattle.glue_tree.specs.Value.{Thing, Helper, OfExport, Value, Undefined, Null, Entry, Calls, CallsAdapter, Answer, Ran, Went, Threw, Ended, Act, goes_on, step, and_then_cleans, is_true, unsigned}
+use Rattle.values.specs.Value.{Thing, Helper, OfExport, Value, Undefined, Null, Entry, Calls, CallsAdapter, Answer, Ran, Went, Threw, Ended, Act, goes_on, step, and_then_cleans, is_true, unsigned}
 use Rattle.glue_tree.specs.Term.{Line, Fail, Lines, NoLines, AndLine}
 use Rattle.glue_tree.specs.TreeMeaning.{Locals, locals_of, value_in, if_true, value_of, values_of, unless_left, and_always, runs, tree_meaning}
 use Rattle.glue_steps.specs.Stack.{top, below, item_at, operands, without}

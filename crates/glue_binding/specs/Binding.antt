@@ -4,8 +4,9 @@ use Rattle.std.specs.FinSet as set
 use Rattle.std.specs.List.{list_all, flat_map}
 use Rattle.values.specs.Lists.{IsIn, AreDistinct, AreApart}
 use Rattle.glue_words.specs.Ident.{is_ident}
-use Rattle.glue_scope.specs.Scope.{Bound, AreDrawn, with_names}
-use Rattle.glue_tree.specs.Value.{Thing, Helper, Value, Answer}
+use Rattle.values.specs.TextSet.{TextSet, with_texts}
+use Rattle.glue_scope.specs.Scope.{AreDrawn}
+use Rattle.values.specs.Value.{Thing, Helper, Value, Answer}
 use Rattle.glue_tree.specs.Plainly.{plain_stmts}
 use Rattle.glue_tree.specs.TreeMeaning.{locals_of, tree_meaning}
 use Rattle.glue_tree.specs.Spelling.{function_words}
@@ -16,8 +17,8 @@ use Rattle.glue_binding.specs.Spelling.{tree_of, temporaries}
 use Rattle.glue_binding.specs.Outer.{outer_names}
 
 -- the scope that the parameters and temporaries are drawn in: it holds the names from outside
-abbrev pub outer_scope : List Step → Bound
-outer_scope steps = with_names set.empty (outer_names steps)
+abbrev pub outer_scope : List Step → TextSet
+outer_scope steps = with_texts set.empty (outer_names steps)
 
 -- each helper that the steps take is what its name stands for; the name of a helper is its key
 abbrev pub KnowsHelpers : List Step → (List ℕ → Thing) → Type 0

@@ -4,7 +4,8 @@ use Rattle.std.specs.List.{flat_map}
 use Rattle.glue_words.specs.declared.word.Word.{Word}
 use Rattle.glue_words.specs.declared.word.Word.TheVariants as w
 use Rattle.glue_words.specs.Ident.{numbered}
-use Rattle.glue_tree.specs.Value.{Value, Null, unsigned}
+use Rattle.glue_scope.specs.Properties.{property_parts}
+use Rattle.values.specs.Value.{Value, Null, unsigned}
 use Rattle.glue_tree.specs.TreeMeaning.{Locals, value_in}
 use Rattle.glue_tree.specs.declared.tree.Constant.TheVariants as constant
 use Rattle.glue_tree.specs.declared.tree.UnaryOperator.TheVariants as unary
@@ -12,7 +13,7 @@ use Rattle.glue_tree.specs.declared.tree.BinaryOperator.TheVariants as binary
 use Rattle.glue_tree.specs.Term.{Term, Lit, Const, Var, Name, Outside, Export, Index, Apply, One, Two, Terms, Line, Bind, Put, Run, When, Always, Fail, Leave, Inner, Lines, NoLines, AndLine}
 use Rattle.glue_tree.specs.Plainly.{terms_of}
 use Rattle.glue_tree.specs.Spelling.{in_parens, parts_of, const_start}
-use Rattle.glue_tree.specs.FixedWords.{dot, semicolon}
+use Rattle.glue_tree.specs.FixedWords.{semicolon}
 use Rattle.glue_steps.specs.Stack.{top, below, item_at, operands, without}
 use Rattle.glue_steps.specs.declared.step.Step.{Step}
 use Rattle.glue_steps.specs.declared.step.Step.TheVariants.{Parameter, Unchanged, CallExport, CallImport, ToUnsigned, TakeIndex, IndexFromBorrow, UnwrapResult}
@@ -59,11 +60,15 @@ export_call name args = Apply (Export name) (terms args)
 abbrev pub helper_call : (key : List ℕ) → Plain → Term
 helper_call key p = Apply (Name key) (terms (p ∷ []))
 
--- `global.field.field`
-abbrev pub import_words : (global : List ℕ) → (fields : List (List ℕ)) → List Word
-import_words global fields = w.Host global false ∷ flat_map (λ field. dot ∷ w.Prop field ∷ []) fields
+-- the accesses of properties, one after the other
+abbrev pub path_words : (fields : List (List ℕ)) → List Word
+path_words fields = flat_map property_parts fields
 
--- `global.field.field(args);`
+-- the host's name, and the properties that lead from it to a function
+abbrev pub import_words : (global : List ℕ) → (fields : List (List ℕ)) → List Word
+import_words global fields = w.Host global false ∷ path_words fields
+
+-- the call of that function: `(args);` behind these words
 abbrev pub import_call_words : (global : List ℕ) → (fields : List (List ℕ)) → (args : Terms) → List Word
 import_call_words global fields args = (import_words global fields ++ in_parens (parts_of args)) ++ semicolon ∷ []
 

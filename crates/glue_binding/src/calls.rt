@@ -28,7 +28,7 @@ pub fn call_export(
     alloc: Global,
     body: &mut Body,
     name: &Text,
-    params: u32,
+    params: usize,
     has_result: bool,
 ) -> Result<(), AllocError>
     ensures after { OnOk result (IsAfter (row_of (CallExport name.now params has_result) [] body.old) body.old body.new) }
@@ -67,7 +67,7 @@ pub fn call_import(
     alloc: Global,
     body: &mut Body,
     adapter: u32,
-    params: u32,
+    params: usize,
     has_result: bool,
     global: &Text,
     fields: &[Text],

@@ -1,7 +1,8 @@
 //! The names of a function: its parameters and temporaries, in a scope that holds the names from outside.
 ghost use Rattle.std.specs.Prelude.{◌≡◌, ◌++◌, ◌∷◌, [], ◌+◌, ◌-◌, ◌^◌, ◌<◌, ◌≤◌, IfOk, OnOk, codes};
 ghost use Rattle.glue_words.specs.Ident.{numbered};
-ghost use Rattle.glue_scope.specs.Scope.{AreDrawn, with_names};
+ghost use Rattle.values.specs.TextSet.{with_texts};
+ghost use Rattle.glue_scope.specs.Scope.{AreDrawn};
 ghost use Rattle.glue_binding.specs.Spelling as s;
 
 use glue_scope::Names;
@@ -16,7 +17,7 @@ pub fn draw<N: Names>(
     wanted: &[Text],
 ) -> Result<Seq<Text>, AllocError>
     ensures drawn { IfOk result (λ names. AreDrawn (N.bound scope.old) wanted.now names) }
-    ensures bound { IfOk result (λ names. N.bound scope.new ≡ with_names (N.bound scope.old) names) }
+    ensures bound { IfOk result (λ names. N.bound scope.new ≡ with_texts (N.bound scope.old) names) }
 {
     let mut names = Seq::new(alloc);
     for name in wanted {

@@ -1,25 +1,24 @@
 //! Words of calls of imports.
-ghost use Rattle.std.specs.Prelude.{◌≡◌, ◌++◌, ◌∷◌, [], IfOk, OnOk, Some, None};
+ghost use Rattle.std.specs.Prelude.{◌≡◌, ◌++◌, IfOk, OnOk};
+ghost use Rattle.glue_scope.specs.Properties.{property_parts};
 ghost use Rattle.glue_tree.specs.Plainly.{plain_exprs};
-ghost use Rattle.glue_tree.specs.FixedWords.{dot};
-ghost use Rattle.glue_words.specs.declared.word.Word.TheVariants as w;
 ghost use Rattle.glue_binding.specs.Spelling as s;
 
+use glue_scope::property_words;
 use glue_tree::{Expr, push_arguments, push_const};
 use glue_words::{Word, punct};
 use std::alloc::{AllocError, Global};
 use values::{Duplicate, Seq, Text};
 
-// `.field`
+// The access of the properties that a field names.
 fn push_field(alloc: Global, field: &Text, words: &mut Seq<Word>) -> Result<(), AllocError>
-    ensures words { OnOk result (words.new ≡ words.old ++ dot ∷ w.Prop field.now ∷ []) }
+    ensures words { OnOk result (words.new ≡ words.old ++ property_parts field.now) }
 {
-    words.push(Word::Punct(punct::DOT))?;
-    words.push(Word::Prop(field.copy(alloc)?))?;
-    Ok(())
+    let access = property_words(alloc, field.as_str())?;
+    words.append(Seq::from_vec(access))
 }
 
-// `global.field.field`
+// A name of the host, and the properties that lead from it to a function.
 fn push_import(
     alloc: Global,
     global: &Text,
@@ -35,7 +34,7 @@ fn push_import(
     Ok(())
 }
 
-// `global.field.field(args);`
+// `(args);` behind these words.
 fn push_call(
     alloc: Global,
     global: &Text,

@@ -1,6 +1,6 @@
 //! The names from outside, read off a first spelling.
 ghost use Rattle.std.specs.Prelude.{◌≡◌, OnOk};
-ghost use Rattle.glue_scope.specs.Scope.{with_names};
+ghost use Rattle.values.specs.TextSet.{with_texts};
 ghost use Rattle.glue_binding.specs.Outer.{outer_of, outer_list, outer_names};
 
 use crate::body::body_of;
@@ -13,7 +13,7 @@ use values::Seq;
 
 // Binds the name from outside that a word uses.
 fn reserve_word<N: Names>(scope: &mut N, word: &Word) -> Result<(), AllocError>
-    ensures bound { OnOk result (N.bound scope.new ≡ with_names (N.bound scope.old) (outer_of word.now)) }
+    ensures bound { OnOk result (N.bound scope.new ≡ with_texts (N.bound scope.old) (outer_of word.now)) }
 {
     match word {
         Word::Refer(name, _) => {
@@ -30,7 +30,7 @@ fn reserve_word<N: Names>(scope: &mut N, word: &Word) -> Result<(), AllocError>
 
 // Binds the names from outside that words use.
 fn reserve_words<N: Names>(scope: &mut N, words: &[Word]) -> Result<(), AllocError>
-    ensures bound { OnOk result (N.bound scope.new ≡ with_names (N.bound scope.old) (outer_list words.now)) }
+    ensures bound { OnOk result (N.bound scope.new ≡ with_texts (N.bound scope.old) (outer_list words.now)) }
 {
     for word in words {
         reserve_word(scope, word)?;
@@ -45,7 +45,7 @@ pub fn reserve_seed<N: Names>(
     scope: &mut N,
     steps: &[Step],
 ) -> Result<(), AllocError>
-    ensures bound { OnOk result (N.bound scope.new ≡ with_names (N.bound scope.old) (outer_names steps.now)) }
+    ensures bound { OnOk result (N.bound scope.new ≡ with_texts (N.bound scope.old) (outer_names steps.now)) }
 {
     let body = body_of(alloc, steps, &[], Seq::new(alloc))?;
     let words = function_words_of(alloc, &[], body.as_slice())?;

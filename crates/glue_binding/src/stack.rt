@@ -32,7 +32,7 @@ pub fn push(stack: &mut Seq<Operand>, operand: Operand) -> Result<(), AllocError
 pub fn pop_operands(
     alloc: Global,
     stack: &mut Seq<Operand>,
-    n: u32,
+    n: usize,
 ) -> Result<Vec<Operand>, AllocError>
     ensures operands { IfOk result (λ taken. map plain_operand taken.items
         ≡ s.operands Missing n (stack_of stack.old) []) }

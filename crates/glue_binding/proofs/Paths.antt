@@ -1,0 +1,217 @@
+-- The words of the fields that lead to a host's function: how they stand, and the names that they tell.
+use Rattle.std.proofs.Common.{◌≡◌, ℕ, List, [], ◌∷◌, ◌++◌, refl, ap, sym, ◌∙◌, subst, Bool, true, false, cond}
+use Rattle.std.proofs.lemmas.Bool.{and_parts}
+use Rattle.std.proofs.lemmas.List.Folds.{list_all-append}
+use Rattle.std.proofs.lemmas.List.Elements.{filter_map-append}
+use Rattle.std.specs.Prelude.{Option, Some, None, ◌&&◌, ◌==◌, filter}
+use Rattle.std.specs.List.{list_all, filter_map, flat_map, slice_split}
+use Rattle.glue_words.specs.declared.word.Word.{Word}
+use Rattle.glue_words.specs.declared.word.Word.TheVariants as w
+use Rattle.glue_words.specs.Ident.{is_ident}
+use Rattle.glue_words.specs.Limits.{is_computed}
+use Rattle.glue_words.specs.Tables.{punct_text}
+use Rattle.glue_words.specs.Names.{bound_name, used_name, hosted_name, local_name, local_bound_name, wasm_name, spliced_key, bound_in, used_in, hosted_in, local_in, local_bound_in, wasm_in, spliced_in}
+use Rattle.glue_words.specs.Spacing.{joins, first_word, each_next, begins_apart}
+use Rattle.glue_words.specs.Words.{line_feed}
+use Rattle.glue_words.proofs.Idents.{ident_prop}
+use Rattle.glue_words.proofs.Spaced.{first_word-append, each_next-append, each_next_both, all_both}
+use Rattle.glue_scope.specs.Properties.{segment_words, property_parts}
+use Rattle.glue_tree.specs.FixedWords.{open_paren, open_bracket, close_bracket, dot}
+use Rattle.glue_tree.proofs.Fit.{is_good, spaced, is_line}
+use Rattle.glue_tree.proofs.Functions.{bound_kind, used_kind, hosted_kind, local_kind, local_bound_kind, wasm_kind}
+use Rattle.glue_tree.proofs.Names.{IsKind}
+use Rattle.glue_binding.specs.Spelling.{path_words}
+
+and_true : (a b : Bool) → a ≡ true → b ≡ true → (a && b) ≡ true
+and_true a b h k = ap (λ x. x && b) h ∙ k
+
+-- ---- all fields at once
+
+-- a property of words with the computed keys among them, by the words of one access and by joined words
+record IsPathwise (P : List Word → List (List ℕ) → Type 0) : Type 0 where
+  none : P [] []
+  both : (xs ys : List Word) (keys others : List (List ℕ)) → P xs keys → P ys others → P (xs ++ ys) (keys ++ others)
+  named : (name : List ℕ) → is_ident name ≡ true → P (dot ∷ w.Prop name ∷ []) []
+  quoted : (text : List ℕ) → P (open_bracket ∷ w.Text text ∷ close_bracket ∷ []) []
+  spliced : (key : List ℕ) → is_computed key ≡ true → P (w.Splice key ∷ []) (key ∷ [])
+
+module _ (P : List Word → List (List ℕ) → Type 0) (is : IsPathwise P) where
+  segment_has : (name : List ℕ) → P (segment_words name) []
+  unfolding segment_words
+  segment_has name = by (is_ident name) refl
+    where
+      by : (b : Bool) → is_ident name ≡ b
+          → P (cond b (dot ∷ w.Prop name ∷ []) (open_bracket ∷ w.Text name ∷ close_bracket ∷ [])) []
+      by true h = is.named name h
+      by false h = is.quoted name
+
+  segments_have : (names : List (List ℕ)) → P (flat_map segment_words names) []
+  segments_have [] = is.none
+  segments_have (name ∷ names) = is.both (segment_words name) (flat_map segment_words names) [] [] (segment_has name)
+      (segments_have names)
+
+  first_has : (field : List ℕ) (words : List Word) (keys : List (List ℕ)) → P words keys
+      → P (property_parts field ++ words) (cond (is_computed field) (field ∷ keys) keys)
+  unfolding property_parts
+  first_has field words keys rest = by (is_computed field) refl
+    where
+      parts : List Word
+      parts = flat_map segment_words (slice_split (λ b. b == 46) field)
+
+      by : (b : Bool) → is_computed field ≡ b → P (cond b (w.Splice field ∷ []) parts ++ words)
+          (cond b (field ∷ keys) keys)
+      by true h = is.both (w.Splice field ∷ []) words (field ∷ []) keys (is.spliced field h) rest
+      by false h = is.both parts words [] keys (segments_have (slice_split (λ b. b == 46) field)) rest
+
+  path_has : (fields : List (List ℕ)) → P (path_words fields) (filter is_computed fields)
+  path_has [] = is.none
+  path_has (field ∷ fields) = first_has field (path_words fields) (filter is_computed fields) (path_has fields)
+
+-- ---- names
+
+-- words tell no names but these computed keys
+pub record TellsKeys (words : List Word) (keys : List (List ℕ)) : Type 0 where
+  pub binds : bound_in words ≡ []
+  pub uses : used_in words ≡ []
+  pub hosts : hosted_in words ≡ []
+  pub declares : local_bound_in words ≡ []
+  pub locals : local_in words ≡ []
+  pub takes : wasm_in words ≡ []
+  pub splices : spliced_in words ≡ keys
+  pub formed : list_all is_computed keys ≡ true
+
+joined_names : (kind : Word → Option (List ℕ)) (xs ys : List Word) (names others : List (List ℕ))
+    → filter_map kind xs ≡ names → filter_map kind ys ≡ others → filter_map kind (xs ++ ys) ≡ names ++ others
+joined_names kind xs ys names others h k =
+    filter_map-append kind xs ys
+    ∙ ap (λ (ns : List (List ℕ)). ns ++ filter_map kind ys) h
+    ∙ ap (λ (ns : List (List ℕ)). names ++ ns) k
+
+-- names of a kind that properties and computed keys have none of
+path_none : (kind : Word → Option (List ℕ)) → IsKind kind → ((name : List ℕ) → kind (w.Prop name) ≡ None)
+    → ((key : List ℕ) → kind (w.Splice key) ≡ None) → (fields : List (List ℕ)) → filter_map kind (path_words fields) ≡ []
+path_none kind is no_prop no_key fields = path_has (λ words keys. filter_map kind words ≡ []) (record {
+  none = refl;
+  both = λ xs ys keys others h k. joined_names kind xs ys [] [] h k;
+  named = λ name h. rw (is.punct 6, no_prop name) refl;
+  quoted = λ text. rw (is.punct 4, is.text text, is.punct 5) refl;
+  spliced = λ key h. rw (no_key key) refl;
+}) fields
+
+path_splices : (fields : List (List ℕ)) → spliced_in (path_words fields) ≡ filter is_computed fields
+path_splices fields = path_has (λ words keys. spliced_in words ≡ keys) (record {
+  none = refl;
+  both = λ xs ys keys others h k. joined_names spliced_key xs ys keys others h k;
+  named = λ name h. refl;
+  quoted = λ text. refl;
+  spliced = λ key h. refl;
+}) fields
+
+path_formed : (fields : List (List ℕ)) → list_all is_computed (filter is_computed fields) ≡ true
+path_formed fields = path_has (λ words keys. list_all is_computed keys ≡ true) (record {
+  none = refl;
+  both = λ xs ys keys others h k. list_all-append is_computed keys others ∙ and_true _ _ h k;
+  named = λ name h. refl;
+  quoted = λ text. refl;
+  spliced = λ key h. and_true _ _ h refl;
+}) fields
+
+-- the words of fields tell no names but the fields that are computed keys
+pub path_tells : (fields : List (List ℕ)) → TellsKeys (path_words fields) (filter is_computed fields)
+path_tells fields = record {
+  binds = path_none bound_name bound_kind (λ n. refl) (λ n. refl) fields;
+  uses = path_none used_name used_kind (λ n. refl) (λ n. refl) fields;
+  hosts = path_none hosted_name hosted_kind (λ n. refl) (λ n. refl) fields;
+  declares = path_none local_bound_name local_bound_kind (λ n. refl) (λ n. refl) fields;
+  locals = path_none local_name local_kind (λ n. refl) (λ n. refl) fields;
+  takes = path_none wasm_name wasm_kind (λ n. refl) (λ n. refl) fields;
+  splices = path_splices fields;
+  formed = path_formed fields;
+}
+
+-- ---- spacing
+
+-- what may follow a host's name, and each access of a property
+record MayFollow (next : Option Word) : Type 0 where
+  host : (name : List ℕ) → spaced (w.Host name false) next ≡ true
+  named : (name : List ℕ) → spaced (w.Prop name) next ≡ true
+  quoted : spaced close_bracket next ≡ true
+  spliced : (key : List ℕ) → spaced (w.Splice key) next ≡ true
+
+paren_follows : MayFollow (Some open_paren)
+unfolding joins punct_text
+paren_follows = record { host = λ name. refl; named = λ name. refl; quoted = refl; spliced = λ key. refl }
+
+bracket_follows : MayFollow (Some open_bracket)
+unfolding joins punct_text
+bracket_follows = record { host = λ name. refl; named = λ name. refl; quoted = refl; spliced = λ key. refl }
+
+dot_follows : MayFollow (Some dot)
+unfolding joins punct_text
+dot_follows = record { host = λ name. refl; named = λ name. refl; quoted = refl; spliced = λ key. refl }
+
+key_follows : (key : List ℕ) → MayFollow (Some (w.Splice key))
+key_follows key = record { host = λ name. refl; named = λ name. refl; quoted = refl; spliced = λ other. refl }
+
+-- words that stand between a host's name and what may follow it
+record StandsBetween (words : List Word) : Type 0 where
+  good : list_all is_good words ≡ true
+  front : (next : Option Word) → MayFollow next → MayFollow (first_word words next)
+  each : (next : Option Word) → MayFollow next → each_next spaced words next ≡ true
+
+standing : IsPathwise (λ words keys. StandsBetween words)
+standing = record {
+  none = record { good = refl; front = λ next f. f; each = λ next f. refl };
+  both = λ xs ys keys others h k. record {
+    good = all_both is_good xs ys h.good k.good;
+    front = λ next f. subst MayFollow (sym (first_word-append xs ys next)) (h.front (first_word ys next) (k.front next f));
+    each = λ next f. each_next_both spaced xs ys next (h.each (first_word ys next) (k.front next f)) (k.each next f);
+  };
+  named = λ name h. record {
+    good = ap (λ (b : Bool). (((b && true) && true) && true) && true) (ident_prop name h);
+    front = λ next f. dot_follows;
+    each = λ next f. and_true _ _ (f.named name) refl;
+  };
+  quoted = λ text. record {
+    good = refl;
+    front = λ next f. bracket_follows;
+    each = λ next f. and_true _ _ f.quoted refl;
+  };
+  spliced = λ key h. record {
+    good = ap (λ (b : Bool). ((b && true) && true) && true) h;
+    front = λ next f. key_follows key;
+    each = λ next f. and_true _ _ (f.spliced key) refl;
+  };
+}
+
+apart_alike : (front xs ys : List Word) (word : Word) → begins_apart (front ++ word ∷ xs) ≡ true
+    → begins_apart (front ++ word ∷ ys) ≡ true
+apart_alike [] xs ys word h = h
+apart_alike (first ∷ front) xs ys word h = h
+
+-- a line that calls a host's function by its name stands with fields behind the name
+pub line_with_path : (front rest : List Word) (global : List ℕ) (fields : List (List ℕ))
+    → is_line (front ++ w.Host global false ∷ open_paren ∷ rest) ≡ true
+    → is_line (front ++ w.Host global false ∷ (path_words fields ++ open_paren ∷ rest)) ≡ true
+line_with_path front rest global fields h =
+    let name = w.Host global false in
+    let behind = open_paren ∷ rest in
+    let path = path_words fields in
+    let between : StandsBetween path = path_has (λ words keys. StandsBetween words) standing fields in
+    let line = and_parts (list_all is_good (front ++ name ∷ behind)) _ h in
+    let good = and_parts (list_all is_good front) _ (sym (list_all-append is_good front (name ∷ behind)) ∙ line.0) in
+    let good_name = and_parts (is_good name) (list_all is_good behind) good.1 in
+    let stands = and_parts (each_next spaced (front ++ name ∷ behind) (Some line_feed)) _ line.1 in
+    let each = and_parts (each_next spaced front (Some name)) _
+    (sym (each_next-append spaced front (name ∷ behind) (Some line_feed)) ∙ stands.0) in
+    let each_name = and_parts (spaced name (Some open_paren)) (each_next spaced behind (Some line_feed)) each.1 in
+    let follows : MayFollow (first_word (path ++ behind) (Some line_feed)) = subst MayFollow
+    (sym (first_word-append path behind (Some line_feed))) (between.front (Some open_paren) paren_follows) in
+    and_true _ _
+    (all_both is_good front (name ∷ (path ++ behind)) good.0
+    (and_true _ _ good_name.0 (all_both is_good path behind between.good good_name.1)))
+    (and_true _ _
+    (each_next_both spaced front (name ∷ (path ++ behind)) (Some line_feed) each.0
+    (and_true _ _ (follows.host global)
+    (each_next_both spaced path behind (Some line_feed) (between.each (Some open_paren) paren_follows) each_name.1)))
+    (apart_alike front behind (path ++ behind) name stands.1))
