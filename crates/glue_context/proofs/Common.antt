@@ -10,15 +10,19 @@ pub use Rattle.std.specs.List.{AllByRecursion, list_all, list_any}
 pub use Rattle.std.specs.List.Sorted.{IsSortedByClosure}
 pub use Rattle.values.proofs.Members.{distinct_both, in_either, in_left, in_right}
 pub use Rattle.values.specs.Lists.{AreApart, AreDistinct, IsAway, IsIn}
-pub use Rattle.glue_check.proofs.Named.{IsNamed, steps_named}
+pub use Rattle.glue_check.specs.Unbuilt.{global_of}
+unfoldable pub use Rattle.glue_check.specs.Verdict.{unbuilt, verdict}
+pub use Rattle.glue_check.specs.declared.files.FileFlags.{FileFlags}
+pub use Rattle.glue_check.proofs.BuiltForm.{IsBuiltExport}
+pub use Rattle.glue_check.proofs.Called.{IsPath, IsThere, fields_of}
+pub use Rattle.glue_check.proofs.Steps.{HasSteps}
 pub use Rattle.glue_steps.specs.Exported.{export_name, export_names}
 pub use Rattle.glue_context.specs.Defined.{IsDefined, defined_by, defined_places}
 pub use Rattle.glue_context.specs.Edits.{AreFit, with_added, with_moved}
 pub use Rattle.glue_context.specs.Items.{IsArranged, IsDeclareItem, IsDefineItem, IsFunctionOf, IsGlue, Matches, Rises, all_items, declaration_back, declaration_front, default_names, definition_back, definition_front, export_order, is_bindable, is_definable, pair_name, pair_order}
 pub use Rattle.glue_context.specs.Linked.{IsLinked, IsPrescribed}
-pub use Rattle.glue_context.specs.Plain.{IsPlain, is_deno}
 pub use Rattle.glue_context.specs.Rewritten.{edits_of, move_of, rewritten}
-pub use Rattle.glue_shared.specs.Names.{described_hosts, entry_of, fixed_public, global_names, helper_names, import_names, is_direct, is_own, is_whole_name, js_import, live_count, names_of, own_place, own_places}
+pub use Rattle.glue_shared.specs.Names.{described_hosts, entry_of, fixed_public, global_names, helper_names, import_names, is_direct, is_own, is_one_of, is_whole_name, js_import, live_count, names_of, own_place, own_places}
 unfoldable pub use Rattle.glue_shared.specs.Names.{fixed_names, host_names, own_imports}
 pub use Rattle.glue_shared.specs.declared.aux.AuxExport.{AuxExport}
 pub use Rattle.glue_shared.specs.declared.description.Lowered.{Lowered}
@@ -29,7 +33,7 @@ pub use Rattle.glue_shared.specs.declared.settings.Settings.{Settings}
 pub use Rattle.glue_shared.specs.declared.settings.Target.TheVariants.{Deno}
 pub use Rattle.glue_steps.specs.Resolving.{adapter_steps, entry_at, is_some_item}
 pub use Rattle.glue_steps.specs.declared.step.Step.{Step}
-pub use Rattle.glue_steps.specs.declared.step.Step.TheVariants.{CallExport, CallImport, Parameter, Unchanged}
+pub use Rattle.glue_steps.specs.declared.step.Step.TheVariants.{CallExport, CallImport, Parameter, ToUnsigned, Unchanged}
 pub use Rattle.glue_targets.specs.Published.{IsPublished, fixed_by, fixed_published, is_exported, published_by, published_pairs}
 pub use Rattle.glue_targets.specs.Targets.{frame_end, frame_start, loading_item}
 pub use Rattle.glue_tree.proofs.Functions.{IsFrame}

@@ -6,4 +6,3 @@ pub mod Facts
 mod Fits
 mod Lists
 pub mod Made
-mod Own

@@ -1,12 +1,12 @@
 -- Lists: what tests say of their items, items with their counterparts, and the items of a description.
-use Rattle.glue_context.proofs.Common.{◌≡◌, ℕ, suc, ◌+◌, ◌<◌, ◌-◌, inl, inr, List, [], ◌∷◌, ◌++◌, length, map, get_or, Bool, true, false, refl, sym, ap, ◌∙◌, arith, not, codes, ◌||◌, list_all, list_any, flat_map, flat_map-append, or_parts, bytes_eq, bytes_eq-Decides, common_steps, IsIn, IsAway, AreDistinct, AreApart, Item, EachItem, AllItems, is_some_item, IsArranged, Matches, IsDeclareItem, IsDefineItem, IsGlue, all_items, default_names, Settings, ImportId, AuxExport, Lowered, frame_start, frame_end, loading_item, Ordering}
+use Rattle.glue_context.proofs.Common.{◌≡◌, ℕ, suc, ◌+◌, ◌<◌, ◌-◌, inl, inr, List, [], ◌∷◌, ◌++◌, length, map, get_or, Bool, true, refl, sym, ap, arith, codes, ◌||◌, list_all, list_any, flat_map, flat_map-append, is_one_of, bytes_eq, bytes_eq-Decides, common_steps, IsIn, IsAway, AreApart, Item, EachItem, AllItems, IsArranged, Matches, IsDeclareItem, IsDefineItem, IsGlue, all_items, default_names, Settings, ImportId, AuxExport, Lowered, frame_start, frame_end, loading_item, Ordering}
 use Rattle.std.specs.Bool.{Decides}
 use Rattle.std.specs.Fmt.{decimal}
-use Rattle.std.proofs.lemmas.Bool.Decides.{Decides-like, Decides-or, not_from_Decides}
+use Rattle.std.proofs.lemmas.Bool.Decides.{Decides-like, Decides-or}
 use Rattle.std.proofs.lemmas.List.{map-id}
 use Rattle.std.proofs.lemmas.List.Sums.{AllPass-from_list_all, list_all-from_AllPass}
 use Rattle.std.proofs.lemmas.List.Folds.{list_all-map}
-use Rattle.glue_check.specs.Check.{is_among}
+use Rattle.glue_context.specs.Edits.{has_start}
 use Rattle.glue_context.proofs.Arranged.{all_are, each_is, arranged_from}
 pub use Rattle.std.proofs.lemmas.Bool.{not-true as not_true}
 
@@ -23,10 +23,6 @@ module _ {A : Type 0} (test : A → Bool) where
   pub all_moved : {order : A → A → Ordering} (xs ys : List A) → IsArranged order xs ys → list_all test xs ≡ true → list_all test ys ≡ true
   all_moved xs ys a h = all_by ys (λ y k. all_in xs h y (arranged_from a y k))
 
-pub none_of : {A : Type 0} (xs : List A) → not (is_some_item xs) ≡ true → xs ≡ []
-none_of [] h = refl
-none_of (x ∷ xs) h = cc
-
 -- ---- what tests of equality find, among items that are looked at by a function
 
 module _ {A B : Type 0} (same : B → B → Bool) (decides : (x y : B) → Decides (same x y) (x ≡ y)) (look : A → B) where
@@ -34,18 +30,8 @@ module _ {A B : Type 0} (same : B → B → Bool) (decides : (x y : B) → Decid
   finds y [] = (λ h. absurd (cc), λ k. absurd k)
   finds y (x ∷ xs) = Decides-or (same (look x) y) _ (Decides-like (same (look x) y) sym sym (decides (look x) y)) (finds y xs)
 
-  -- where a test finds no double, items are distinct
-  pub distinct_by : (double : List A → Bool) → ((x : A) (xs : List A) → double (x ∷ xs) ≡ (list_any (λ y. same (look y) (look x)) xs || double xs))
-      → (xs : List A) → double xs ≡ false → AreDistinct (map look xs)
-  distinct_by double step [] h = tt
-  distinct_by double step (x ∷ xs) h =
-      let p = or_parts _ _ (sym (step x xs) ∙ h) in (not_from_Decides _ (finds (look x) xs) p.0, distinct_by double step xs p.1)
-
-pub among_is : (name : List ℕ) (names : List (List ℕ)) → is_among name names ≡ true → IsIn name names
+pub among_is : (name : List ℕ) (names : List (List ℕ)) → is_one_of names name ≡ true → IsIn name names
 among_is name names h = rw map-id at ((finds bytes_eq bytes_eq-Decides (λ n. n) name names).0 h)
-
-pub not_among : (name : List ℕ) (names : List (List ℕ)) → is_among name names ≡ false → IsAway name names
-not_among name names h = rw map-id at (not_from_Decides _ (finds bytes_eq bytes_eq-Decides (λ n. n) name names) h)
 
 pub apart_map : {A B : Type 0} (f : A → B) (xs : List A) (ys : List B) → ((x : A) → IsIn x xs → IsAway (f x) ys) → AreApart (map f xs) ys
 apart_map f [] ys h = tt
@@ -62,8 +48,7 @@ all_joined P [] ys h k = k
 all_joined P (x ∷ xs) ys h k = (h.0, all_joined P xs ys h.1 k)
 
 -- a fact that an item has wherever it stands
-pub each_any : (Q : List Item → Item → List Item → Type 0) (before items : List Item) → AllItems (λ item. (b a : List Item) → Q b item a) items
-    → EachItem Q before items
+pub each_any : (Q : List Item → Item → List Item → Type 0) (before items : List Item) → AllItems (λ item. (b a : List Item) → Q b item a) items → EachItem Q before items
 each_any Q before [] h = tt
 each_any Q before (item ∷ items) h = (h.0 before items, each_any Q (before ++ item ∷ []) items h.1)
 
@@ -102,12 +87,12 @@ pub ruleset name_steps = (common_steps, default_next)
 module _ {s : Settings} {l : Lowered} {items : List Item} (g : IsGlue s l items) where
   -- the items behind the definitions
   abbrev last : List Item
-  last = frame_end s.stem ∷ loading_item s.stem ∷ []
+  last = frame_end s.stem ∷ loading_item s.stem (has_start l.«module») ∷ []
 
   -- each item has a fact that each kind of item has
   pub each_item : (P : Item → Type 0) → ((e : AuxExport) (item : Item) → IsIn e l.aux.exports → IsDeclareItem l e item → P item)
       → ((pair : ImportId × ℕ) (item : Item) → IsIn pair l.wit.implements → IsDefineItem l pair item → P item)
-      → P (frame_start s.stem) → P (frame_end s.stem) → P (loading_item s.stem) → AllItems P (all_items s.stem g.declares g.defines)
+      → P (frame_start s.stem) → P (frame_end s.stem) → P (loading_item s.stem (has_start l.«module»)) → AllItems P (all_items s.stem (has_start l.«module») g.declares g.defines)
   each_item P a b start end loading =
       all_joined P g.declares (frame_start s.stem ∷ (g.defines ++ last))
       (matched (IsDeclareItem l) (λ es. AllItems P) g.exports g.declares g.declared tt (λ e item es js k x h. (a e item (arranged_from g.by_name e k) x, h))) (
@@ -121,7 +106,7 @@ module _ {s : Settings} {l : Lowered} {items : List Item} (g : IsGlue s l items)
   pub given : {B : Type 0} (give : Item → List B) (f : AuxExport → List B) (h : ImportId × ℕ → List B)
       → ((e : AuxExport) (item : Item) → IsDeclareItem l e item → give item ≡ f e)
       → ((pair : ImportId × ℕ) (item : Item) → IsIn pair l.wit.implements → IsDefineItem l pair item → give item ≡ h pair)
-      → flat_map give (all_items s.stem g.declares g.defines) ≡ flat_map f g.exports ++
+      → flat_map give (all_items s.stem (has_start l.«module») g.declares g.defines) ≡ flat_map f g.exports ++
       (give (frame_start s.stem) ++ (flat_map h g.pairs ++ flat_map give last))
   given give f h a b =
       let declares = matched (IsDeclareItem l) (λ es js. flat_map give js ≡ flat_map f es) g.exports g.declares g.declared refl

@@ -1,18 +1,18 @@
 -- What is made of a description that is checked: linked, defined and published.
-use Rattle.glue_context.proofs.Common.{◌≡◌, ℕ, zero, suc, inl, inr, List, [], ◌∷◌, ◌++◌, ◌==◌, map, true, false, refl, sym, ap, ◌∙◌, subst, arith, append-nil, codes, list_all, flat_map, and_parts, flat_map_single, bytes_eq, bytes_eq-Decides, IsPermutation-map, IsPermutation-sym, IsIn, IsAway, AreDistinct, AreAmong, AreApart, in_left, in_right, distinct_both, ImportId, Item, is_ident, AuxImport, JsImportName, HOSTS, TARGET_NAMES, bound_in, bound_names, Belongs, AuxExport, Settings, Lowered, own_imports, host_names, fixed_names, fixed_public, helper_names, import_names, live_count, global_names, described_hosts, names_of, js_import, IsGlue, all_items, rewritten, IsPlain, IsLinked, IsDefined, defined_by, defined_places, IsPublished, published_pairs, published_by, fixed_published, fixed_by, EachItem, IsExported, IsPrescribed, export_names}
+use Rattle.glue_context.proofs.Common.{◌≡◌, ℕ, zero, suc, ◌==◌, inl, inr, List, [], ◌∷◌, ◌++◌, map, Bool, true, false, None, refl, sym, ap, ◌∙◌, subst, arith, append-nil, codes, flat_map, flat_map_single, bytes_eq, bytes_eq-Decides, IsPermutation-map, IsPermutation-sym, IsIn, IsAway, AreDistinct, AreAmong, AreApart, in_left, in_right, distinct_both, ImportId, Item, AuxImport, HOSTS, TARGET_NAMES, bound_in, bound_names, Belongs, AuxExport, Settings, Lowered, host_names, fixed_names, fixed_public, helper_names, import_names, live_count, global_names, is_one_of, described_hosts, names_of, js_import, IsGlue, all_items, rewritten, IsLinked, IsDefined, defined_by, defined_places, IsPublished, published_pairs, published_by, fixed_published, fixed_by, EachItem, IsExported, IsPrescribed, export_names, FileFlags, unbuilt, verdict, IsBuiltExport}
 use Rattle.std.proofs.lemmas.{Bool.Decides.Decides-eqb, Fmt.decimal_digit}
-use Rattle.glue_shared.specs.declared.import.{AuxImport.TheVariants.Value, AuxValue.TheVariants.Bare, JsImportName.TheVariants.Global}
-use Rattle.glue_shared.specs.PublicTree.{PublicPair, public_tree, function_pair, fronts}
+use Rattle.glue_targets.specs.PublicTree.{PublicPair, public_tree, function_pair, fronts}
 use Rattle.glue_words.specs.declared.item.Thing.TheVariants.{Adapter}
-use Rattle.glue_words.proofs.{Among.among_itself, Among.among_right, Among.apart_both, Among.apart_joined, Among.apart_swap, Fitting.linked_by_words, Fitting.belongs_by_facts, Fitting.declared_are}
+use Rattle.glue_words.proofs.{Among.among_itself, Among.among_right, Among.among_trans, Among.apart_both, Among.apart_joined, Among.apart_swap, Fitting.linked_by_words, Fitting.belongs_by_facts, Fitting.declared_are}
 use Rattle.glue_targets.proofs.FixedTexts as fixed
-use Rattle.glue_check.specs.Check as check
+use Rattle.glue_check.proofs.Globals.{global_named}
+use Rattle.glue_context.specs.Edits.{has_start}
 use Rattle.glue_context.specs.Keys.{described_keys}
-use Rattle.glue_context.proofs.{Facts.Facts, Facts.names_of as public_names, Facts.places_of, Built.built, Arranged.arranged_from, Arranged.moved_from, Arranged.distinct_moved, Arranged.each_image, Fits.names_with, Fits.FitExport, Fits.fit_export, Fits.declare_belongs, Fits.declare_binds, Fits.declare_publishes, Fits.define_belongs, Fits.define_binds, Fits.define_exported, Lists.all_in, Lists.among_is, Lists.not_among, Lists.not_true, Lists.apart_map, Lists.flat_none, Lists.each_any, Lists.each_item, Lists.given, Own.found, Own.own_all, Own.own_among, Edited.moved_keeps, Edited.rewritten_exports}
+use Rattle.glue_context.proofs.{Facts.Facts, Facts.IsGlobal, Facts.names_of as public_names, Facts.places_of, Built.built, Arranged.arranged_from, Arranged.moved_from, Arranged.distinct_moved, Fits.names_with, Fits.declare_belongs, Fits.declare_binds, Fits.declare_publishes, Fits.define_belongs, Fits.define_binds, Fits.define_exported, Lists.all_in, Lists.among_is, Lists.apart_map, Lists.flat_none, Lists.each_any, Lists.each_item, Lists.given, Edited.moved_keeps, Edited.rewritten_exports}
 
 -- the three facts of items that a built description asks for
 pub record IsSound (s : Settings) (l : Lowered) (items : List Item) : Type 0 where
-  pub linked : IsLinked s (host_names s l.aux) (described_keys l.aux) (rewritten s l) items false
+  pub linked : IsLinked s (host_names s l.aux) (described_keys l.aux) (rewritten s l) items (has_start l.«module»)
   pub defined : IsDefined s l (rewritten s l) items
   pub published : IsPublished s l.aux (fixed_public s l.«module» l.wit l.aux) items
 
@@ -40,13 +40,18 @@ fixed_bound = codes "__wbg_get_imports" ∷ codes "import0" ∷ codes "wasmUrl" 
 fixed_apart : AreDistinct fixed_bound × AreApart fixed_bound (map (λ w. w.now) HOSTS)
 fixed_apart = grind arith
 
+-- loading uses what is declared there
+loading_within : (starts : Bool) → AreAmong (fixed.loading_uses starts) fixed_bound
+loading_within true = grind arith
+loading_within false = grind arith
+
 import0_in : (n : ℕ) → IsIn (codes "import0") (import_names n)
 import0_in zero = inl (ap (λ ds. codes "import" ++ ds) (sym (decimal_digit 0 (omega arith))))
 import0_in (suc n) = inr (import0_in n)
 
 module _ (s : Settings) (l : Lowered) (items : List Item) (b : Facts s l) (g : IsGlue s l items) where
   abbrev all : List Item
-  all = all_items s.stem g.declares g.defines
+  all = all_items s.stem (has_start l.«module») g.declares g.defines
 
   public_distinct : AreDistinct (public_names g.exports)
   public_distinct = distinct_moved bytes_eq bytes_eq-Decides (public_names l.aux.exports) (public_names g.exports)
@@ -59,52 +64,48 @@ module _ (s : Settings) (l : Lowered) (items : List Item) (b : Facts s l) (g : I
       let names = codes "import0" ∷ fixed_names s l.«module» in
       let numbered = in_right (codes "import0") (map (λ w. w.now) TARGET_NAMES) _ (in_right (codes "import0") (helper_names l.«module») _
       (in_left (codes "import0") _ (global_names s.target) (import0_in (live_count l.«module».imports)))) in
-      elim (among_is name names (all_in (λ n. check.is_among n names) fixed_bound refl name k))
+      elim (among_is name names (all_in (is_one_of names) fixed_bound refl name k))
       [ inl same ↦ away (subst (λ (n : List ℕ). IsIn n (fixed_names s l.«module»)) (sym same) numbered) | inr there ↦ away there ]
 
   -- nor is what described globals bring
-  global_apart : (n : JsImportName) → check.is_free_global s l n ≡ true → AreApart (described_hosts false n) fixed_bound
-  global_apart (Global g) h = (no_bound g (not_among g (fixed_names s l.«module») (not_true _ (and_parts (is_ident g) _ h).1)), tt)
-  global_apart other h = cc
-
-  described_apart : (entries : List (ℕ × AuxImport)) → list_all (λ (e : ℕ × AuxImport). check.is_global_import s l e.1) entries ≡ true
+  described_apart : (entries : List (ℕ × AuxImport)) → ((e : ℕ × AuxImport) → IsIn e entries → IsGlobal s l e.1)
       → AreApart (flat_map (described_hosts false) (flat_map (λ (e : ℕ × AuxImport). names_of (js_import e.1)) entries)) fixed_bound
   described_apart [] h = tt
-  described_apart ((place, Value (Bare j)) ∷ entries) h =
-      let p = and_parts (check.is_free_global s l j.name) _ h in
-      apart_both (described_hosts false j.name) _ fixed_bound (global_apart j.name p.0) (described_apart entries p.1)
-  described_apart (other ∷ entries) h = cc
+  described_apart (e ∷ entries) h =
+      let g = h e (inl refl) in
+      rw (global_named e.1 g.name g.is) (apart_both (g.name ∷ []) _ fixed_bound (no_bound g.name g.apart, tt) (described_apart entries (λ x k. h x (inr k))))
 
   hosts_are : host_names s l.aux
       ≡ map (λ w. w.now) HOSTS ++ flat_map (described_hosts false) (flat_map (λ (e : ℕ × AuxImport). names_of (js_import e.1)) l.aux.imports)
   unfolding host_names
   hosts_are = rw (b.deno, b.kept, b.reexports) (simp append-nil)
 
-  linked : IsLinked s (host_names s l.aux) (described_keys l.aux) (rewritten s l) all false
+  linked : IsLinked s (host_names s l.aux) (described_keys l.aux) (rewritten s l) all (has_start l.«module»)
   linked =
       let names = public_names g.exports in
-      let c = names_with s l (described_keys l.aux) (names ++ fixed_bound) in
+      let starts = has_start l.«module» in
+      let c = names_with s l (names ++ fixed_bound) in
       let bound : bound_names all ≡ c.declared = declared_are all
       ∙ given g (λ item. bound_in item.words) (λ e. e.name ∷ []) (λ pair. []) (declare_binds s l) (λ pair item k. define_binds s l pair item)
       ∙ simp (flat_map_single, flat_none, fixed.start_bound, fixed.end_bound, fixed.loading_bound) in
       let there = among_right fixed_bound names fixed_bound (among_itself fixed_bound) in
       let known : AreAmong (codes "URL" ∷ codes "WebAssembly" ∷ codes "fetch" ∷ []) c.hosts = rw hosts_are (grind arith) in
-      let fit : (e : AuxExport) → IsIn e l.aux.exports → FitExport s l e = λ e k. fit_export s l e (all_in _ _ b.exports_fit e k) in
-      let public : (ys : List (List ℕ)) → ((e : AuxExport) → FitExport s l e → IsAway e.name ys) → AreApart names ys =
-      λ ys away. apart_map (λ (e : AuxExport). e.name) g.exports ys (λ e k. away e (fit e (arranged_from g.by_name e k))) in
+      let public : (ys : List (List ℕ)) → ((e : AuxExport) → IsBuiltExport s l e → IsAway e.name ys) → AreApart names ys =
+      λ ys away. apart_map (λ (e : AuxExport). e.name) g.exports ys (λ e k. away e (b.exports e (arranged_from g.by_name e k))) in
       let outside : AreApart fixed_bound c.hosts =
       rw hosts_are (apart_joined fixed_bound (map (λ w. w.now) HOSTS) _ fixed_apart.1 (apart_swap _ fixed_bound (described_apart l.aux.imports b.globals))) in
       let k = linked_by_words c all (sym bound)
       (each_item g (λ item. Belongs c item.words)
-      (λ e item k x. declare_belongs s l e item x c.keys c.declared there.1.1.1.1.1.0 (fit e k))
-      (λ pair item k x. define_belongs s l pair item x c.keys c.declared (all_in _ _ b.imports_fit pair k))
+      (λ e item k x. declare_belongs s l e item x c.declared there.1.1.1.1.1.0 (b.exports e k) (b.export_steps e k))
+      (λ pair item k x. define_belongs s l pair item x c.declared there.1.1.1.1.1.0 (b.pair_steps pair k))
       (belongs_by_facts c _ (fixed.start_fits c s.stem))
       (belongs_by_facts c _ (fixed.end_fits c s.stem there.1.0))
-      (belongs_by_facts c _ (fixed.loading_fits c s.stem (assumption there) known)))
+      (belongs_by_facts c _ (fixed.loading_fits c s.stem starts (among_trans (fixed.loading_uses starts) fixed_bound c.declared (loading_within starts) there) known
+      (among_right (fixed.call_takes starts) (export_names l.«module») (fixed.call_takes starts) (among_itself (fixed.call_takes starts))))))
       (rw bound (distinct_both names fixed_bound public_distinct fixed_apart.0 (public fixed_bound (λ e f. no_bound e.name f.no_fixed))))
       (rw bound (apart_both names fixed_bound c.hosts (public c.hosts (λ e f. f.no_host)) outside)) in
       let exported : EachItem (IsExported (export_names (rewritten s l))) [] all = rw (rewritten_exports s l) at k.exported in
-      let prescribed : EachItem (IsPrescribed s false) [] all = each_any _ [] all (each_item g _
+      let prescribed : EachItem (IsPrescribed s starts) [] all = each_any _ [] all (each_item g _
       (λ e item k x before after. rw x.is tt) (λ pair item k x before after. rw x.is tt)
       (λ before after. rw b.deno (inl refl)) (λ before after. rw b.deno (inr (inl refl))) (λ before after. rw b.deno (inl refl))) in
       assumption (k, exported, prescribed)
@@ -117,10 +118,8 @@ module _ (s : Settings) (l : Lowered) (items : List Item) (b : Facts s l) (g : I
       ∙ simp (flat_none, flat_map_single, append-nil) in
       let moved = IsPermutation-map place_of l.wit.implements g.pairs g.by_import.same in
       record {
-        only = λ place h. each_image place_of (λ place. IsIn place (own_imports s l.«module» l.wit l.aux)) g.pairs (λ pair k.
-            own_all s l b.globals pair.0.0 (found s l pair (all_in _ _ b.imports_fit pair (arranged_from g.by_import pair k)))) place (rw places at h);
-        all = λ place h. rw places (moved_from (places_of g.pairs) _ (IsPermutation-sym _ _ moved) place
-            (own_among s l (places_of l.wit.implements) b.implemented place h));
+        only = λ place h. b.own place (moved_from (places_of l.wit.implements) _ moved place (rw places at h));
+        all = λ place h. rw places (moved_from (places_of g.pairs) _ (IsPermutation-sym _ _ moved) place (b.paired place h));
         once = rw places (distinct_moved ◌==◌ Decides-eqb (places_of l.wit.implements) (places_of g.pairs) moved b.places);
         functions = each_any _ [] all (each_item g _
             (λ e item h x before after. rw x.is (record
@@ -131,20 +130,19 @@ module _ (s : Settings) (l : Lowered) (items : List Item) (b : Facts s l) (g : I
       }
 
   -- each export is a function of the top level
-  functions : (es : List AuxExport) → list_all (check.is_fit_export s l) es ≡ true
-      → flat_map (λ (e : AuxExport). function_pair e.kind e) es ≡ map pair_of es
+  functions : (es : List AuxExport) → ((e : AuxExport) → IsIn e es → IsBuiltExport s l e) → flat_map (λ (e : AuxExport). function_pair e.kind e) es ≡ map pair_of es
   functions [] h = refl
-  functions (e ∷ es) h = let rest = functions es in grind arith
+  functions (e ∷ es) h = let k = h e (inl refl) in rw (k.function, k.top, functions es (λ x i. h x (inr i))) refl
 
   published : IsPublished s l.aux (fixed_public s l.«module» l.wit l.aux) all
   published =
       let tree : public_tree s l.aux ≡ map pair_of l.aux.exports =
-      rw (b.structs, b.enums, b.reexports, b.no_reset, functions l.aux.exports b.exports_fit) (simp (append-nil, no_fronts)) in
+      rw (b.structs, b.enums, b.reexports, b.no_reset, functions l.aux.exports b.exports) (simp (append-nil, no_fronts)) in
       let pairs : published_pairs all ≡ map pair_of g.exports =
       given g published_by (λ e. pair_of e ∷ []) (λ pair. []) (declare_publishes s l) (λ pair item k x. rw x.is)
       ∙ simp (flat_none, flat_map_single, append-nil) in
       let none : fixed_published all ≡ [] = given g fixed_by (λ e. []) (λ pair. []) (λ e item x. rw x.is)
-      (λ pair item k x. rw (define_exported s l pair item x [] [] (all_in _ _ b.imports_fit pair k)) (rw x.is))
+      (λ pair item k x. rw (define_exported s l pair item x (b.pair_steps pair k)) (rw x.is))
       ∙ simp (flat_none, fixed.start_fixed, fixed.end_fixed, fixed.loading_fixed) in
       let moved = IsPermutation-map pair_of l.aux.exports g.exports g.by_name.same in
       record {
@@ -161,5 +159,5 @@ module _ (s : Settings) (l : Lowered) (items : List Item) (b : Facts s l) (g : I
   pub sound_by_facts : IsSound s l items
   sound_by_facts = rw g.all (record { linked = linked; defined = defined; published = published })
 
-pub sound : (s : Settings) (l : Lowered) (items : List Item) → IsPlain s → check.is_built s l ≡ true → IsGlue s l items → IsSound s l items
-sound s l items plain h = sound_by_facts s l items (built s l plain h)
+pub sound : (f : FileFlags) (s : Settings) (l : Lowered) (items : List Item) → unbuilt f s l ≡ None → verdict s l ≡ None → IsGlue s l items → IsSound s l items
+sound f s l items whole passed = sound_by_facts s l items (built f s l whole passed)

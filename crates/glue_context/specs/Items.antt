@@ -26,6 +26,7 @@ use Rattle.glue_words.specs.Words.{space, line_feed}
 use Rattle.glue_words.specs.declared.punct.TheConstants as punct
 use Rattle.glue_words.specs.declared.key.TheConstants as key
 use Rattle.glue_targets.specs.Targets.{frame_start, frame_end, loading_item}
+use Rattle.glue_context.specs.Edits.{has_start}
 
 -- each of the first list has its counterpart at the same place of the second
 abbrev pub Matches : {A B : Type 0} → (A → B → Type 0) → List A → List B → Type 0
@@ -140,13 +141,14 @@ abbrev pub pair_order : Lowered → ImportId × ℕ → ImportId × ℕ → Orde
 pair_order l a b = ordering_then (text_order (pair_name l a) (pair_name l b)) (nat_cmp a.1 b.1)
 
 -- the items by groups, in the order in which they are printed: the declarations of exports, the frame's start, the definitions of
--- imports, the frame's end, and loading
-abbrev pub item_groups : List ℕ → List Item → List Item → List (List Item)
-item_groups stem declares defines = declares ∷ (frame_start stem ∷ []) ∷ defines ∷ (frame_end stem ∷ []) ∷ (loading_item stem ∷ []) ∷ []
+-- imports, the frame's end, and loading, by whether the module has a start function
+abbrev pub item_groups : List ℕ → Bool → List Item → List Item → List (List Item)
+item_groups stem starts declares defines =
+    declares ∷ (frame_start stem ∷ []) ∷ defines ∷ (frame_end stem ∷ []) ∷ (loading_item stem starts ∷ []) ∷ []
 
 -- all of them, one group behind the other
-abbrev pub all_items : List ℕ → List Item → List Item → List Item
-all_items stem declares defines = flat_map (λ (group : List Item). group) (item_groups stem declares defines)
+abbrev pub all_items : List ℕ → Bool → List Item → List Item → List Item
+all_items stem starts declares defines = flat_map (λ (group : List Item). group) (item_groups stem starts declares defines)
 
 -- the items that settings and a description ask for: the declarations stand by name, the definitions by the import's name and then
 -- by the adapter's id
@@ -159,4 +161,4 @@ pub record IsGlue (settings : Settings) (l : Lowered) (items : List Item) : Type
   pub defines : List Item
   pub declared : Matches (IsDeclareItem l) exports declares
   pub defined : Matches (IsDefineItem l) pairs defines
-  pub all : items ≡ all_items settings.stem declares defines
+  pub all : items ≡ all_items settings.stem (has_start l.«module») declares defines

@@ -46,7 +46,14 @@ abbrev pub member_name : Option (List ℕ) → AuxExport → List (List ℕ)
 member_name None e = []
 member_name (Some class) e = e.name ∷ []
 
--- the computed keys among the properties of imports and re-exports and the names of members
+-- the properties that imports name
+abbrev pub imported_properties : WasmBindgenAux → List (List ℕ)
+imported_properties aux = flat_map (λ e. import_properties e.1) aux.imports
+
+-- those that re-exports name, and the names of members
+abbrev pub other_properties : WasmBindgenAux → List (List ℕ)
+other_properties aux = flat_map (λ (r : _). r.1.fields) aux.reexports ++ flat_map (λ e. member_name e.class e) aux.exports
+
+-- the computed keys among them
 abbrev pub described_keys : WasmBindgenAux → List (List ℕ)
-described_keys aux = filter is_computed
-    (flat_map (λ e. import_properties e.1) aux.imports ++ (flat_map (λ (r : _). r.1.fields) aux.reexports ++ flat_map (λ e. member_name e.class e) aux.exports))
+described_keys aux = filter is_computed (imported_properties aux ++ other_properties aux)

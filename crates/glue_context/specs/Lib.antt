@@ -3,5 +3,4 @@ pub mod Edits
 pub mod Items
 pub mod Keys
 pub mod Linked
-pub mod Plain
 pub mod Rewritten

@@ -1,5 +1,5 @@
 -- The module that is written: what is changed in the collected one is told by settings and description.
-use Rattle.std.specs.Prelude.{ℕ, List, [], ◌++◌, codes, false, Option, None, option_map, filter_map}
+use Rattle.std.specs.Prelude.{ℕ, List, [], ◌++◌, codes, Option, None, option_map, filter_map}
 use Rattle.wasm_core.specs.ids.ImportId.{ImportId}
 use Rattle.wasm_core.specs.Contents.{Contents}
 use Rattle.wasm_core.specs.declared.types.Import.{Import}
@@ -8,7 +8,7 @@ use Rattle.glue_shared.specs.declared.description.Lowered.{Lowered}
 use Rattle.glue_shared.specs.Names.{own_imports}
 use Rattle.glue_steps.specs.Resolving.{entry_at}
 use Rattle.glue_context.specs.declared.edits.Edits.{Edits}
-use Rattle.glue_context.specs.Edits.{edited}
+use Rattle.glue_context.specs.Edits.{has_start, edited}
 
 -- the module that own imports move to
 abbrev pub glue_module : List ℕ → List ℕ
@@ -18,13 +18,13 @@ glue_module stem = codes "./" ++ (stem ++ codes "_bg.js")
 abbrev pub move_of : List ℕ → List (Option Import) → ℕ → Option (ImportId × List ℕ × List ℕ)
 move_of stem imports place = option_map (λ (i : Import). (record { 0 = place }, glue_module stem, i.name)) (entry_at imports place)
 
--- what is changed: own imports move to the glue file's module
+-- what is changed: own imports move to the glue file's module, and a start function becomes an export
 abbrev pub edits_of : Settings → Lowered → Edits
 edits_of settings l = record {
   imports = filter_map (move_of settings.stem l.«module».imports) (own_imports settings l.«module» l.wit l.aux);
   exports = [];
   shim = None;
-  start = false;
+  start = has_start l.«module»;
 }
 
 -- the module that is written

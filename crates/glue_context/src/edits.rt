@@ -1,6 +1,6 @@
 //! What is changed in the collected module: one value, the call that makes it, and the call that carries it out.
 ghost use Rattle.std.specs.Prelude.{◌≡◌, ◌++◌, ◌∷◌, [], true, option_map, filter_map, map, IfOk, OnOk, Some};
-ghost use Rattle.wasm_core.specs.declared.types.Import.{Import as Entry};
+ghost use Rattle.wasm_core.specs.declared.types.Import as declared;
 ghost use Rattle.glue_shared.specs.Names.{own_imports};
 ghost use Rattle.glue_steps.specs.Resolving.{entry_at};
 ghost use Rattle.glue_context.specs.Edits as spec;
@@ -51,7 +51,7 @@ fn glue_module_name(alloc: Global, stem: &str) -> Result<Text, AllocError>
 
 // The name of the import at a place, where one stands there.
 fn import_name(alloc: Global, module: &Module, place: ImportId) -> Result<Option<Text>, AllocError>
-    ensures name { IfOk result (λ name. name ≡ option_map (λ (i : Entry). i.name) (entry_at «module».now.imports place.0)) }
+    ensures name { IfOk result (λ name. name ≡ option_map (λ (i : declared.Import). i.name) (entry_at «module».now.imports place.0)) }
 {
     match module.imports().get(place.0 as usize) {
         Some(Some(import)) => Ok(Some(import.name.copy(alloc)?)),
@@ -106,6 +106,16 @@ fn move_imports(
     Ok(moves)
 }
 
+/// Whether the module has a start function, and it stands.
+pub(crate) fn has_start(module: &Module) -> bool
+    ensures test { result ≡ spec.has_start «module».now }
+{
+    match module.start() {
+        Some(start) => matches!(module.funcs().get(start.0 as usize), Some(Some(_))),
+        None => false,
+    }
+}
+
 /// What settings and a description ask to be changed in the collected module. Want of memory is the only error.
 pub fn edits_of(alloc: Global, settings: &Settings, lowered: &Lowered) -> Result<Edits, AllocError>
     ensures edits { IfOk result (λ edits. edits ≡ edits_of settings.now lowered.now) }
@@ -128,7 +138,7 @@ pub fn edits_of(alloc: Global, settings: &Settings, lowered: &Lowered) -> Result
         imports,
         exports: Seq::new(alloc),
         shim: None,
-        start: false,
+        start: has_start(&lowered.module),
     })
 }
 

@@ -5,10 +5,11 @@ ghost use Rattle.std.specs.List.{list_all};
 ghost use Rattle.glue_steps.specs.Resolving as resolving;
 ghost use Rattle.glue_context.specs.Items as spec;
 
+use crate::edits::has_start;
 use glue_binding::bind;
 use glue_scope::Names;
 use glue_shared::{AdapterId, AuxExport, Lowered, Settings};
-use glue_steps::{Step, adapter_steps};
+use glue_steps::{Indexed, Step, adapter_steps};
 use glue_targets::{frame_end, frame_start, loading_item};
 use glue_tree::JsFunction;
 use glue_words::{Item, Role, Thing, Word, WordBuilder, key, punct};
@@ -97,11 +98,11 @@ fn argument_count(lowered: &Lowered, id: AdapterId) -> usize
 }
 
 // The steps of an adapter that is known to have some.
-fn known_steps(alloc: Global, lowered: &Lowered, id: AdapterId) -> Result<Seq<Step>, AllocError>
-    requires told { is_some (resolving.adapter_steps lowered.now id) ≡ true }
-    ensures steps { IfOk result (λ steps. resolving.adapter_steps lowered.now id ≡ Some steps) }
+fn known_steps(alloc: Global, indexed: &Indexed<'_>, id: AdapterId) -> Result<Seq<Step>, AllocError>
+    requires told { is_some (resolving.adapter_steps indexed.now id) ≡ true }
+    ensures steps { IfOk result (λ steps. resolving.adapter_steps indexed.now id ≡ Some steps) }
 {
-    match adapter_steps(alloc, lowered, id)? {
+    match adapter_steps(alloc, indexed, id)? {
         Some(steps) => Ok(steps),
         None => unreachable!(),
     }
@@ -110,15 +111,15 @@ fn known_steps(alloc: Global, lowered: &Lowered, id: AdapterId) -> Result<Seq<St
 // The function of an adapter.
 fn adapter_function<N: Names>(
     alloc: Global,
-    lowered: &Lowered,
+    indexed: &Indexed<'_>,
     id: AdapterId,
     names: &Seq<Text>,
 ) -> Result<JsFunction, AllocError>
-    requires told { is_some (resolving.adapter_steps lowered.now id) ≡ true }
-    ensures function { IfOk result (λ function. spec.IsFunctionOf lowered.now id names.now function) }
+    requires told { is_some (resolving.adapter_steps indexed.now id) ≡ true }
+    ensures function { IfOk result (λ function. spec.IsFunctionOf indexed.now id names.now function) }
 {
-    let steps = known_steps(alloc, lowered, id)?;
-    let wanted = wanted_names(alloc, names, argument_count(lowered, id))?;
+    let steps = known_steps(alloc, indexed, id)?;
+    let wanted = wanted_names(alloc, names, argument_count(indexed.lowered(), id))?;
     let function = bind::<N>(alloc, steps.as_slice(), wanted.as_slice())?;
     Ok(function)
 }
@@ -133,13 +134,13 @@ fn words_of(function: JsFunction) -> Seq<Word>
 // The item of an export.
 fn declare_export<N: Names>(
     alloc: Global,
-    lowered: &Lowered,
+    indexed: &Indexed<'_>,
     export: &AuxExport,
 ) -> Result<Item, AllocError>
-    requires bindable { spec.is_bindable lowered.now export.now ≡ true }
-    ensures item { IfOk result (λ item. spec.IsDeclareItem lowered.now export.now item) }
+    requires bindable { spec.is_bindable indexed.now export.now ≡ true }
+    ensures item { IfOk result (λ item. spec.IsDeclareItem indexed.now export.now item) }
 {
-    let function = adapter_function::<N>(alloc, lowered, export.adapter, &export.args)?;
+    let function = adapter_function::<N>(alloc, indexed, export.adapter, &export.args)?;
     let item = declare_function(alloc, export.adapter, &export.name, words_of(function))?;
     Ok(item)
 }
@@ -147,16 +148,16 @@ fn declare_export<N: Names>(
 // The definition of an import by an adapter.
 fn define_by<N: Names>(
     alloc: Global,
-    lowered: &Lowered,
+    indexed: &Indexed<'_>,
     pair: &(ImportId, AdapterId),
     import: &Import,
 ) -> Result<Item, AllocError>
-    requires stands { spec.import_at lowered.now pair.now ≡ Some import.now }
-    requires told { is_some (resolving.adapter_steps lowered.now pair.now.1) ≡ true }
-    ensures item { IfOk result (λ item. spec.IsDefineItem lowered.now pair.now item) }
+    requires stands { spec.import_at indexed.now pair.now ≡ Some import.now }
+    requires told { is_some (resolving.adapter_steps indexed.now pair.now.1) ≡ true }
+    ensures item { IfOk result (λ item. spec.IsDefineItem indexed.now pair.now item) }
 {
     let none = Seq::new(alloc);
-    let function = adapter_function::<N>(alloc, lowered, pair.1, &none)?;
+    let function = adapter_function::<N>(alloc, indexed, pair.1, &none)?;
     let item = define_function(alloc, pair.0, &import.name, words_of(function))?;
     Ok(item)
 }
@@ -164,14 +165,14 @@ fn define_by<N: Names>(
 // The item of an import that stands, and of its adapter.
 fn define_import<N: Names>(
     alloc: Global,
-    lowered: &Lowered,
+    indexed: &Indexed<'_>,
     pair: &(ImportId, AdapterId),
 ) -> Result<Item, AllocError>
-    requires definable { spec.is_definable lowered.now pair.now ≡ true }
-    ensures item { IfOk result (λ item. spec.IsDefineItem lowered.now pair.now item) }
+    requires definable { spec.is_definable indexed.now pair.now ≡ true }
+    ensures item { IfOk result (λ item. spec.IsDefineItem indexed.now pair.now item) }
 {
-    match lowered.module.imports().get(pair.0.0 as usize) {
-        Some(Some(import)) => define_by::<N>(alloc, lowered, pair, import),
+    match indexed.lowered().module.imports().get(pair.0.0 as usize) {
+        Some(Some(import)) => define_by::<N>(alloc, indexed, pair, import),
         _ => unreachable!(),
     }
 }
@@ -228,15 +229,15 @@ fn pairs_by_import(
 #[tactic(auto, using(crate::proofs::Lists::item_steps))]
 fn declare_exports<N: Names>(
     alloc: Global,
-    lowered: &Lowered,
+    indexed: &Indexed<'_>,
     exports: &[&AuxExport],
 ) -> Result<Seq<Item>, AllocError>
-    requires bindable { list_all (spec.is_bindable lowered.now) (map (λ e. e.now) exports.now) ≡ true }
-    ensures items { IfOk result (λ items. spec.Matches (spec.IsDeclareItem lowered.now) (map (λ e. e.now) exports.now) items) }
+    requires bindable { list_all (spec.is_bindable indexed.now) (map (λ e. e.now) exports.now) ≡ true }
+    ensures items { IfOk result (λ items. spec.Matches (spec.IsDeclareItem indexed.now) (map (λ e. e.now) exports.now) items) }
 {
     let mut items = Seq::new(alloc);
     for export in exports {
-        items.push(declare_export::<N>(alloc, lowered, export)?)?;
+        items.push(declare_export::<N>(alloc, indexed, export)?)?;
     }
     Ok(items)
 }
@@ -245,15 +246,15 @@ fn declare_exports<N: Names>(
 #[tactic(auto, using(crate::proofs::Lists::item_steps))]
 fn define_imports<N: Names>(
     alloc: Global,
-    lowered: &Lowered,
+    indexed: &Indexed<'_>,
     pairs: &[(ImportId, AdapterId)],
 ) -> Result<Seq<Item>, AllocError>
-    requires definable { list_all (spec.is_definable lowered.now) pairs.now ≡ true }
-    ensures items { IfOk result (λ items. spec.Matches (spec.IsDefineItem lowered.now) pairs.now items) }
+    requires definable { list_all (spec.is_definable indexed.now) pairs.now ≡ true }
+    ensures items { IfOk result (λ items. spec.Matches (spec.IsDefineItem indexed.now) pairs.now items) }
 {
     let mut items = Seq::new(alloc);
     for pair in pairs {
-        items.push(define_import::<N>(alloc, lowered, pair)?)?;
+        items.push(define_import::<N>(alloc, indexed, pair)?)?;
     }
     Ok(items)
 }
@@ -289,10 +290,11 @@ pub fn glue_items<N: Names>(
 {
     let exports = exports_by_name(alloc, lowered.aux.exports.as_slice())?;
     let pairs = pairs_by_import(alloc, lowered)?;
-    let declares = declare_exports::<N>(alloc, lowered, exports.as_slice())?;
+    let indexed = Indexed::new(alloc, lowered)?;
+    let declares = declare_exports::<N>(alloc, &indexed, exports.as_slice())?;
     let start = frame_start(alloc, settings)?;
-    let defines = define_imports::<N>(alloc, lowered, pairs.as_slice())?;
+    let defines = define_imports::<N>(alloc, &indexed, pairs.as_slice())?;
     let end = frame_end(alloc, settings)?;
-    let loading = loading_item(alloc, settings)?;
+    let loading = loading_item(alloc, settings, has_start(&lowered.module))?;
     put_together(declares, start, defines, end, loading)
 }

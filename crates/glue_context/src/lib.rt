@@ -6,8 +6,9 @@
 //! (`proofs/Built.antt`). The proofs show the theorem `sound` (`proofs/Made.antt`): the items that a built description asks for are
 //! linked with the module that is written (`specs/Linked.antt`), define each own import once by its adapter's function
 //! (`specs/Defined.antt`), and publish exactly the described tree. `edits_of` tells what is changed in the collected module, as one
-//! value, and `apply_edits` changes exactly that (`edited` of `specs/Edits.antt`); the module that is written is that one
-//! (`rewritten` of `specs/Rewritten.antt`). The theorem rests on facts of a description, however it was checked (`sound_by_facts`,
+//! value: own imports move to the glue file's module, and a start function becomes an export, which loading calls. `apply_edits`
+//! changes exactly that (`edited` of `specs/Edits.antt`); the module that is written is that one (`rewritten` of
+//! `specs/Rewritten.antt`). The theorem rests on facts of a description, however it was checked (`sound_by_facts`,
 //! `proofs/Facts.antt`): items of which each belongs into the file are linked, where their names are declared once and are no host's.
 //! The names that proofs here cite come from `proofs/Common.antt`.
 //!

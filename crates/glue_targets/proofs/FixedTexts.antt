@@ -1,5 +1,5 @@
 -- What the fixed texts of Deno hold and publish, and where they fit, whatever the stem is.
-use Rattle.std.proofs.Common.{◌≡◌, ℕ, inl, inr, List, [], ◌∷◌, ◌++◌, refl, true, false, ap, subst}
+use Rattle.std.proofs.Common.{◌≡◌, ℕ, inl, inr, Bool, List, [], ◌∷◌, ◌++◌, refl, true, false, ap, subst}
 use Rattle.std.specs.Prelude.{codes, is_ok}
 use Rattle.values.specs.Lists.{IsIn}
 use Rattle.glue_words.specs.declared.item.Item.{Item}
@@ -10,7 +10,7 @@ use Rattle.glue_words.proofs.Belonging.{Context}
 use Rattle.glue_words.proofs.Fitting.{Fits}
 use Rattle.glue_words.specs.Linking.{AreAmong}
 use Rattle.glue_marked.specs.Marked.{read_marked}
-use Rattle.glue_words.specs.Names.{bound_in, used_in, hosted_in}
+use Rattle.glue_words.specs.Names.{bound_in, used_in, hosted_in, wasm_in}
 use Rattle.glue_marked.specs.Reads.{words_in}
 use Rattle.glue_marked.proofs.Reading.{reading}
 use Rattle.glue_marked.proofs.StandIns.{renamed_text_fits}
@@ -36,7 +36,25 @@ pub loading_reads : is_ok (read_marked deno.LOADING.now) ≡ true
 unfolding reading
 loading_reads = refl
 
--- ---- the names that they declare and use
+pub call_reads : is_ok (read_marked deno.START_CALL.now) ≡ true
+unfolding reading
+call_reads = refl
+
+-- ---- the names that they declare and use, and the exports that they take
+
+-- what the call of the start function uses, and the export that it takes
+abbrev pub call_uses : Bool → List (List ℕ)
+call_uses true = codes "wasm" ∷ []
+call_uses false = []
+
+abbrev pub call_takes : Bool → List (List ℕ)
+call_takes true = codes "__wbindgen_start" ∷ []
+call_takes false = []
+
+-- what loading uses, with that call or without it
+abbrev pub loading_uses : Bool → List (List ℕ)
+loading_uses starts =
+    codes "wasmUrl" ∷ codes "__wbg_get_imports" ∷ codes "wasmInstantiated" ∷ codes "wasmInstance" ∷ call_uses starts
 
 module _ (stem : List ℕ) where
   pub start_bound : bound_in (frame_start stem).words ≡ codes "__wbg_get_imports" ∷ codes "import0" ∷ []
@@ -63,19 +81,27 @@ module _ (stem : List ℕ) where
   unfolding reading
   end_hosted = refl
 
-  pub loading_bound : bound_in (loading_item stem).words
+  pub loading_bound : (starts : Bool) → bound_in (loading_item stem starts).words
       ≡ codes "wasmUrl" ∷ codes "wasmInstantiated" ∷ codes "wasmInstance" ∷ codes "wasm" ∷ []
   unfolding reading
-  loading_bound = refl
+  loading_bound false = refl
+  loading_bound true = refl
 
-  pub loading_used : used_in (loading_item stem).words
-      ≡ codes "wasmUrl" ∷ codes "__wbg_get_imports" ∷ codes "wasmInstantiated" ∷ codes "wasmInstance" ∷ []
+  pub loading_used : (starts : Bool) → used_in (loading_item stem starts).words ≡ loading_uses starts
   unfolding reading
-  loading_used = refl
+  loading_used false = refl
+  loading_used true = refl
 
-  pub loading_hosted : hosted_in (loading_item stem).words ≡ codes "URL" ∷ codes "WebAssembly" ∷ codes "fetch" ∷ []
+  pub loading_hosted : (starts : Bool) → hosted_in (loading_item stem starts).words
+      ≡ codes "URL" ∷ codes "WebAssembly" ∷ codes "fetch" ∷ []
   unfolding reading
-  loading_hosted = refl
+  loading_hosted false = refl
+  loading_hosted true = refl
+
+  pub loading_taken : (starts : Bool) → wasm_in (loading_item stem starts).words ≡ call_takes starts
+  unfolding reading
+  loading_taken false = refl
+  loading_taken true = refl
 
 -- ---- they publish nothing
 
@@ -102,16 +128,18 @@ module _ (stem : List ℕ) where
   unfolding reading
   end_fixed = refl
 
-  pub loading_exported : is_exported (loading_item stem) ≡ false
+  pub loading_exported : (starts : Bool) → is_exported (loading_item stem starts) ≡ false
   unfolding reading
-  loading_exported = refl
+  loading_exported false = refl
+  loading_exported true = refl
 
-  pub loading_publishes : published_by (loading_item stem) ≡ []
-  loading_publishes = refl
+  pub loading_publishes : (starts : Bool) → published_by (loading_item stem starts) ≡ []
+  loading_publishes starts = refl
 
-  pub loading_fixed : fixed_by (loading_item stem) ≡ []
+  pub loading_fixed : (starts : Bool) → fixed_by (loading_item stem starts) ≡ []
   unfolding reading
-  loading_fixed = refl
+  loading_fixed false = refl
+  loading_fixed true = refl
 
 frame_assigns : (t : Target) (stem : List ℕ) (text : FixedText) → t ≡ target.Deno → IsIn text (frame_texts t stem)
     → text.assigns ≡ []
@@ -127,7 +155,8 @@ loading_assigns : (t : Target) (stem : List ℕ) (text : FixedText) → t ≡ ta
 loading_assigns t stem text e h =
     elim (subst (λ (u : Target). IsIn text (loading_texts u stem false ++ loading_texts u stem true)) e h) [
       | inl same ↦ ap (λ (x : FixedText). x.assigns) same
-      | inr none ↦ absurd none
+      | inr (inl same) ↦ ap (λ (x : FixedText). x.assigns) same
+      | inr (inr none) ↦ absurd none
     ]
 
 text_assigns : (s : Settings) (r : Role) (text : FixedText) → s.target ≡ target.Deno → IsIn text (texts_of s r)
@@ -141,7 +170,7 @@ pub nothing_assigned : (s : Settings) (items : List Item) (name : List ℕ) → 
     → IsAssigned s items name → ⊥
 nothing_assigned s items name e a = subst (IsIn name) (text_assigns s a.item.role a.text e a.known) a.assigns
 
--- ---- they fit where the names that they use are declared, and those of the host known
+-- ---- they fit where the names that they use are declared, and those of the host and the exports that they take known
 
 module _ (c : Context) (stem : List ℕ) where
   pub start_fits : Fits c (facts (frame_start stem).words)
@@ -156,12 +185,13 @@ module _ (c : Context) (stem : List ℕ) where
       renamed_text_fits c (words_in deno.FRAME_END.now) [] (file_names stem) refl
       (record { idents = refl; no_locals = tt; no_module = tt; marked = refl }) (object, tt) tt tt
 
-  pub loading_fits :
-      AreAmong (codes "wasmUrl" ∷ codes "__wbg_get_imports" ∷ codes "wasmInstantiated" ∷ codes "wasmInstance" ∷ [])
-      c.declared
+  pub loading_fits : (starts : Bool) → AreAmong (loading_uses starts) c.declared
       → AreAmong (codes "URL" ∷ codes "WebAssembly" ∷ codes "fetch" ∷ []) c.hosts
-      → Fits c (facts (loading_item stem).words)
+      → AreAmong (call_takes starts) c.exports → Fits c (facts (loading_item stem starts).words)
   unfolding reading
-  loading_fits declared hosts =
+  loading_fits false declared hosts exports =
       renamed_text_fits c (words_in deno.LOADING.now) [] (file_names stem) refl
-      (record { idents = refl; no_locals = tt; no_module = tt; marked = refl }) declared hosts tt
+      (record { idents = refl; no_locals = tt; no_module = tt; marked = refl }) declared hosts exports
+  loading_fits true declared hosts exports =
+      renamed_text_fits c (words_in deno.LOADING.now ++ words_in deno.START_CALL.now) [] (file_names stem) refl
+      (record { idents = refl; no_locals = tt; no_module = tt; marked = refl }) declared hosts exports

@@ -1,9 +1,8 @@
 -- Items that are refused, each beside items that are right.
 use Rattle.std.proofs.Common.{◌≡◌, ℕ, inl, inr, List, [], ◌∷◌, ◌++◌, refl, Bool, true, false, true≢false}
 use Rattle.std.proofs.Common.{ap, sym, ◌∙◌, subst}
-use Rattle.std.specs.Prelude.{◌⊎◌, Option, Some, None, codes, bytes_eq}
+use Rattle.std.specs.Prelude.{◌⊎◌, Option, Some, None, codes, bytes_eq, map}
 use Rattle.std.specs.List.{list_any, flat_map}
-use Rattle.std.specs.Str.{chars}
 use Rattle.values.specs.Lists.{IsIn}
 use Rattle.glue_words.specs.declared.word.Word.{Word}
 use Rattle.glue_words.specs.declared.word.Word.TheVariants as w
@@ -13,11 +12,10 @@ use Rattle.glue_words.specs.declared.item.Item.{Item}
 use Rattle.glue_words.specs.declared.item.Thing.TheVariants as thing
 use Rattle.glue_words.specs.declared.item.Role.{Role}
 use Rattle.glue_words.specs.declared.item.Role.TheVariants as role
-use Rattle.glue_words.specs.Ident.{is_ident}
 use Rattle.glue_marked.specs.Reads.{words_in}
 use Rattle.glue_words.specs.Names.{bound_in, hosted_in}
-use Rattle.glue_words.specs.Tables.{punct_text, key_text}
-use Rattle.glue_words.specs.Words.{text_of, space}
+use Rattle.glue_words.specs.Tables.{key_text}
+use Rattle.glue_words.specs.Words.{text_of, space, access}
 use Rattle.glue_words.proofs.Computing.{spelling}
 use Rattle.glue_marked.proofs.Reading.{reading}
 use Rattle.glue_shared.specs.declared.aux.WasmBindgenAux.{WasmBindgenAux}
@@ -30,6 +28,7 @@ use Rattle.glue_targets.specs.Published.{IsImportBound, IsNamed, Enters, IsVendo
 use Rattle.glue_targets.specs.Published.{fixed_published}
 use Rattle.glue_targets.specs.RoleWords.{role_words, clause_words, publish_texts, root_words, inner_texts, roots_of}
 use Rattle.glue_targets.specs.RoleWords.{statement_end}
+use Rattle.glue_targets.specs.Targets.{FixedText, loading_texts}
 
 -- ---- an inner namespace: `||=` below a re-exported root, `=` below one of the glue file's own
 
@@ -381,3 +380,32 @@ assigned_right : (settings : Settings) → is_one_of (codes "ns.f = f1;\n")
     ≡ true
 unfolding spelling
 assigned_right settings = refl
+
+-- ---- loading calls the start function exactly where the module has one
+
+-- what loading of Deno may be, for the stem `out`
+abbrev loading_words : Bool → Option (List (List Word))
+loading_words starts = Some (map (λ (text : FixedText). text.words) (loading_texts target.Deno (codes "out") starts))
+
+-- loading of the module, and then these lines
+abbrev loading_and : List ℕ → List ℕ
+loading_and lines =
+    codes "const wasmUrl = new URL(\"out_bg.wasm\", import.meta.url);\n"
+    ++ (codes "const wasmInstantiated = await WebAssembly.instantiateStreaming(fetch(wasmUrl), __wbg_get_imports());\n"
+    ++ (codes "const wasmInstance = wasmInstantiated.instance;\nconst wasm = wasmInstance.exports;\n" ++ lines))
+
+call_right : is_one_of (loading_and (codes "wasm.__wbindgen_start();\n")) (loading_words true) ≡ true
+unfolding spelling reading key_text access
+call_right = refl
+
+call_refused : is_one_of (loading_and (codes "wasm.__wbindgen_start();\n")) (loading_words false) ≡ false
+unfolding spelling reading key_text access
+call_refused = refl
+
+no_call_right : is_one_of (loading_and []) (loading_words false) ≡ true
+unfolding spelling reading key_text access
+no_call_right = refl
+
+no_call_refused : is_one_of (loading_and []) (loading_words true) ≡ false
+unfolding spelling reading key_text access
+no_call_refused = refl

@@ -1,3 +1,4 @@
+pub mod PublicTree
 pub mod Published
 pub mod RoleWords
 pub mod Targets

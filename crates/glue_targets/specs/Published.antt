@@ -24,7 +24,7 @@ use Rattle.glue_shared.specs.declared.import.JsImportName.TheVariants.{Global, M
 use Rattle.glue_shared.specs.declared.import.JsImportName.TheVariants.{VendorPrefixed}
 use Rattle.glue_shared.specs.declared.settings.Settings.{Settings}
 use Rattle.glue_shared.specs.Names.{described_hosts}
-use Rattle.glue_shared.specs.PublicTree.{PublicPair, public_tree}
+use Rattle.glue_targets.specs.PublicTree.{PublicPair, public_tree}
 use Rattle.glue_targets.specs.Targets.{FixedText, frame_texts, loading_texts}
 
 -- a declaration is exported where it has the keyword

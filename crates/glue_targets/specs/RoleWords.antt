@@ -18,7 +18,7 @@ use Rattle.glue_words.specs.Words.{space, line_feed}
 use Rattle.glue_shared.specs.declared.settings.Target.{Target}
 use Rattle.glue_shared.specs.declared.settings.Target.TheVariants as target
 use Rattle.glue_shared.specs.declared.settings.Settings.{Settings}
-use Rattle.glue_shared.specs.PublicTree.{Path}
+use Rattle.glue_shared.specs.Paths.{Path}
 use Rattle.glue_targets.specs.Targets.{frame_texts, loading_texts}
 use Rattle.glue_targets.specs.Published.{is_exported}
 

@@ -1,5 +1,5 @@
--- The texts of a target that are the same in every call, but for the names of files.
-use Rattle.std.specs.Prelude.{ℕ, Bool, false, List, [], ◌∷◌, ◌++◌, codes}
+-- The texts of a target, which depend on the names of files and on whether the module has a start function.
+use Rattle.std.specs.Prelude.{ℕ, Bool, true, false, List, [], ◌∷◌, ◌++◌, codes}
 use Rattle.glue_words.specs.declared.word.Word.{Word}
 use Rattle.glue_words.specs.declared.item.Item.{Item}
 use Rattle.glue_words.specs.declared.item.Role.TheVariants.{Fixed, Loading}
@@ -31,9 +31,14 @@ frame_start stem = record { role = Fixed; words = fixed_words stem deno.FRAME_ST
 abbrev pub frame_end : List ℕ → Item
 frame_end stem = record { role = Fixed; words = fixed_words stem deno.FRAME_END.now }
 
--- loading
-abbrev pub loading_item : List ℕ → Item
-loading_item stem = record { role = Loading; words = fixed_words stem deno.LOADING.now }
+-- the call of the start function, where the module has one
+abbrev pub start_call : Bool → List Word
+start_call true = words_in deno.START_CALL.now
+start_call false = []
+
+-- loading, and behind it that call
+abbrev pub loading_item : List ℕ → Bool → Item
+loading_item stem starts = record { role = Loading; words = fixed_words stem deno.LOADING.now ++ start_call starts }
 
 -- ---- the texts of each target
 
@@ -51,7 +56,7 @@ abbrev pub frame_texts : Target → List ℕ → List FixedText
 frame_texts target.Deno stem = plain_text (frame_start stem) ∷ plain_text (frame_end stem) ∷ []
 frame_texts t stem = []
 
--- the texts of loading on a target, for whether a start function was moved
+-- the texts of loading on a target, for whether the module has a start function
 abbrev pub loading_texts : Target → List ℕ → Bool → List FixedText
-loading_texts target.Deno stem false = plain_text (loading_item stem) ∷ []
-loading_texts t stem has_start = []
+loading_texts target.Deno stem starts = plain_text (loading_item stem starts) ∷ []
+loading_texts t stem starts = []

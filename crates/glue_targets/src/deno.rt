@@ -27,3 +27,8 @@ const b@wasmInstantiated = await g@WebAssembly.instantiateStreaming(g@fetch(n@wa
 const b@wasmInstance = n@wasmInstantiated.instance;
 const b@wasm = n@wasmInstance.exports;
 ";
+
+/// The last line of loading, where the module has a start function: it is called.
+pub const START_CALL: &str = "\
+n@wasm.w@__wbindgen_start();
+";

@@ -63,12 +63,25 @@ pub fn frame_end(alloc: Global, settings: &Settings) -> Result<Item, AllocError>
     })
 }
 
-/// The item that loads the module.
-#[tactic(auto, using(crate::proofs::FixedTexts::loading_reads))]
-pub fn loading_item(alloc: Global, settings: &Settings) -> Result<Item, AllocError>
-    ensures item { IfOk result (λ item. item ≡ spec.loading_item settings.now.stem) }
+// The call of the start function, where the module has one.
+#[tactic(auto, using(crate::proofs::FixedTexts::call_reads))]
+fn start_call(alloc: Global, starts: bool) -> Result<Seq<Word>, AllocError>
+    ensures words { IfOk result (λ words. words ≡ spec.start_call starts) }
 {
-    let words = fixed_words(alloc, settings.stem.as_str(), deno::LOADING)?;
+    if starts {
+        shipped(alloc, deno::START_CALL)
+    } else {
+        Ok(Seq::new(alloc))
+    }
+}
+
+/// The item that loads the module, and calls its start function where it has one.
+#[tactic(auto, using(crate::proofs::FixedTexts::loading_reads))]
+pub fn loading_item(alloc: Global, settings: &Settings, starts: bool) -> Result<Item, AllocError>
+    ensures item { IfOk result (λ item. item ≡ spec.loading_item settings.now.stem starts) }
+{
+    let mut words = fixed_words(alloc, settings.stem.as_str(), deno::LOADING)?;
+    words.append(start_call(alloc, starts)?)?;
     Ok(Item {
         role: Role::Loading,
         words,

@@ -4,10 +4,10 @@ use Rattle.glue_context.proofs.items.glue_items.Goals as goal
 
 pub declare_exports-requires : goal.declare_exports-requires
 declare_exports-requires g c = record {
-  bindable = rw c.as_slice-2.ensures.value (all_moved (is_bindable c.args.lowered.now) c.as_slice.result.now _ c.in_ok-exports.ensures.sorted (rw c.as_slice.ensures c.requires.bindable));
+  bindable = rw (c.in_ok-indexed.ensures.same, c.as_slice-2.ensures.value) (all_moved (is_bindable c.args.lowered.now) c.as_slice.result.now _ c.in_ok-exports.ensures.sorted (rw c.as_slice.ensures c.requires.bindable));
 }
 
 pub define_imports-requires : goal.define_imports-requires
 define_imports-requires g c = record {
-  definable = rw c.as_slice-3.ensures.value (all_moved (is_definable c.args.lowered.now) c.args.lowered.now.wit.implements _ c.in_ok-pairs.ensures.sorted c.requires.definable);
+  definable = rw (c.in_ok-indexed.ensures.same, c.as_slice-3.ensures.value) (all_moved (is_definable c.args.lowered.now) c.args.lowered.now.wit.implements _ c.in_ok-pairs.ensures.sorted c.requires.definable);
 }
