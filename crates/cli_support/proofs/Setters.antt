@@ -6,7 +6,7 @@ use Rattle.std.proofs.result.Result.TheLaws as result_laws
 use seplogic.Ra.Ura.{Ura}
 use base.Logic.{SProp, id⊢, ent}
 use base.Fml.{Lft, ftrue, flft}
-use mir.Syntax.{named, erased, Ty, ty_unit, ty_bool, Home, Local, local, value_local, memory_slot, assign, addr_of, deref, seq, call, copy, place, return, fn₀, Body, Fn, Callee}
+use mir.Syntax.{named, erased, Ty, ty_unit, ty_bool, Local, local, value_local, assign, addr_of, deref, seq, call, copy, place, return, Fn, Callee}
 use contract.Lifetimes.{Lfts}
 use contract.Monad.{fact}
 use contract.Running.{Running, MachineTables, tables}

@@ -1,16 +1,18 @@
 -- What is set for a call, its input, and what setters set.
-use Rattle.std.specs.Prelude.{ℕ, Bool, true, false, not, ◌||◌, List, [], Option, Some, None, codes}
+use Rattle.std.specs.Prelude.{ℕ, Bool, true, false, not, ◌||◌, List, [], Option, Some, None}
 use Rattle.wasm_core.specs.declared.types.ParseConfig.{ParseConfig}
 use Rattle.glue_shared.specs.declared.settings.Settings.{Settings}
 use Rattle.glue_shared.specs.declared.settings.Target.{Target}
 use Rattle.glue_shared.specs.declared.settings.Target.TheVariants as target
 use Rattle.glue_shared.specs.declared.settings.EncodeInto.{EncodeInto}
 use Rattle.glue_shared.specs.declared.settings.EncodeInto.TheVariants as encode
+use Rattle.glue_check.specs.declared.files.FileFlags.{FileFlags}
 use Rattle.cli_support.specs.declared.bindgen.Flags.{Flags}
+use Rattle.cli_support.specs.declared.bindgen.Handed.{Handed}
 
--- the name that the files begin with, and a module's bytes
+-- the name that the files begin with, and what was handed in under it: a module's bytes, a module, or none any more where a call took it
 abbrev pub Input : Type 0
-Input = List ℕ × List ℕ
+Input = List ℕ × Handed
 
 -- what the setters have set, and the input
 pub record Configured : Type 0 where
@@ -80,6 +82,14 @@ settings_of c stem = record {
   reset_state = c.flags.reset_state;
   force_abort = c.flags.force_abort;
 }
+
+-- the settings of a call, for files that begin with the name of the input
+abbrev pub call_settings : Configured → Settings
+call_settings c = settings_of c (stem_of c.input)
+
+-- what is set that decides on files
+abbrev pub file_flags : Flags → FileFlags
+file_flags flags = record { split_debug_info = flags.split_debug_info; demangle = flags.demangle }
 
 -- how a byte input is read and written: debug sections where they are kept or split off, names and producers unless they are left out
 abbrev pub reading : Flags → ParseConfig

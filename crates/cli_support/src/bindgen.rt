@@ -6,6 +6,7 @@ use glue_shared::{EncodeInto, Settings, Target};
 use std::alloc::{AllocError, Global};
 use std::marker::Model;
 use values::{Duplicate, Seq, Text};
+use wasm_core::Module;
 
 /// No input was handed in.
 #[derive(Clone, Copy, Debug, PartialEq, Eq)]
@@ -35,6 +36,15 @@ pub(crate) struct Flags {
     pub(crate) force_abort: bool,
 }
 
+/// What was handed in as a module.
+#[derive(Drop)]
+pub(crate) enum Handed {
+    /// The module's bytes.
+    Bytes(Seq<u8>),
+    /// The module itself, and none where a call took it.
+    Module(Option<Module>),
+}
+
 /// What is set for the next call, and its input.
 #[derive(Drop)]
 pub struct Bindgen {
@@ -43,8 +53,8 @@ pub struct Bindgen {
     pub(crate) encode_into: EncodeInto,
     pub(crate) out_name: Option<Text>,
     pub(crate) debug_info_url: Option<Text>,
-    /// The name that the files begin with, and a module's bytes.
-    pub(crate) input: Option<(Text, Seq<u8>)>,
+    /// The name that the files begin with, and what was handed in under it.
+    pub(crate) input: Option<(Text, Handed)>,
 }
 
 impl Model for Bindgen {
@@ -124,7 +134,7 @@ impl Bindgen {
 
     // The settings of a call.
     pub(crate) fn settings(&self, alloc: Global) -> Result<Settings, AllocError>
-        ensures settings { IfOk result (λ settings. settings ≡ spec.settings_of self.now (spec.stem_of self.now.input)) }
+        ensures settings { IfOk result (λ settings. settings ≡ spec.call_settings self.now) }
     {
         Ok(Settings {
             stem: self.stem_copy(alloc)?,

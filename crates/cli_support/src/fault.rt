@@ -1,5 +1,5 @@
-//! Why nothing is made, and why nothing is set.
-use std::alloc::{AllocError, AllocFailed};
+//! Why nothing is set.
+use std::alloc::AllocError;
 use thiserror::Error;
 use values::Text;
 
@@ -23,24 +23,6 @@ pub enum SetFault {
     OutOfMemory,
 }
 
-/// Why a call of the generator makes nothing.
-#[derive(Debug, PartialEq, Eq, Drop)]
-pub enum Fault {
-    /// No input was handed in.
-    NoInput,
-    /// The name of the files is empty, or holds anything beside ASCII letters, digits, `_`, `-` and `.`.
-    BadStem,
-    /// The input is no module; `place` is the offset of the first fault, in bytes.
-    Parse { place: u64 },
-    /// The lowering gives no description.
-    Lower,
-    /// What is asked for isn't built yet: the `target`, `imports`, `settings` or `files` that are asked for, or the form of the
-    /// `description`.
-    NotBuilt { what: Text },
-    /// Memory ran out.
-    OutOfMemory,
-}
-
 impl From<AllocError> for SetFault {
     ghost use Rattle.std.specs.Prelude.{◌≡◌};
     ghost use Rattle.cli_support.specs.declared.fault.SetFault.TheVariants.{OutOfMemory};
@@ -49,27 +31,5 @@ impl From<AllocError> for SetFault {
 
     fn from(_: AllocError) -> Self {
         SetFault::OutOfMemory
-    }
-}
-
-impl From<AllocError> for Fault {
-    ghost use Rattle.std.specs.Prelude.{◌≡◌};
-    ghost use Rattle.cli_support.specs.declared.fault.Fault.TheVariants.{OutOfMemory};
-
-    ghost from_gives = { λ _ e. e ≡ OutOfMemory };
-
-    fn from(_: AllocError) -> Self {
-        Fault::OutOfMemory
-    }
-}
-
-impl<T: Drop> From<AllocFailed<T>> for Fault {
-    ghost use Rattle.std.specs.Prelude.{◌≡◌};
-    ghost use Rattle.cli_support.specs.declared.fault.Fault.TheVariants.{OutOfMemory};
-
-    ghost from_gives = { λ _ e. e ≡ OutOfMemory };
-
-    fn from(_: AllocFailed<T>) -> Self {
-        Fault::OutOfMemory
     }
 }

@@ -35,8 +35,8 @@ impl Bindgen {
         self
     }
 
-    /// Whether names of functions that Rust mangled are written as Rust shows them. It is on at the start. That isn't built: names stay
-    /// as they are, whatever is set here.
+    /// Whether names of functions that Rust mangled are written as Rust shows them. It is on at the start. That isn't built: a call with
+    /// it refuses (`NotBuilt` with `files`) where a function's name begins with `_ZN`, `ZN` or `__ZN`.
     pub fn demangle(&mut self, enable: bool) -> &mut Bindgen
         ensures set { result.now ≡ record self.old { flags = record self.old.flags { demangle = enable } } }
         ensures same_reference { result.ghost_name ≡ self.entry.ghost_name }
@@ -46,7 +46,7 @@ impl Bindgen {
     }
 
     /// Whether the exports `__heap_base`, `__data_end` and `__indirect_function_table`, which linkers add, stay in the module that is
-    /// written. That isn't built: they stay, whatever is set here.
+    /// written. For Emscripten they stay, whatever is set here.
     pub fn keep_lld_exports(&mut self, enable: bool) -> &mut Bindgen
         ensures set { result.now ≡ record self.old { flags = record self.old.flags { keep_lld_exports = enable } } }
         ensures same_reference { result.ghost_name ≡ self.entry.ghost_name }
@@ -149,8 +149,8 @@ impl Bindgen {
         self
     }
 
-    /// Whether a function is published that starts the module anew. That isn't built: a call with it refuses (`NotBuilt` with
-    /// `settings`).
+    /// Whether a function is published that starts the module anew. The targets web, module and Node by CommonJS have one: a call for
+    /// another refuses (`ResetStateTarget`). That isn't built: a call for these refuses too (`NotBuilt`).
     pub fn reset_state_function(&mut self, enable: bool) -> &mut Bindgen
         ensures set { result.now ≡ record self.old { flags = record self.old.flags { reset_state = enable } } }
         ensures same_reference { result.ghost_name ≡ self.entry.ghost_name }
@@ -169,7 +169,8 @@ impl Bindgen {
         self
     }
 
-    /// Whether the module may use reference types. No instruction that is built depends on it.
+    /// Whether the module may use reference types. A call turns that on for a module that says it uses them. No instruction that is built
+    /// depends on it.
     pub fn reference_types(&mut self, enable: bool) -> &mut Bindgen
         ensures set { result.now ≡ record self.old { flags = record self.old.flags { externref = enable } } }
         ensures same_reference { result.ghost_name ≡ self.entry.ghost_name }

@@ -1,23 +1,23 @@
 //! The call that makes an output of what is set and handed in.
-ghost use Rattle.std.specs.Prelude.{◌≡◌, ◌≢◌, ◌⊎◌, ◌||◌, IfOk, IfSome, ◌≤◌, IfErr, OnOk, OnErr, Ok, Err, Some, None, true, codes, option_map};
+ghost use Rattle.std.specs.Prelude.{◌≡◌, ◌≢◌, ◌⊎◌, IfOk, IfSome, ◌≤◌, IfErr, OnOk, Ok, Err, Some, None};
 ghost use Rattle.std.specs.List.{list_all};
 ghost use Rattle.wasm_core.specs.Parsing as parsing;
-ghost use Rattle.glue_ends.specs.Causes.{Rose};
+ghost use Rattle.values.specs.Count.{Rose};
 ghost use Rattle.glue_context.specs.Edits.{AreFit, edited};
 ghost use Rattle.glue_context.specs.Items.{IsGlue};
 ghost use Rattle.glue_context.specs.Rewritten.{edits_of, rewritten};
-ghost use Rattle.glue_check.specs.Check.{is_built};
-ghost use Rattle.cli_support.specs.Configured.{reading, settings_of, stem_of};
+ghost use Rattle.cli_support.specs.Configured.{call_settings, file_flags, reading};
 ghost use Rattle.cli_support.specs.Generating as spec;
 
-use crate::bindgen::{Bindgen, Flags};
-use crate::fault::Fault;
+use crate::bindgen::{Bindgen, Flags, Handed};
 use crate::output::Output;
-use glue_check::is_built;
+use glue_check::{Checked, FileFlags, check};
 use glue_context::{Edits, apply_edits, edits_of, glue_items};
+use glue_faults::Fault;
 use glue_lower::{LowerFault, Lowering};
+use glue_prepare::{Prepared, prepare};
 use glue_scope::IdentScope;
-use glue_shared::{Lowered, Settings, Target, roots};
+use glue_shared::{Lowered, Settings, roots};
 use glue_words::Item;
 use std::alloc::{AllocError, Global};
 use values::{Seq, Text};
@@ -57,34 +57,57 @@ fn parse_config(flags: &Flags) -> ParseConfig
     }
 }
 
-// The fault of what isn't built yet.
-fn not_built(alloc: Global, what: &str) -> Fault
-    ensures fault { (result ≡ Fault.OutOfMemory) ⊎ (result ≡ Fault.NotBuilt what.now) }
-{
-    match Text::from_str(alloc, what) {
-        Ok(what) => Fault::NotBuilt { what },
-        Err(_) => Fault::OutOfMemory,
-    }
-}
-
 // The module that the bytes are.
-fn parse(alloc: Global, flags: &Flags, bytes: &[u8]) -> Result<Module, Fault>
-    ensures step { spec.IsStep result (spec.parsed (parsing.module_of (reading flags.now) bytes.now)) }
+fn parse(alloc: Global, config: &ParseConfig, bytes: &[u8]) -> Result<Module, Fault>
+    ensures step { spec.IsStep result (spec.parsed (parsing.module_of config.now bytes.now)) }
+    ensures early { IfErr result (λ f. f ≢ Fault.Lower) }
 {
-    match Module::parse(alloc, bytes, &parse_config(flags)) {
+    match Module::parse(alloc, bytes, config) {
         Ok(module) => Ok(module),
         Err(ParseFault::Parse { place }) => Err(Fault::Parse { place }),
         Err(ParseFault::OutOfMemory) => Err(Fault::OutOfMemory),
     }
 }
 
-// The module with the entry of this program among its producers.
-fn prepare(alloc: Global, module: Module) -> Result<Module, AllocError>
-    ensures prepared { IfOk result (λ m. m ≡ spec.prepared «module») }
+// Whether an earlier call took the module.
+fn is_spent(handed: &Handed) -> bool
+    ensures test { result ≡ spec.is_spent handed.now }
 {
-    let mut module = module;
-    module.add_processed_by(alloc, "wasm-bindgen", "0.2.130")?;
-    Ok(module)
+    match handed {
+        Handed::Bytes(_) => false,
+        Handed::Module(module) => module.is_none(),
+    }
+}
+
+// Tests an input: its module is there, and its name is one for files.
+fn check_handed(input: &(Text, Handed)) -> Result<(), Fault>
+    ensures ok { OnOk result (spec.tested input.now ≡ spec.pure tt) }
+    ensures refused { IfErr result (λ f. spec.tested input.now ≡ spec.refuse f) }
+    ensures early { IfErr result (λ f. f ≢ Fault.Lower) }
+{
+    if is_spent(&input.1) {
+        return Err(Fault::InputSpent);
+    }
+    if is_stem(input.0.as_str()) {
+        Ok(())
+    } else {
+        Err(Fault::BadStem)
+    }
+}
+
+// The module of an input. One that was handed in as it is gets taken out; bytes are read, and stay.
+fn take_handed(alloc: Global, config: &ParseConfig, handed: &mut Handed) -> Result<Module, Fault>
+    ensures step { spec.IsStep result (spec.module_in config.now handed.old) }
+    ensures spent { handed.new ≡ spec.spent handed.old }
+    ensures early { IfErr result (λ f. f ≢ Fault.Lower) }
+{
+    match handed {
+        Handed::Bytes(bytes) => parse(alloc, config, bytes.as_slice()),
+        Handed::Module(module) => match module.take() {
+            Some(module) => Ok(module),
+            None => Err(Fault::InputSpent),
+        },
+    }
 }
 
 // The description of a module, by the lowering.
@@ -129,88 +152,16 @@ fn collect(alloc: Global, lowered: Lowered) -> Result<Lowered, AllocError>
     }
 }
 
-fn asks_imports(settings: &Settings) -> bool
-    ensures test { result ≡ spec.asks_imports settings.now }
-{
-    settings.omit_imports || settings.split_linked_modules
-}
-
-fn asks_settings(settings: &Settings) -> bool
-    ensures test { result ≡ spec.asks_settings settings.now }
-{
-    (settings.debug || settings.typescript) || (settings.export_wasm || settings.reset_state)
-}
-
-// The first of what is asked for that isn't built.
-#[tactic(auto, unfolding(crate::specs::Generating::unbuilt))]
-fn unbuilt(
-    alloc: Global,
-    flags: &Flags,
-    settings: &Settings,
-    lowered: &Lowered,
-) -> Result<Option<&'static str>, AllocError>
-    ensures first { IfOk result (λ what. option_map (λ w. w.now) what ≡ spec.unbuilt flags.now settings.now lowered.now) }
-{
-    if asks_imports(settings) {
-        return Ok(Some("imports"));
-    }
-    if asks_settings(settings) {
-        return Ok(Some("settings"));
-    }
-    if flags.split_debug_info {
-        return Ok(Some("files"));
-    }
-    if is_built(alloc, settings, lowered)? {
-        Ok(None)
-    } else {
-        Ok(Some("description"))
-    }
-}
-
-// Lets a description through where all that is asked for is built.
-fn check(
-    alloc: Global,
-    flags: &Flags,
-    settings: &Settings,
-    lowered: Lowered,
-) -> Result<Lowered, Fault>
-    ensures ok { IfOk result (λ l. (l ≡ lowered) × (spec.unbuilt flags.now settings.now lowered ≡ None)) }
-    ensures refused { IfErr result (λ f. f ≢ Fault.OutOfMemory → option_map (λ what. Fault.NotBuilt what) (spec.unbuilt flags.now settings.now lowered) ≡ Some f) }
-{
-    match unbuilt(alloc, flags, settings, &lowered) {
-        Ok(None) => Ok(lowered),
-        Ok(Some(what)) => {
-            drop(lowered);
-            Err(not_built(alloc, what))
-        }
-        Err(_) => {
-            drop(lowered);
-            Err(Fault::OutOfMemory)
-        }
-    }
-}
-
 // The items of a description, and what is changed in its module.
 #[tactic(auto, using(glue_context::proofs::Built::bindable_built, glue_context::proofs::Built::definable_built))]
-fn plan(
-    alloc: Global,
-    settings: &Settings,
-    lowered: &Lowered,
-) -> Result<(Seq<Item>, Edits), AllocError>
-    requires built { is_built settings.now lowered.now ≡ true }
-    ensures items { IfOk result (λ drawn. IsGlue settings.now lowered.now drawn.0) }
-    ensures edits { IfOk result (λ drawn. drawn.1 ≡ edits_of settings.now lowered.now) }
-    ensures fit { IfOk result (λ drawn. AreFit drawn.1 lowered.now.«module») }
+fn plan(alloc: Global, checked: &Checked) -> Result<(Seq<Item>, Edits), AllocError>
+    ensures items { IfOk result (λ drawn. IsGlue checked.now.settings checked.now.lowered drawn.0) }
+    ensures edits { IfOk result (λ drawn. drawn.1 ≡ edits_of checked.now.settings checked.now.lowered) }
+    ensures fit { IfOk result (λ drawn. AreFit drawn.1 checked.now.lowered.«module») }
 {
-    let items = glue_items::<IdentScope>(alloc, settings, lowered)?;
-    let edits = edits_of(alloc, settings, lowered)?;
+    let items = glue_items::<IdentScope>(alloc, checked.settings(), checked.lowered())?;
+    let edits = edits_of(alloc, checked.settings(), checked.lowered())?;
     Ok((items, edits))
-}
-// The module of a description, without the rest of it.
-fn module_of(lowered: Lowered) -> Module
-    ensures same { result ≡ lowered.«module» }
-{
-    lowered.module
 }
 
 // The module, changed as the edits say.
@@ -229,80 +180,57 @@ fn change(alloc: Global, module: Module, edits: &Edits) -> Result<Module, AllocE
 }
 
 // The items of a description, and its module with what is changed for them.
-fn draw(
-    alloc: Global,
-    settings: &Settings,
-    lowered: Lowered,
-) -> Result<(Seq<Item>, Module), AllocError>
-    requires built { is_built settings.now lowered ≡ true }
-    ensures items { IfOk result (λ drawn. IsGlue settings.now lowered drawn.0) }
-    ensures rewritten { IfOk result (λ drawn. drawn.1 ≡ rewritten settings.now lowered) }
+fn draw(alloc: Global, checked: Checked) -> Result<(Seq<Item>, Module), AllocError>
+    ensures items { IfOk result (λ drawn. IsGlue checked.settings checked.lowered drawn.0) }
+    ensures rewritten { IfOk result (λ drawn. drawn.1 ≡ rewritten checked.settings checked.lowered) }
 {
-    match plan(alloc, settings, &lowered) {
+    match plan(alloc, &checked) {
         Ok((items, edits)) => {
-            let module = change(alloc, module_of(lowered), &edits)?;
+            let module = change(alloc, checked.into_module(), &edits)?;
             Ok((items, module))
         }
         Err(error) => {
-            drop(lowered);
+            drop(checked);
             Err(error)
         }
     }
 }
 
 impl Bindgen {
-    // Tests the name that was handed in with the input.
+    // Tests what was set and handed in.
     fn check_input(&self) -> Result<(), Fault>
         ensures ok { OnOk result (spec.checked self.now ≡ spec.pure tt) }
         ensures refused { IfErr result (λ f. spec.checked self.now ≡ spec.refuse f) }
+        ensures kept { IfErr result (λ f. spec.after_call self.now ≡ self.now) }
+        ensures early { IfErr result (λ f. f ≢ Fault.Lower) }
     {
+        if self.debug_info_url.is_some() && !self.flags.split_debug_info {
+            return Err(Fault::DebugUrlWithoutSplit);
+        }
         match &self.input {
-            Some(input) => {
-                if is_stem(input.0.as_str()) {
-                    Ok(())
-                } else {
-                    Err(Fault::BadStem)
-                }
-            }
+            Some(input) => check_handed(input),
             None => Err(Fault::NoInput),
         }
     }
 
     // The module that was handed in.
-    fn take_module(&self, alloc: Global) -> Result<Module, Fault>
-        ensures step { spec.IsStep result (spec.taken self.now) }
+    fn take_module(&mut self, alloc: Global) -> Result<Module, Fault>
+        ensures step { spec.IsStep result (spec.taken self.old) }
+        ensures spent { spec.checked self.old ≡ spec.pure tt → self.new ≡ spec.after_call self.old }
+        ensures kept { (call_settings self.new ≡ call_settings self.old) × (self.new.flags ≡ self.old.flags) }
+        ensures early { IfErr result (λ f. f ≢ Fault.Lower) }
     {
-        match &self.input {
-            Some(input) => parse(alloc, &self.flags, input.1.as_slice()),
+        let config = parse_config(&self.flags);
+        match &mut self.input {
+            Some(input) => take_handed(alloc, &config, &mut input.1),
             None => Err(Fault::NoInput),
         }
     }
 
-    // Lets a module through whose files are for a target that is built.
-    fn check_target(&self, alloc: Global, module: Module) -> Result<Module, Fault>
-        ensures step { spec.IsStep result (spec.targeted self.now «module») }
+    // The settings of the call, beside the module.
+    fn with_settings(&self, alloc: Global, module: Module) -> Result<(Settings, Module), AllocError>
+        ensures both { IfOk result (λ call. call ≡ (call_settings self.now, «module»)) }
     {
-        if matches!(self.target, Target::Deno) {
-            Ok(module)
-        } else {
-            drop(module);
-            Err(not_built(alloc, "target"))
-        }
-    }
-
-    // Lets a description through where all that is asked for is built.
-    fn admit(&self, alloc: Global, settings: &Settings, lowered: Lowered) -> Result<Lowered, Fault>
-        ensures ok { IfOk result (λ l. (l ≡ lowered) × (spec.unbuilt self.now.flags settings.now lowered ≡ None)) }
-        ensures refused { IfErr result (λ f. f ≢ Fault.OutOfMemory → option_map (λ what. Fault.NotBuilt what) (spec.unbuilt self.now.flags settings.now lowered) ≡ Some f) }
-    {
-        check(alloc, &self.flags, settings, lowered)
-    }
-
-    // The settings of the call, and the module as the lowering is handed it.
-    fn hand(&self, alloc: Global, module: Module) -> Result<(Settings, Module), AllocError>
-        ensures handed { IfOk result (λ call. call ≡ (settings_of self.now (stem_of self.now.input), spec.prepared «module»)) }
-    {
-        let module = prepare(alloc, module)?;
         match self.settings(alloc) {
             Ok(settings) => Ok((settings, module)),
             Err(error) => {
@@ -312,39 +240,64 @@ impl Bindgen {
         }
     }
 
-    // The settings and the module that the lowering is handed.
-    fn start(&self, alloc: Global) -> Result<(Settings, Module), Fault>
-        ensures step { spec.IsStep result (spec.started self.now) }
+    // Whether the exports stay that a linker makes for itself.
+    fn keeps_lld_exports(&self) -> bool
+        ensures keeps { result ≡ self.now.flags.keep_lld_exports }
     {
-        self.check_input()?;
-        let module = self.take_module(alloc)?;
-        let module = self.check_target(alloc, module)?;
-        Ok(self.hand(alloc, module)?)
+        self.flags.keep_lld_exports
     }
 
-    /// Makes the glue file and the module that goes with it. Whatever it answers, the settings and the input stay.
+    // What is asked for of the files themselves.
+    fn file_flags(&self) -> FileFlags
+        ensures flags { result ≡ file_flags self.now.flags }
+    {
+        FileFlags {
+            split_debug_info: self.flags.split_debug_info,
+            demangle: self.flags.demangle,
+        }
+    }
+
+    /// Makes the glue file and the module that goes with it. Whatever it answers, the settings stay, and so does a byte input. A module
+    /// that was handed in is taken exactly where the tests of the input pass, whatever follows: the next call refuses (`InputSpent`)
+    /// until another input is handed in.
     ///
-    /// The first of these decides: `NoInput` without input; `BadStem` where the name is empty or holds anything beside ASCII
-    /// letters, digits, `_`, `-` and `.`; `Parse` where the bytes are no module, with the offset of the first fault; `NotBuilt`
-    /// with `target` where the target isn't built; `Lower` where the lowering failed; `NotBuilt` with `imports`, `settings` or
-    /// `files` where something of these is asked for that isn't built, as the setters say; `NotBuilt` with `description` where
-    /// the description and its module aren't of a form that is built.
+    /// The steps, of which the first fault decides:
+    ///
+    /// - `check_input`: `DebugUrlWithoutSplit` where a URL of debug information is set, but not that it is split off; `NoInput` without
+    ///   input; `InputSpent` where a call took the module; `BadStem` where the name is empty or holds anything beside ASCII letters,
+    ///   digits, `_`, `-` and `.`.
+    /// - `take_module`: `Parse` where the bytes are no module, with the offset of the first fault.
+    /// - `prepare` of `glue_prepare` makes the settings of the call and the module fit for each other: `DefaultExport` for the web, where
+    ///   the module exports `default`; `ResetStateTarget` where the module is to be started anew by a function that the target doesn't
+    ///   have.
+    /// - `lower`: `Lower` where the lowering failed.
+    /// - `collect` leaves nothing of the module but what can be reached.
+    /// - `check` of `glue_check`: `NotBuilt` where something is asked for that isn't built, with the first kind of it (`unbuilt`); else
+    ///   the first condition that the description or its module meets (`verdict`).
+    /// - `draw` makes the items, and changes the module for them.
     pub fn generate_output<L: Lowering>(
         &mut self,
         alloc: Global,
         lowering: &mut L,
     ) -> Result<Output, Fault>
-        ensures kept { self.new ≡ self.old }
-        ensures made { IfOk result (λ o. spec.Answers (settings_of self.old (stem_of self.old.input)) (Ok o) (spec.answer_of (L.told lowering.old) self.old)) }
-        ensures cause { IfErr result (λ f. spec.Answers (settings_of self.old (stem_of self.old.input)) (Err f) (spec.answer_of (L.told lowering.old) self.old)) }
+        ensures after { self.new ≡ spec.after_call self.old }
+        ensures made { IfOk result (λ o. spec.CallAnswers (L.told lowering.old) self.old (Ok o)) }
+        ensures cause { IfErr result (λ f. spec.CallAnswers (L.told lowering.old) self.old (Err f)) }
         ensures lower { result ≡ Err Fault.Lower → Rose (L.faults lowering.old) (L.faults lowering.new) }
         ensures later { L.faults lowering.old ≤ L.faults lowering.new }
     {
-        let (settings, module) = self.start(alloc)?;
+        self.check_input()?;
+        let module = self.take_module(alloc)?;
+        let (settings, module) = self.with_settings(alloc, module)?;
+        let Prepared {
+            settings,
+            module,
+            features_missing,
+        } = prepare(alloc, self.keeps_lld_exports(), settings, module)?;
         let lowered = lower(alloc, &settings, module, lowering)?;
         let lowered = collect(alloc, lowered)?;
-        let lowered = self.admit(alloc, &settings, lowered)?;
-        let (items, module) = draw(alloc, &settings, lowered)?;
-        Ok(Output::new(alloc, settings, items, module)?)
+        let checked = check(alloc, self.file_flags(), &settings, lowered)?;
+        let (items, module) = draw(alloc, checked)?;
+        Ok(Output::new(alloc, settings, items, module, features_missing)?)
     }
 }

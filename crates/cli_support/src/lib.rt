@@ -2,11 +2,11 @@
 //!
 //! `Bindgen::generate_output` parses the module, has its description read, and makes the items of the glue file; `Output::files`
 //! plans the files. Promised: each fault has its cause in one order; the items are linked with the module that is written, define
-//! each own import once by its adapter's function, and publish exactly the described tree; the module is the one that was read but
-//! for its own imports and its producers.
+//! each own import once by its adapter's function, and publish exactly the described tree; the module is the one that was read, made
+//! fit for the call's settings, with nothing kept but what can be reached, its own imports moved and its start function exported.
 //!
-//! Stands on `wasm_core`, `glue_lower`, `glue_check`, `glue_context`, `glue_targets`, `glue_scope`, `glue_shared`, `glue_layout` and
-//! `glue_ends`.
+//! Stands on `wasm_core`, `glue_prepare`, `glue_lower`, `glue_check`, `glue_faults`, `glue_context`, `glue_targets`, `glue_steps`,
+//! `glue_scope`, `glue_words`, `glue_shared`, `glue_layout` and `glue_ends`.
 #![tactic(auto)]
 
 mod bindgen;
@@ -20,12 +20,13 @@ mod output;
 mod targets;
 
 pub use bindgen::{Bindgen, NoInput};
-pub use fault::{Fault, SetFault};
+pub use fault::SetFault;
 pub use glue_context::glue_items;
 pub use glue_ends::{
     MemSink, MemSource, PlannedFile, ReadEnd, ReadFailed, Sink, Source, Stop, WriteEnd, WriteFault,
     read_whole, write_files,
 };
+pub use glue_faults::Fault;
 pub use glue_layout::reset_indentation;
 pub use glue_lower::{JsonLowering, LowerFault, Lowering};
 pub use glue_steps::adapter_steps;

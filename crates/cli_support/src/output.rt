@@ -3,6 +3,9 @@ ghost use Rattle.std.specs.Prelude.{◌≡◌, ◌++◌, codes, IfOk, Err, Some,
 ghost use Rattle.wasm_core.specs.Emission.{bytes_of, too_large};
 ghost use Rattle.glue_words.specs.Words.{printed};
 ghost use Rattle.glue_layout.specs.Layout.{indented};
+ghost use Rattle.std.specs.Borrow.{Lends, sem};
+ghost use Rattle.wasm_core.specs.contracts.module.Module as modules;
+ghost use Rattle.cli_support.specs.contracts.output.Output as outputs;
 ghost use Rattle.cli_support.specs.Plan.{plan_of};
 
 use glue_ends::PlannedFile;
@@ -21,6 +24,7 @@ pub struct Output {
     items: Seq<Item>,
     js: Text,
     module: Module,
+    features_missing: bool,
 }
 
 impl Model for Output {
@@ -28,7 +32,7 @@ impl Model for Output {
 
     ghost Value = { Made };
 
-    ghost view = { λ o. record { settings = o.settings; items = o.items; js = o.js; «module» = o.«module» } };
+    ghost view = { λ o. record { settings = o.settings; items = o.items; js = o.js; «module» = o.«module»; features_missing = o.features_missing } };
 }
 
 // The stem with an ending.
@@ -54,8 +58,9 @@ impl Output {
         settings: Settings,
         items: Seq<Item>,
         module: Module,
+        features_missing: bool,
     ) -> Result<Output, AllocError>
-        ensures made { IfOk result (λ o. o ≡ record { settings = settings; items = items; js = printed items; «module» = «module» }) }
+        ensures made { IfOk result (λ o. o ≡ record { settings = settings; items = items; js = printed items; «module» = «module»; features_missing = features_missing }) }
     {
         match print(alloc, items.as_slice()) {
             Ok(js) => Ok(Output {
@@ -63,6 +68,7 @@ impl Output {
                 items,
                 js: Text::new(js),
                 module,
+                features_missing,
             }),
             Err(error) => {
                 drop(module);
@@ -90,6 +96,22 @@ impl Output {
         ensures wasm { result.now ≡ self.now.«module» }
     {
         &self.module
+    }
+
+    /// The module that the glue file loads, to be changed: what is written there is the output's module from then on, and all else stays.
+    pub fn wasm_mut(&mut self) -> &mut Module
+        ensures* writes_back { sem 𝓛 (Lends outputs.the_row modules.the_row self.entry result (λ w. record self.old { «module» = w })) }
+        ensures wasm { result.now ≡ self.old.«module» }
+    {
+        &mut self.module
+    }
+
+    /// Whether no section of the module that was read says which features it uses, so that its use of reference types was told by an
+    /// export.
+    pub fn features_missing(&self) -> bool
+        ensures missing { result ≡ self.now.features_missing }
+    {
+        self.features_missing
     }
 
     /// The items that the glue file prints, in order.

@@ -109,18 +109,19 @@ const REFUSED: &[(&str, &str)] = &[
         "0061736d0100000001070160027f7f017f03020100",
         "fault Parse\n",
     ),
-    // A start function, a shared memory, an imported function that is exported, two exports of one name.
-    (
-        "0061736d01000000010401600000030201000801000a040102000b",
-        "fault NotBuilt\n",
-    ),
-    ("0061736d01000000050401030101", "fault NotBuilt\n"),
+    // A shared memory, an imported function that is exported and that nothing describes, two exports of one name, an
+    // import of another module.
+    ("0061736d01000000050401030101", "fault Threads\n"),
     (
         "0061736d0100000001050160017f00022001185f5f7762696e6467656e5f706c616365686f6c6465725f5f036c6f670000070701036c6f670000",
-        "fault NotBuilt\n",
+        "fault UnboundImport\n",
     ),
     (
         "0061736d010000000104016000000302010007090201610000016100000a040102000b",
+        "fault NameClash\n",
+    ),
+    (
+        "0061736d0100000001050160017f0002090103656e760174000007050101740000",
         "fault NotBuilt\n",
     ),
     // Another version, a version that is a text, none, no JSON, no UTF-8, and another version beside an import.
@@ -164,7 +165,7 @@ fn each_fault_has_its_line(rt: HostRuntime) -> Result<(), Fail> {
     Ok(())
 }
 
-// Modules with what nothing reaches: the length of the one that is written, and its sections before and after the producers.
+// Modules that are written in another form: the length of the one that is written, and its sections before and after the producers.
 const UNREACHED: &[(&str, u64, &str, &str)] = &[
     // A type that nothing has.
     ("0061736d010000000106016000027f7f", 56, "", ""),
@@ -178,6 +179,13 @@ const UNREACHED: &[(&str, u64, &str, &str)] = &[
     // The first memory, and a custom section.
     ("0061736d010000000503010001", 61, "0503010001", ""),
     ("0061736d0100000000020178", 60, "", "00020178"),
+    // A start function becomes an export.
+    (
+        "0061736d01000000010401600000030201000801000a040102000b",
+        94,
+        "01040160000003020100071401105f5f7762696e6467656e5f737461727400000a040102000b",
+        "",
+    ),
     // An adapter that nothing uses.
     (
         "0061736d01000000005c0a5f5f7762675f676c75657b2276657273696f6e223a312c226164617074657273223a5b7b226964223a302c2261726773223a5b22733332225d2c22726573756c7473223a5b5d2c22696d706f7274223a226e6f726d616c227d5d7d",
@@ -218,7 +226,7 @@ fn what_nothing_reaches_is_dropped(rt: HostRuntime) -> Result<(), Fail> {
 fn front_is_answered(alloc: Global, front: &[u8]) -> Result<bool, AllocError> {
     match front.len() {
         8 | 21 | 55 => begins_with(alloc, front, b""),
-        83 => comes_to(alloc, front, 0, 0, 1, b"fault NotBuilt\n"),
+        83 => comes_to(alloc, front, 0, 0, 1, b"fault UnboundImport\n"),
         _ => comes_to(alloc, front, 0, 0, 1, b"fault Parse\n"),
     }
 }

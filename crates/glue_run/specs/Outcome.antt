@@ -1,18 +1,20 @@
 -- What a run of some bytes comes to.
-use Rattle.std.specs.Prelude.{Bool, true, false, ◌≡◌, ◌≢◌, ◌≤◌, ◌⊎◌, IsSomeAnd, ℕ, List, [], ◌++◌, codes, Option, Some, None, Result, Ok, Err}
+use Rattle.std.specs.Prelude.{Bool, true, false, ◌≡◌, ◌≢◌, ◌≤◌, ◌⊎◌, IsSomeAnd, ℕ, List, [], ◌++◌, codes, Option, Some, None, Ok, Err}
 use Rattle.std.specs.Io.KnownBytes.{Appends, Keeps}
 use Rattle.wasm_core.specs.Emission.{too_large}
-use Rattle.cli_support.specs.Causes.{Rose, AppendsPrefix}
+use Rattle.cli_support.specs.Causes.{AppendsPrefix}
+use Rattle.cli_support.specs.Count.{Rose}
 use Rattle.cli_support.specs.Listing.{listing}
-use Rattle.cli_support.specs.description.Lowered.{Lowered}
 use Rattle.cli_support.specs.Lowering.{lowered_of}
-use Rattle.cli_support.specs.declared.fault.Fault.{Fault}
-use Rattle.cli_support.specs.declared.fault.Fault.TheVariants as fault
+use Rattle.cli_support.specs.fault.Fault.{Fault}
+use Rattle.cli_support.specs.fault.Fault.TheVariants as fault
+use Rattle.cli_support.specs.Named.{fault_name}
 use Rattle.cli_support.specs.Configured.{Configured}
-use Rattle.cli_support.specs.Generating.{Made, answer_of}
+use Rattle.cli_support.specs.declared.bindgen.Handed.TheVariants as handed
+use Rattle.cli_support.specs.Generating.{Told, Described, Made, answer_of}
 use Rattle.cli_support.specs.Rewritten.{rewritten}
 use Rattle.cli_support.specs.Plan.{plan_of}
-use Rattle.glue_run.specs.Headline.{deno, deno_settings, IsOutputOf}
+use Rattle.glue_run.specs.Headline.{deno, IsOutputOf}
 
 -- why nothing but a fault's line is written: a fault of the generator, or a section of the module that is too large
 pub data Cause : Type 0 where
@@ -21,7 +23,7 @@ pub data Cause : Type 0 where
 
 -- the generator's input: these bytes, under the name `out`
 abbrev pub with_bytes : List ℕ → Configured
-with_bytes bytes = record deno { input = Some (codes "out", bytes) }
+with_bytes bytes = record deno { input = Some (codes "out", handed.Bytes bytes) }
 
 -- the cause that a section that is too large is, where there is one
 abbrev pub planning : Option ℕ → Option Cause
@@ -29,10 +31,10 @@ planning None = None
 planning (Some section) = Some Oversized
 
 -- what a call comes to: the fault that is told, or a section of the written module that is too large
-abbrev pub outcome_of : Option (Result Lowered Fault) → Option Cause
+abbrev pub outcome_of : Told Described → Option Cause
 outcome_of None = None
 outcome_of (Some (Err f)) = Some (Refused f)
-outcome_of (Some (Ok l)) = planning (too_large (rewritten deno_settings l))
+outcome_of (Some (Ok found)) = planning (too_large (rewritten found.settings found.description))
 
 -- the first fault of a run over these bytes, or none
 abbrev pub outcome : List ℕ → Option Cause
@@ -41,22 +43,9 @@ outcome bytes = outcome_of (answer_of (λ settings m. Some (lowered_of settings 
 -- want of memory
 abbrev pub is_memory : Fault → Bool
 is_memory fault.OutOfMemory = true
-is_memory fault.NoInput = false
-is_memory fault.BadStem = false
-is_memory (fault.Parse place) = false
-is_memory fault.Lower = false
-is_memory (fault.NotBuilt what) = false
+is_memory other = false
 
--- the variant's name
-abbrev pub fault_name : Fault → List ℕ
-fault_name fault.NoInput = codes "NoInput"
-fault_name fault.BadStem = codes "BadStem"
-fault_name (fault.Parse place) = codes "Parse"
-fault_name fault.Lower = codes "Lower"
-fault_name (fault.NotBuilt what) = codes "NotBuilt"
-fault_name fault.OutOfMemory = codes "OutOfMemory"
-
--- the name of a cause
+-- the name of a cause: that of the fault's variant, or that of a section that is too large
 abbrev pub cause_name : Cause → List ℕ
 cause_name (Refused f) = fault_name f
 cause_name Oversized = codes "TooLarge"

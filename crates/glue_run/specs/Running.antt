@@ -1,7 +1,7 @@
 -- What a run did, by its status.
 use Rattle.std.specs.Prelude.{◌≡◌, ◌≤◌, ◌⊎◌, length, Some, ℕ, List, [], ◌∷◌, codes, Option, map, String, string_bytes}
 use Rattle.std.specs.declared.alloc.Global.{Global}
-use Rattle.cli_support.specs.Causes.{Rose}
+use Rattle.cli_support.specs.Count.{Rose}
 use Rattle.cli_support.specs.Taking.{IsWhole}
 use Rattle.cli_support.specs.Generating.{Made}
 use Rattle.glue_run.specs.Outcome.{Cause, outcome, IsSaid, IsCut}

@@ -2,7 +2,7 @@
 ghost use Rattle.std.specs.Prelude.{◌↔◌, ◌≡◌, ◌≢◌, ◌≤◌, ◌⊎◌, ℕ, List, length, Ok, Err, Some, None, map, string_bytes, IsTrue, IsSome, IfOk, IfErr};
 ghost use Rattle.std.specs.Io.KnownBytes.{Keeps};
 ghost use Rattle.wasm_core.specs.Emission.{too_large};
-ghost use Rattle.cli_support.specs.Causes.{Rose};
+ghost use Rattle.cli_support.specs.Count.{Rose};
 ghost use Rattle.cli_support.specs.Listing.{listing};
 ghost use Rattle.cli_support.specs.Taking.{IsWhole, TakesAtMost, TakesMoreThan};
 ghost use Rattle.glue_run.specs.Headline.{IsOutputOf};
@@ -34,17 +34,13 @@ pub struct Ran {
 }
 
 // The line of a fault.
-fn fault_line_of(fault: &Fault) -> &'static str
-    ensures line { result.now ≡ spec.fault_line (spec.Refused fault.now) }
+fn fault_line_of(alloc: Global, fault: &Fault) -> Result<String, AllocError>
+    ensures line { IfOk result (λ line. string_bytes line ≡ spec.fault_line (spec.Refused fault.now)) }
 {
-    match fault {
-        Fault::NoInput => "fault NoInput\n",
-        Fault::BadStem => "fault BadStem\n",
-        Fault::Parse { .. } => "fault Parse\n",
-        Fault::Lower => "fault Lower\n",
-        Fault::NotBuilt { .. } => "fault NotBuilt\n",
-        Fault::OutOfMemory => "fault OutOfMemory\n",
-    }
+    let mut line = String::from_str(alloc, "fault ")?;
+    line.push_str(fault.name())?;
+    line.push_str("\n")?;
+    Ok(line)
 }
 
 // The line of a module with a section that is too large.
@@ -62,6 +58,16 @@ fn tell<O: Sink>(line: &str, output: &mut O) -> u8
         Ok(()) => 1,
         Err(WriteFault::Failed) => 4,
         Err(WriteFault::OutOfMemory) => 5,
+    }
+}
+
+// Writes the line of a fault.
+fn tell_fault<O: Sink>(alloc: Global, fault: &Fault, output: &mut O) -> u8
+    ensures wrote { spec.Wrote 1 (spec.fault_line (spec.Refused fault.now)) result (O.taken output.old) (O.taken output.new) (O.faults output.old) (O.faults output.new) }
+{
+    match fault_line_of(alloc, fault) {
+        Ok(line) => tell(line.as_str(), output),
+        Err(_) => 5,
     }
 }
 
@@ -116,22 +122,18 @@ fn is_memory(fault: &Fault) -> bool
 {
     match fault {
         Fault::OutOfMemory => true,
-        Fault::NoInput
-        | Fault::BadStem
-        | Fault::Parse { .. }
-        | Fault::Lower
-        | Fault::NotBuilt { .. } => false,
+        _ => false,
     }
 }
 
 // Writes the line of a fault, but for want of memory.
-fn refuse<O: Sink>(fault: &Fault, output: &mut O) -> u8
+fn refuse<O: Sink>(alloc: Global, fault: &Fault, output: &mut O) -> u8
     ensures answered { (bytes : List ℕ) → (fault.now ≢ Fault.OutOfMemory → spec.outcome bytes ≡ Some (spec.Refused fault.now)) → spec.Answered bytes result None (O.taken output.old) (O.taken output.new) (O.faults output.old) (O.faults output.new) }
 {
     if is_memory(fault) {
         return 5;
     }
-    tell(fault_line_of(fault), output)
+    tell_fault(alloc, fault, output)
 }
 
 // Makes what the bytes say, and writes it.
@@ -147,7 +149,7 @@ fn answer<O: Sink>(alloc: Global, bytes: Vec<u8>, output: &mut O) -> Ran
             }
         }
         Err(fault) => Ran {
-            status: refuse(&fault, output),
+            status: refuse(alloc, &fault, output),
             output: None,
         },
     }

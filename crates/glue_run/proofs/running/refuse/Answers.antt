@@ -4,5 +4,5 @@ use Rattle.glue_run.proofs.running.refuse.Goals as goal
 
 pub returns : goal.returns
 returns g c = record {
-  answered = λ bytes known. refused_answer bytes c.fault_line_of.result.now c.args.fault.now c.tell.result _ _ _ _ (sym c.is_memory.ensures.test ∙ c.if-is_memory.false) known c.fault_line_of.ensures.line c.tell.ensures.wrote;
+  answered = λ bytes known. refused_answer bytes c.args.fault.now c.tell_fault.result _ _ _ _ (sym c.is_memory.ensures.test ∙ c.if-is_memory.false) known c.tell_fault.ensures.wrote;
 }

@@ -1,4 +1,4 @@
--- `input_bytes` lets the generator out of what `hold_input` answers, which rests where that says it does. By hand, since the borrow checker proves no
+-- `input_bytes` lets the generator out of what `hold_input_bytes` answers, which rests where that says it does. By hand, since the borrow checker proves no
 -- clause on the end of a `&mut` that the answer may be.
 use Rattle.std.proofs.Common.{◌≡◌, List, [], ◌∷◌, refl, sym, subst, Ok, Err}
 use Rattle.std.proofs.raw_atomic.Walks.{proved_at, leaves}
@@ -49,13 +49,13 @@ use Rattle.cli_support.specs.Setting.{released}
 use Rattle.cli_support.specs.contracts.bindgen.Bindgen as gen
 use Rattle.cli_support.specs.contracts.held.Held as held
 use Rattle.cli_support.specs.contracts.bindgen.Bindgen.input_bytes as f
-use Rattle.cli_support.specs.contracts.bindgen.Bindgen.hold_input as g
+use Rattle.cli_support.specs.contracts.bindgen.Bindgen.hold_input_bytes as g
 use Rattle.cli_support.specs.contracts.held.release_kept as h
 use Rattle.cli_support.proofs.bindgen.Bindgen.TheLaws as gen_laws
 use Rattle.cli_support.proofs.held.Held.TheLaws as held_laws
 use Rattle.cli_support.proofs.bindgen.Bindgen.input_bytes.Statement.{statement}
 use Rattle.cli_support.proofs.bindgen.Bindgen.input_bytes.Code as code
-use Rattle.cli_support.proofs.bindgen.Bindgen.hold_input.Met as hold
+use Rattle.cli_support.proofs.bindgen.Bindgen.hold_input_bytes.Met as hold
 use Rattle.cli_support.proofs.held.release_kept.Met as release
 
 abbrev stayed : Stays f.ended.signature.params f.ended.kept
@@ -85,7 +85,7 @@ module _ (κ : Lft) where
       (of_field (mut_ref_field nm gen.the_row tt) (mut_ref_laws nm gen.the_row tt) refl (mut_ref_shared nm gen.the_row tt (row_shared gen.the_row gen_laws.the_row_laws))) fault_laws.the_row_laws
 
 module _ {M : Type 1} {𝓤 : Ura M} (𝓛 : Logic 𝓤) (at : Memory → SProp 𝓤) (run : Routine → Fun 𝓤) (κs : Lfts 2) (a : Args f.signature κs) where
-  -- what `hold_input` ensures of its answer is what `input_bytes` ensures of the generator that it holds
+  -- what `hold_input_bytes` ensures of its answer is what `input_bytes` ensures of the generator that it holds
   same : (r : (held_row κs.0).Denot) → ent 𝓤 ((g.spec 𝓛 at run κs a).ensures tt r) ((f.spec 𝓛 at run κs a).ensures tt (released r))
   same (Ok x) = id⊢ 𝓤 _
   same (Err e) = id⊢ 𝓤 _
@@ -117,12 +117,12 @@ input_bytes_spec 𝓤 𝓛 𝓜 𝓡 wired =
     alloc_all ! (λ l. pass_all ! refl ((tt, tt), (has_k, (has_s, (has_v, tt)))) $
     sets ! (addr ! (through ! refl (stop !))) refl (tt, tt) $
     sets ! (of_opd ! (get ! refl)) refl has_v $
-    calls_at ! (framed 𝓤 𝓛.H 𝓜 𝓣) G (hold.met 𝓤 𝓛 𝓜 𝓡 (code.calls-cli_support::bindgen::Bindgen::hold_input 𝓡.env wired)) z
+    calls_at ! (framed 𝓤 𝓛.H 𝓜 𝓣) G (hold.met 𝓤 𝓛 𝓜 𝓡 (code.calls-cli_support::bindgen::Bindgen::hold_input_bytes 𝓡.env wired)) z
     (and_then ! (get ! refl) (and_then ! (get ! refl) (and_then ! (get ! refl) (and_then ! (get ! refl) (no_more !))))) (λ w.
     let HR = held_row κs.0 in
     use1 𝓛 (later (some (λ (r : HR.Denot). ((‵ (flft κs.0 qs.0) ⊛ (‵ (flft κs.1.0 qs.1.0) ⊛ ‵ ftrue)) ⊛ ‵ (HR.own_val r (w ∷ []))) ⊛ raw ((g.spec 𝓛 𝓜.mem 𝓡.returns κs a).ensures tt r)))) (id⊢ 𝓤 _) $
     await ! tt $ pick ! (λ r. split ! $ split ! $ split ! $
-    -- [the token of the generator's lifetime; that of the name's; the answer; what `hold_input` ensures; the locals]
+    -- [the token of the generator's lifetime; that of the name's; the answer; what `hold_input_bytes` ensures; the locals]
     move ! (2 ∷ []) $ peeks ! HR _ (shows 𝓛 HR) r (w ∷ []) (λ is.
     lands_as ! refl refl ((((hr_laws κs.0).lawful 𝓛).typed r (w ∷ []) is).0) $
     let U = triple_of 𝓛 h.signature (h.spec 𝓛 𝓜.mem 𝓡.returns) in
@@ -135,12 +135,12 @@ input_bytes_spec 𝓤 𝓛 𝓜 𝓡 wired =
     let FR = answer_row κs.0 in
     use1 𝓛 (later (some (λ (y : FR.Denot). ((‵ (flft κs.0 qs.0) ⊛ ‵ ftrue) ⊛ ‵ (FR.own_val y (u ∷ []))) ⊛ some (λ (ws : Lasts h.ended κ (r, tt)). ‵ (lasts h.ended κ (r, tt) ws) ⊛ raw (fact 𝓤 (y ≡ released r)))))) (id⊢ 𝓤 _) $
     await ! tt $ pick ! (λ y. split ! $ split ! $ split ! $ move ! (1 ∷ []) $ drop ! $
-    -- [the token of the generator's lifetime; the answer; what is the same; the token of the name's lifetime; what `hold_input` ensures; the locals]
+    -- [the token of the generator's lifetime; the answer; what is the same; the token of the name's lifetime; what `hold_input_bytes` ensures; the locals]
     move ! (2 ∷ []) $ pick ! (λ _. split ! $ drop ! $ heard ! _ (λ e.
     move ! (1 ∷ []) $ peeks ! FR _ (shows 𝓛 FR) y (u ∷ []) (λ ok.
     lands_as ! refl refl ((((answer_laws κs.0).lawful 𝓛).typed y (u ∷ []) ok).0) $
     returns ! (look_at ! 0 refl) $ free_all ! refl $
-    -- [the answer; the two tokens; what `hold_input` ensures]
+    -- [the answer; the two tokens; what `hold_input_bytes` ensures]
     move ! (3 ∷ []) $ use1 𝓛 (raw ((f.spec 𝓛 𝓜.mem 𝓡.returns κs a).ensures tt y)) (ensured 𝓛 𝓜.mem 𝓡.returns κs a r y e) $
     use1 𝓛 (some (λ (ws : Lasts f.ended κs a). ‵ (lasts f.ended κs a ws) ⊛ raw ((c κs a).ensures tt y (at_exit f.ended κs a ws)))) (id⊢ 𝓤 _) $ pick ! (λ ws. split ! $ drop ! $
     move ! (1 ∷ 0 ∷ []) $ join ! $ nothing ! $ nothing ! $ join ! $ nothing ! $ join ! $ nothing ! $ join ! $ nothing ! $ join ! $ join ! $

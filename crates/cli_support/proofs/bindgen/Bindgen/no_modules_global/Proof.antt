@@ -32,7 +32,7 @@ use denote.Steps.{nothing, heard, peeks}
 use denote.Struct.Field.{mut_ref_field}
 use denote.Struct.Laws.{mut_ref_laws}
 use denote.Struct.Members.{Lone}
-use denote.Text.{Str, StrRefOf, str-laws}
+use denote.Text.{StrRefOf, str-laws}
 use denote.Triple.Call.{calls_at}
 use denote.Triple.Clauses.{Lasts, lasts, at_exit}
 use denote.Triple.Entry.{Args}
