@@ -1,6 +1,7 @@
 //! Tests of what stands beside adapters and on top of them: names, words and items (`glue_scope`), the marked notation
-//! (`glue_marked`), indentation (`glue_layout`), sources and sinks (`glue_ends`), names of hosts and own imports (`glue_shared`),
-//! and the files and faults of a whole call (`cli_support`). Texts, files and lengths were worked out by hand.
+//! (`glue_marked`), indentation (`glue_layout`), sources and sinks (`glue_ends`), names of hosts and own imports (`glue_shared`), what
+//! is done to a module before it is lowered (`glue_prepare`), and the files and faults of a whole call (`cli_support`). Texts, files
+//! and lengths were worked out by hand; modules are those that `wat2wasm` of wabt writes.
 #![tactic(auto)]
 
 #[cfg(test)]
@@ -10,9 +11,15 @@ mod compare;
 #[cfg(test)]
 mod ends;
 #[cfg(test)]
+mod inputs;
+#[cfg(test)]
 mod layout;
 #[cfg(test)]
+mod library;
+#[cfg(test)]
 mod marked;
+#[cfg(test)]
+mod prepare;
 #[cfg(test)]
 mod scope;
 #[cfg(test)]

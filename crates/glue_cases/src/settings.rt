@@ -1,5 +1,7 @@
 //! What setters set, and what is answered where it isn't built.
 use crate::compare::{assert_told, shown};
+use crate::prepare::{MARKED, TABLE, TABLE_WITHOUT};
+use crate::support::made;
 use cli_support::{Bindgen, Fault, JsonLowering, Output};
 use glue_shared::EncodeInto;
 use std::alloc::{AllocError, Global};
@@ -13,6 +15,9 @@ const NAMED: &[u8] =
 
 // A custom section `.debug_x`.
 const DEBUG: &[u8] = b"\0asm\x01\0\0\0\0\x09\x08.debug_x";
+
+// A global that is exported as `__heap_base`.
+const HEAP: &[u8] = b"\0asm\x01\0\0\0\x06\x06\x01\x7f\0A\x01\x0b\x07\x0f\x01\x0b__heap_base\x03\0";
 
 enum Switch {
     Debug,
@@ -91,6 +96,8 @@ const SETTINGS: &str = "NotBuilt { what: Text { string: \"settings\" } }";
 
 const FILES: &str = "NotBuilt { what: Text { string: \"files\" } }";
 
+const TARGET: &str = "NotBuilt { what: Text { string: \"target\" } }";
+
 // The module's eight bytes and its producers are 56.
 const TURNED: &[(&[(Switch, bool)], &[u8], &str)] = &[
     (&[], EMPTY, "56"),
@@ -123,7 +130,6 @@ const TURNED: &[(&[(Switch, bool)], &[u8], &str)] = &[
     // Nothing that is built depends on these.
     (
         &[
-            (Switch::KeepLldExports, true),
             (Switch::EmitStart, false),
             (Switch::OmitDefaultModulePath, false),
             (Switch::TsTypedArrayBuffers, true),
@@ -134,13 +140,29 @@ const TURNED: &[(&[(Switch, bool)], &[u8], &str)] = &[
         EMPTY,
         "56",
     ),
+    // The target has no function that starts the module anew.
+    (
+        &[(Switch::ResetStateFunction, true)],
+        EMPTY,
+        "ResetStateTarget",
+    ),
     // Names, producers and debug sections. A name of 8 bytes takes 20 with its section.
-    (&[], NAMED, "99"),
+    (&[], NAMED, FILES),
     (&[(Switch::Demangle, false)], NAMED, "99"),
-    (&[(Switch::RemoveNameSection, true)], NAMED, "79"),
+    (
+        &[(Switch::Demangle, false), (Switch::RemoveNameSection, true)],
+        NAMED,
+        "79",
+    ),
     (&[(Switch::RemoveProducersSection, true)], EMPTY, "8"),
     (&[], DEBUG, "56"),
     (&[(Switch::KeepDebug, true)], DEBUG, "67"),
+    // What a linker exports goes, and what nothing else reaches with it, unless it is to stay.
+    (&[], HEAP, "56"),
+    (&[(Switch::KeepLldExports, true)], HEAP, "81"),
+    // A module that is made for Emscripten.
+    (&[], MARKED, TARGET),
+    (&[(Switch::Debug, true)], MARKED, TARGET),
 ];
 
 #[test]
@@ -149,6 +171,30 @@ fn what_is_turned_on_is_built_or_refused(rt: HostRuntime) -> Result<(), Fail> {
         let told = turned(rt.alloc(), switches, bytes)?;
         assert_told::<_, AllocError>(&rt, Ok(told), want)?;
     }
+    Ok(())
+}
+
+// A module, and whether its features are missing.
+const FEATURES: &[(&[u8], bool)] = &[(EMPTY, false), (TABLE, true), (TABLE_WITHOUT, false)];
+
+#[test]
+fn missing_features_are_told(rt: HostRuntime) -> Result<(), Fail> {
+    for (bytes, want) in FEATURES {
+        let output = made(rt.alloc(), true, "out", bytes)?;
+        let missing = output.features_missing();
+        drop(output);
+        assert!(rt; missing == *want);
+    }
+    Ok(())
+}
+
+// A further name of 4 bytes and a version of one take 7 in the producers.
+#[test]
+fn an_outputs_module_is_changed(rt: HostRuntime) -> Result<(), Fail> {
+    let mut output = made(rt.alloc(), true, "out", EMPTY)?;
+    output.wasm_mut().add_processed_by(rt.alloc(), "tool", "1")?;
+    let told = length_told(rt.alloc(), Ok(output))?;
+    assert_told::<_, AllocError>(&rt, Ok(told), "63")?;
     Ok(())
 }
 

@@ -93,7 +93,7 @@ const FAULTS: &[(bool, &str, &[u8], &str)] = &[
     (true, "a b", b"", "BadStem"),
     // Seven bytes end at place 7.
     (false, "out", b"\0asm\x01\0\0", "Parse { place: 7 }"),
-    // Another target than Deno, an import that is exported and that nothing describes.
+    // Another target than Deno, an import that nothing describes.
     (
         false,
         "out",
@@ -104,7 +104,7 @@ const FAULTS: &[(bool, &str, &[u8], &str)] = &[
         true,
         "out",
         b"\0asm\x01\0\0\0\x01\x05\x01\x60\x01\x7f\0\x02\x20\x01\x18__wbindgen_placeholder__\x03log\0\0\x07\x07\x01\x03log\0\0",
-        "NotBuilt { what: Text { string: \"description\" } }",
+        "UnboundImport { import: ImportId(0) }",
     ),
 ];
 

@@ -1,14 +1,15 @@
-//! What the tests of `glue_tree_cases`, `glue_check_cases` and `glue_cases` begin with: words that are printed, lists of names,
-//! settings, and how a value is shown. Only these tests use it.
+//! What the tests of `glue_tree_cases`, `glue_lower_cases`, `glue_check_cases` and `glue_cases` begin with: words that are printed,
+//! lists of names, settings, modules with a custom section, and how a value is shown. Only these tests use it.
 //!
 //! Promised: each function gives exactly what it says, or memory runs out; of `shown` nothing is promised.
 //!
-//! Stands on `glue_scope` and its words for what is printed, on `glue_shared` for settings, and on `wasm_core`.
+//! Stands on `glue_scope` and its words for what is printed, on `glue_shared` for settings, and on `wasm_core` and `wasm_bytes`.
 #![tactic(auto)]
 
-ghost use Rattle.std.specs.Prelude.{◌≡◌, [], ◌∷◌, codes, map, true, false, string_bytes, IfOk};
-ghost use Rattle.glue_words.specs.Words as spec;
-ghost use Rattle.glue_words.specs.declared.item.Role.TheVariants.{Body};
+ghost use Rattle.std.specs.Prelude.{◌≡◌, [], ◌∷◌, ◌++◌, codes, map, true, false, string_bytes, IfOk};
+ghost use Rattle.glue_scope.specs.Words as spec;
+ghost use Rattle.wasm_bytes.specs.Spelling.{framed_bytes, name_bytes};
+ghost use Rattle.glue_scope.specs.item.Role.TheVariants.{Body};
 
 use glue_scope::{Item, Role, Word, print};
 use glue_shared::{EncodeInto, Settings, Target};
@@ -16,6 +17,7 @@ use std::alloc::{AllocError, Global};
 use std::fmt::Debug;
 use std::slice;
 use values::{Seq, Text};
+use wasm_bytes::{write_framed, write_name};
 use wasm_core::ParseConfig;
 
 /// Names and producers are read, debug information is left out.
@@ -74,6 +76,24 @@ pub fn settings(
         reset_state: false,
         force_abort: false,
     })
+}
+
+/// A module with a custom section of this name and content behind it.
+pub fn with_custom(
+    alloc: Global,
+    module: &[u8],
+    name: &str,
+    content: &[u8],
+) -> Result<Vec<u8>, AllocError>
+    ensures { IfOk result (λ bytes. bytes.items ≡ «module».now ++ 0 ∷ framed_bytes (name_bytes name.now ++ content.now)) }
+{
+    let mut named = Vec::new(alloc);
+    write_name(&mut named, name)?;
+    named.extend_from_slice(content)?;
+    let mut bytes = Vec::from_slice(alloc, module)?;
+    bytes.push(0)?;
+    write_framed(&mut bytes, named.as_slice())?;
+    Ok(bytes)
 }
 
 /// A value as `{:?}` prints it.

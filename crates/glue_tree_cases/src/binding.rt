@@ -53,7 +53,7 @@ fn export_bound(
 ) -> Result<String, AllocError> {
     let call = Step::CallExport {
         name: Text::from_str(alloc, name)?,
-        params,
+        params: params as usize,
         has_result,
     };
     let steps = passing(alloc, params, call, has_result)?;
@@ -106,11 +106,41 @@ const MAX: Import = Import {
     has_result: true,
 };
 
+// a field that is no identifier
+const KEBAB: Import = Import {
+    adapter: 4,
+    global: "globalThis",
+    fields: &["a-b"],
+    wanted: &["a"],
+    params: 1,
+    has_result: true,
+};
+
+// a field with dots, of which each part is a property
+const SETTER: Import = Import {
+    adapter: 5,
+    global: "Map",
+    fields: &["prototype.set.call"],
+    wanted: &["map", "key", "value"],
+    params: 3,
+    has_result: false,
+};
+
+// a computed key, which stands whole
+const ITERATOR: Import = Import {
+    adapter: 6,
+    global: "document",
+    fields: &["all", "[Symbol.iterator]", "class"],
+    wanted: &[],
+    params: 0,
+    has_result: false,
+};
+
 fn import_call(alloc: Global, import: &Import) -> Result<Step, AllocError> {
     let fields = texts(alloc, import.fields)?;
     Ok(Step::CallImport {
         adapter: import.adapter,
-        params: import.params,
+        params: import.params as usize,
         has_result: import.has_result,
         global: Text::from_str(alloc, import.global)?,
         fields,
@@ -136,8 +166,30 @@ fn imports(rt: HostRuntime) -> Result<(), AllocError> {
     )
 }
 
+#[test]
+fn fields_of_any_text(rt: HostRuntime) -> Result<(), AllocError> {
+    let kebab = import_bound(rt.alloc(), &KEBAB);
+    assert_told(
+        &rt,
+        kebab,
+        "(a) {\nconst ret = globalThis[\"a-b\"](a);\nreturn ret;\n}",
+    )?;
+    let setter = import_bound(rt.alloc(), &SETTER);
+    assert_told(
+        &rt,
+        setter,
+        "(map, key, value) {\nMap.prototype.set.call(map, key, value);\n}",
+    )?;
+    let iterator = import_bound(rt.alloc(), &ITERATOR);
+    assert_told(
+        &rt,
+        iterator,
+        "() {\ndocument.all[Symbol.iterator][\"class\"]();\n}",
+    )
+}
+
 /// The call of an export that has a result.
-fn asking(alloc: Global, name: &str, params: u32) -> Result<Step, AllocError> {
+fn asking(alloc: Global, name: &str, params: usize) -> Result<Step, AllocError> {
     Ok(Step::CallExport {
         name: Text::from_str(alloc, name)?,
         params,

@@ -1,0 +1,343 @@
+//! What isn't built, each by the name of its kind, and next to it what is.
+use crate::checking::{Asked, AskedCase, Group, Place, assert_asked, assert_fault, assert_groups};
+use crate::modules::{ADD, WITH_FOREIGN, WITH_MEMORY, WITH_MEMORY_IMPORT, WITH_PARTS};
+use glue_inputs::with_custom;
+use std::alloc::{AllocError, Global};
+
+/// A key beside adapters, exports and imports.
+const KEY: Place = (r#""version":1"#, r#""version":1,"#);
+
+/// A key of the export, its kind, and its name.
+const EXPORT_KEY: Place = (r#""name":"add""#, r#""name":"add","#);
+
+const KIND: Place = (r#""kind":"function""#, r#""kind":"#);
+
+const NAME: Place = ("add", "");
+
+/// The types of the results of the export's adapter, and of the arguments of the one that is a call.
+const RESULTS: Place = (r#""results":["s32"]"#, r#""results":"#);
+
+const ARGUMENTS: Place = (r#"{"id":2,"args":["s32"]"#, r#"{"id":2,"args":"#);
+
+/// The instruction behind the call of the export.
+const INSTRUCTION: Place = (
+    r#"["CallExport",0],["WasmToInt32",false]"#,
+    r#"["CallExport",0],"#,
+);
+
+/// What the import is described as, the properties that lead to what is called, and how that is called.
+const DESCRIBED: Place = (r#"["Bare",{"global":"console","fields":["log"]}]"#, "");
+
+const FIELDS: Place = (r#"["log"]"#, "");
+
+const CALL: Place = ("normal", "");
+
+const GROUPS: &[Group] = &[
+    (
+        WITH_PARTS,
+        KEY,
+        "",
+        &[
+            r#""catch":[],"variadic":[],"adapter_exports":[],"static_slots":[],"parts":{}"#,
+            r#""structs":[],"enums":[],"string_enums":[],"unions":[],"reexports":[]"#,
+            r#""snippets":{},"local_modules":{},"package_jsons":[],"extra_typescript":[]"#,
+            r#""uses_reinit":false,"legacy_exception_handling":false"#,
+            // Parts that nothing built asks for.
+            r#""parts":{"exn_store":0,"destroy_closure":0,"function_table":0,"stack_pointer":0}"#,
+            r#""parts":{"externref_alloc":0,"externref_drop":0,"externref_drop_slice":0}"#,
+            r#""parts":{"externref_table":0}"#,
+        ],
+    ),
+    (
+        WITH_PARTS,
+        KEY,
+        "NotBuilt imports",
+        &[r#""variadic":[2]"#, r#""static_slots":[null]"#],
+    ),
+    (
+        WITH_PARTS,
+        KEY,
+        "NotBuilt exports",
+        &[
+            r#""enums":[{"name":"E"}]"#,
+            r#""string_enums":[{"name":"E"}]"#,
+            r#""reexports":[{"name":"r","js":{"global":"r"}}]"#,
+        ],
+    ),
+    (
+        WITH_PARTS,
+        KEY,
+        "NotBuilt instructions",
+        &[r#""catch":[1]"#, r#""adapter_exports":[[0,0]]"#],
+    ),
+    (
+        WITH_PARTS,
+        KEY,
+        "NotBuilt classes",
+        &[r#""structs":[{"name":"C"}]"#],
+    ),
+    (
+        WITH_PARTS,
+        KEY,
+        "NotBuilt lifecycle",
+        &[
+            r#""uses_reinit":true"#,
+            r#""legacy_exception_handling":true"#,
+            r#""parts":{"js_tag":0}"#,
+            r#""parts":{"wrapped_js_tag":0}"#,
+            r#""parts":{"rethrow_critical":0}"#,
+            r#""unions":[{"name":"U"}]"#,
+            r#""extra_typescript":["type T = 1;"]"#,
+        ],
+    ),
+    (
+        WITH_PARTS,
+        KEY,
+        "NotBuilt files",
+        &[r#""snippets":{"a":[]}"#, r#""local_modules":{"a.js":""}"#],
+    ),
+    (
+        ADD,
+        EXPORT_KEY,
+        "",
+        &[
+            r#""class":null,"receiver":"none","namespace":[],"comments":null"#,
+            r#""variadic":false,"jsdoc":false,"async":false,"comments":"""#,
+            r#""typescript":false,"debug":"some""#,
+        ],
+    ),
+    (
+        ADD,
+        EXPORT_KEY,
+        "NotBuilt exports",
+        &[r#""namespace":["some"]"#, r#""comments":"some""#],
+    ),
+    (
+        ADD,
+        EXPORT_KEY,
+        "NotBuilt instructions",
+        &[r#""variadic":true"#, r#""jsdoc":true"#],
+    ),
+    (ADD, EXPORT_KEY, "NotBuilt lifecycle", &[r#""async":true"#]),
+    (ADD, KIND, "NotBuilt instructions", &[r#""function_this""#]),
+    (
+        ADD,
+        KIND,
+        "NotBuilt classes",
+        &[
+            r#""constructor","class":"C""#,
+            r#""method","class":"C""#,
+            r#""getter","class":"C""#,
+            r#""setter","class":"C""#,
+        ],
+    ),
+    // Names of an export where the module has one import, and then where it has a memory too.
+    (
+        ADD,
+        NAME,
+        "",
+        &[
+            "$_1",
+            "length",
+            "__wasm",
+            "HEAP8",
+            "import2",
+            "getStringFromWasm0",
+        ],
+    ),
+    (
+        ADD,
+        NAME,
+        "NotBuilt exports",
+        &[
+            "", "1x", "a-b", "default", "Error", "console", "wasm", "heap", "import1",
+        ],
+    ),
+    (WITH_MEMORY, NAME, "", &["getStringFromWasm1"]),
+    (
+        WITH_MEMORY,
+        NAME,
+        "NotBuilt exports",
+        &["getStringFromWasm0"],
+    ),
+    (
+        ADD,
+        RESULTS,
+        "",
+        &[r#"["i32"]"#, r#"["s32"]"#, r#"["u32"]"#],
+    ),
+    (
+        ADD,
+        RESULTS,
+        "NotBuilt instructions",
+        &[
+            r#"["i64"]"#,
+            r#"["s64"]"#,
+            r#"["u64"]"#,
+            r#"["bool"]"#,
+            r#"["string"]"#,
+            r#"["externref"]"#,
+            r#"[{"class":"C"}]"#,
+            r#"[{"enum":"E"}]"#,
+            r#"[{"string_enum":"E"}]"#,
+            r#"[{"union":"U"}]"#,
+            r#"[{"vec":"U8"}]"#,
+            r#"[{"option":"s32"}]"#,
+        ],
+    ),
+    (ADD, ARGUMENTS, "", &[r#"["u32"]"#]),
+    (ADD, ARGUMENTS, "NotBuilt instructions", &[r#"["bool"]"#]),
+    (ADD, INSTRUCTION, "", &[r#"["WasmToInt32",true]"#]),
+    (
+        WITH_MEMORY,
+        INSTRUCTION,
+        "NotBuilt instructions",
+        &[
+            r#"["Int64ToWasm"]"#,
+            r#"["I32FromBool"]"#,
+            r#"["WasmToInt64",false]"#,
+            r#"["BoolFromI32"]"#,
+            r#"["StringToMemory",1,null,0]"#,
+            r#"["OptionStringToMemory",1,1,0]"#,
+            r#"["MemoryToString",0]"#,
+            r#"["DeferFree",1,1]"#,
+            r#"["Retptr",16]"#,
+            r#"["LoadRetptr",0,"i32",0]"#,
+            r#"["StoreRetptr",0,"i64",0]"#,
+            r#"["IndexFromOwned"]"#,
+            r#"["IndexFromBorrow"]"#,
+            r#"["TakeIndex"]"#,
+            r#"["GetIndex"]"#,
+            r#"["ClassIntoPtr","C"]"#,
+            r#"["ClassPtr","C"]"#,
+            r#"["ClassFromPtr","C"]"#,
+            r#"["EnumIndex","E"]"#,
+            r#"["EnumText","E"]"#,
+            r#"["Closure",0,true]"#,
+            r#"["VecFromWasm","U8",0]"#,
+            r#"["VecToWasm","U8",1,0]"#,
+            r#"["UnwrapResult"]"#,
+        ],
+    ),
+    (ADD, DESCRIBED, "", &[r#"["Bare",{"global":"g"}]"#]),
+    // The export is called like a global that the description takes from outside.
+    (
+        ADD,
+        DESCRIBED,
+        "NotBuilt exports",
+        &[r#"["Bare",{"global":"add"}]"#],
+    ),
+    (
+        ADD,
+        DESCRIBED,
+        "NotBuilt imports",
+        &[
+            r#"["Bare",{"module":"m","name":"g"}]"#,
+            r#"["Bare",{"local":"a.js","name":"g"}]"#,
+            r#"["Bare",{"inline":"c","index":0,"name":"g"}]"#,
+            r#"["Bare",{"vendor":"g","prefixes":["webkit"]}]"#,
+            r#"["Getter",{"global":"g"},"x"]"#,
+            r#"["ClassGetter",{"global":"g"},"x"]"#,
+            r#"["Setter",{"global":"g"},"x"]"#,
+            r#"["ClassSetter",{"global":"g"},"x"]"#,
+            r#"["ValueWithThis",{"global":"g"},"x"]"#,
+            r#"["Instanceof",{"global":"g"}]"#,
+            r#"["Static",{"global":"g"},false]"#,
+            r#"["String","s"]"#,
+            r#"["Cast","c"]"#,
+            r#"["StructuralMethod","x"]"#,
+            r#"["StructuralGetter","x"]"#,
+            r#"["StructuralSetter","x"]"#,
+            r#"["StructuralClassGetter",{"global":"g"},"x"]"#,
+            r#"["StructuralClassSetter",{"global":"g"},"x"]"#,
+            r#"["IndexingGetterOfClass",{"global":"g"}]"#,
+            r#"["IndexingSetterOfClass",{"global":"g"}]"#,
+            r#"["IndexingDeleterOfClass",{"global":"g"}]"#,
+            r#"["IndexingGetterOfObject"]"#,
+            r#"["IndexingSetterOfObject"]"#,
+            r#"["IndexingDeleterOfObject"]"#,
+            r#"["WrapInExportedClass","C"]"#,
+            r#"["UnwrapExportedClass","C"]"#,
+            r#"["LinkTo","a.js","x"]"#,
+            r#"["Intrinsic","Throw"]"#,
+        ],
+    ),
+    // Properties may have any names.
+    (
+        ADD,
+        FIELDS,
+        "",
+        &[
+            "[]",
+            r#"["a","b","c"]"#,
+            r#"["my-lib","","1","class","__proto__"]"#,
+            r#"["prototype.set.call","[Symbol.iterator]"]"#,
+        ],
+    ),
+    (ADD, CALL, "NotBuilt imports", &["method", "constructor"]),
+];
+
+#[test]
+fn what_a_description_asks_for_is_built_or_named(rt: HostRuntime) -> Result<(), AllocError> {
+    assert_groups(&rt, rt.alloc(), GROUPS)
+}
+
+const ASKED: &[AskedCase] = &[
+    (&[], (ADD, &[], "")),
+    (&[Asked::Others], (ADD, &[], "")),
+    (&[Asked::Bundler], (ADD, &[], "NotBuilt target")),
+    (&[Asked::Web], (ADD, &[], "NotBuilt target")),
+    (&[Asked::Node], (ADD, &[], "NotBuilt target")),
+    (&[Asked::Module], (ADD, &[], "NotBuilt target")),
+    (&[Asked::Emscripten], (ADD, &[], "NotBuilt target")),
+    (&[Asked::NoImports], (ADD, &[], "NotBuilt imports")),
+    (&[Asked::SplitModules], (ADD, &[], "NotBuilt imports")),
+    (&[Asked::Debug], (ADD, &[], "NotBuilt settings")),
+    (&[Asked::Typescript], (ADD, &[], "NotBuilt settings")),
+    (&[Asked::ExportWasm], (ADD, &[], "NotBuilt settings")),
+    (&[Asked::SplitDebugInfo], (ADD, &[], "NotBuilt files")),
+    // Imports of the module.
+    (&[], (WITH_FOREIGN, &[], "NotBuilt imports")),
+    (&[], (WITH_MEMORY_IMPORT, &[], "NotBuilt imports")),
+];
+
+#[test]
+fn what_is_asked_for_beside_it_is_built_or_named(rt: HostRuntime) -> Result<(), AllocError> {
+    assert_asked(&rt, rt.alloc(), ASKED)
+}
+
+/// `ADD` with this name for the function at a place. A name of more than 100 bytes is left out.
+fn with_name(alloc: Global, place: u8, name: &str) -> Result<Vec<u8>, AllocError> {
+    if name.len() > 100 {
+        return Vec::from_slice(alloc, ADD);
+    }
+    let length = name.len() as u8;
+    let mut names = Vec::from_slice(alloc, &[1, length + 3, 1, place, length])?;
+    names.extend_from_slice(name.as_bytes())?;
+    with_custom(alloc, ADD, "name", names.as_slice())
+}
+
+/// A function's place, its name, and the fault where names are to be demangled.
+const NAMES: &[(u8, &str, &str)] = &[
+    (1, "_ZN3fooE", "NotBuilt files"),
+    (1, "ZN3fooE", "NotBuilt files"),
+    (1, "__ZN3fooE", "NotBuilt files"),
+    (1, "_ZNfoo", "NotBuilt files"),
+    (0, "_ZN3fooE", "NotBuilt files"),
+    (1, "foo", ""),
+    (1, "_Z3foov", ""),
+    (1, "_RNvC3foo3bar", ""),
+    (1, "a_ZN3fooE", ""),
+    (1, "___ZN3fooE", ""),
+];
+
+#[test]
+fn mangled_names_are_not_built_unless_they_stay(rt: HostRuntime) -> Result<(), AllocError> {
+    for (place, name, want) in NAMES {
+        let module = with_name(rt.alloc(), *place, name)?;
+        assert_fault(&rt, rt.alloc(), &[], module.as_slice(), &[], want)?;
+        let kept = &[Asked::NoDemangle];
+        assert_fault(&rt, rt.alloc(), kept, module.as_slice(), &[], "")?;
+    }
+    Ok(())
+}

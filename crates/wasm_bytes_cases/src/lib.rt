@@ -1,0 +1,12 @@
+//! Tests of `values`, `wasm_bytes` and `wasm_ops`: containers, and what no contract says of numbers, names and operators, as bytes of
+//! the standard and what they mean.
+#![tactic(auto)]
+
+#[cfg(test)]
+mod bytes;
+#[cfg(test)]
+mod compare;
+#[cfg(test)]
+mod containers;
+#[cfg(test)]
+mod ops;

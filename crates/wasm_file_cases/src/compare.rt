@@ -1,0 +1,37 @@
+//! What a test makes, beside what it wants.
+
+use std::alloc::{AllocError, Global};
+use std::fmt::Debug;
+use std::process::Abort;
+
+/// It holds in this case.
+pub fn assert_case<H: Abort, C: Debug>(rt: &H, holds: bool, case: &C) {
+    assert!(rt; holds, "{case:?}");
+}
+
+/// The text is this one.
+pub fn assert_told<H: Abort, E: Drop>(
+    rt: &H,
+    told: Result<String, E>,
+    want: &str,
+) -> Result<(), E> {
+    let told = told?;
+    assert_case(rt, told.as_str() == want, &(told.as_str(), want));
+    Ok(())
+}
+
+/// The bytes are these.
+pub fn assert_bytes<H: Abort, E: Drop>(
+    rt: &H,
+    found: Result<Vec<u8>, E>,
+    want: &[u8],
+) -> Result<(), E> {
+    let found = found?;
+    assert_case(rt, found.as_slice() == want, &(found.as_slice(), want));
+    Ok(())
+}
+
+/// A value as `{:?}` prints it.
+pub fn debugged<T: Debug + Drop>(alloc: Global, value: T) -> Result<String, AllocError> {
+    format!(in alloc; "{value:?}")
+}
