@@ -1,4 +1,4 @@
-"""What the scripts of this folder share: the program, a number's bytes, the time and memory of one run of a command."""
+"""What the scripts of this folder share: the program, a number's bytes, modules without names, the time and memory of a run."""
 
 import os
 import subprocess
@@ -30,6 +30,35 @@ def leb128(value):
         out.append(value & 0x7F | 0x80)
         value >>= 7
     out.append(value)
+    return bytes(out)
+
+
+def read_leb128(data, at):
+    """The number that stands at a place in unsigned LEB128, and the place behind it."""
+    value = shift = 0
+    while True:
+        byte = data[at]
+        at += 1
+        value |= (byte & 0x7F) << shift
+        shift += 7
+        if byte < 0x80:
+            return value, at
+
+
+def without_names(module):
+    """The module without its name section (WebAssembly core specification, 7.4.1).
+
+    Compilers mangle the names of functions. The program, which demangles them by default, doesn't do so yet and refuses a
+    module with such names.
+    """
+    out, at = bytearray(module[:8]), 8
+    while at < len(module):
+        content = read_leb128(module, at + 1)
+        end = content[1] + content[0]
+        length, name = read_leb128(module, content[1])
+        if module[at] != 0 or module[name : name + length] != b"name":
+            out += module[at:end]
+        at = end
     return bytes(out)
 
 

@@ -2,7 +2,8 @@
 """Runs the program over modules that others made, and checks what it writes with a validator.
 
 Each text of texts/ is made a module by wat2wasm, and the program of bench/modules/program.rs is compiled by rustc, once
-without optimisation and with debug sections and once optimised. Each module has to be valid. The program reads it and
+without optimisation and with debug sections and once optimised; its name section is dropped, since its names are mangled,
+and demangling isn't built. Each module has to be valid. The program reads it and
 writes the listing; the module in the listing has to be valid too. Given that module, the program has to write the same
 bytes again. Prints a line for each module, and ends with status 1 where one isn't so.
 
@@ -21,7 +22,7 @@ from pathlib import Path
 HERE = Path(__file__).resolve().parent
 TOP = HERE.parent
 sys.path.insert(0, str(TOP / "bench"))
-from shared import program  # noqa: E402
+from shared import program, without_names  # noqa: E402
 
 FEATURES = [f"--enable-{name}" for name in ("exceptions", "tail-call", "memory64", "multi-memory", "extended-const")]
 LINKERS = ["rust-lld", "lld"]
@@ -80,8 +81,9 @@ def compiled(folder):
     if rustc is None or linker is None:
         print("program.rs: left out, since rustc or lld is missing")
         return
+    (folder / "compiled").mkdir()
     for name, flags in (("debug", ["-g"]), ("optimised", ["-C", "opt-level=3"])):
-        path = folder / f"{name}.wasm"
+        path = folder / "compiled" / f"{name}.wasm"
         source = str(TOP / "bench/modules/program.rs")
         target = ["--target", "wasm32-unknown-unknown", "--crate-type", "cdylib", "-C", f"linker={linker}"]
         yield f"program.rs, {name}", path, [rustc, *target, "-C", "linker-flavor=wasm-ld", *flags, source, "-o", str(path)]
@@ -97,6 +99,8 @@ def main():
         for title, path, make in [*texts(folder), *compiled(folder)]:
             try:
                 run(make)
+                if path.parent.name == "compiled":
+                    path.write_bytes(without_names(path.read_bytes()))
                 before, after = check(glue, path, folder)
                 print(f"{title}: {before:,} bytes, written in {after:,}")
             except Wrong as fault:

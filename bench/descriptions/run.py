@@ -1,5 +1,5 @@
 #!/usr/bin/env python3
-"""Measures the program on descriptions of 1,000, 10,000 and 30,000 exported and as many imported functions.
+"""Measures the program on descriptions of 1,000, 10,000 and 100,000 exported and as many imported functions.
 
 Prints a table. The program is the one that the environment variable GLUE names, or else the one that the script `glue` runs.
 """
@@ -14,7 +14,7 @@ sys.path.insert(0, str(Path(__file__).resolve().parents[1]))
 from shared import program, run  # noqa: E402
 
 HERE = Path(__file__).resolve().parent
-SIZES = [1_000, 10_000, 30_000]
+SIZES = [1_000, 10_000, 100_000]
 RUNS = 3
 
 
@@ -25,14 +25,17 @@ def make(count, path):
 
 
 def check(command, path, count):
-    """Runs the program once, and stops where its glue file doesn't hold each function once."""
-    with path.open("rb") as module:
-        done = subprocess.run(command, stdin=module, stdout=subprocess.PIPE)
-    # The first declaration stands behind the heading of its file, on a line of its own.
-    exports = done.stdout.count(b"\nexport function f")
-    members = done.stdout.count(b": function(arg0) {\n")
-    if done.returncode != 0 or exports != count or members != count:
-        sys.exit(f"{path.name}: status {done.returncode}, {exports} exports and {members} members for {count} of each")
+    """Runs the program once, and stops where its glue file doesn't hold each function once.
+
+    The listing is gone through line by line, so that this process stays small (see `run`).
+    """
+    exports = members = 0
+    with path.open("rb") as module, subprocess.Popen(command, stdin=module, stdout=subprocess.PIPE) as child:
+        for line in child.stdout:
+            exports += line.startswith(b"export function f")
+            members += line.endswith(b": function(arg0) {\n")
+    if child.returncode != 0 or exports != count or members != count:
+        sys.exit(f"{path.name}: status {child.returncode}, {exports} exports and {members} members for {count} of each")
 
 
 def exponent(before, after, name):

@@ -4,7 +4,7 @@
 The program reads a module, writes it again and prints the listing, whose greater part is the module in hexadecimal.
 wasm-strip reads every operator and copies the module; wasm-opt -O0 --all-features reads it and writes it again; xxd -p
 prints its bytes in hexadecimal. The modules are generated ones of 1, 4 and 16 MB of code (make.py), and those that rustc
-makes of program.rs, without optimisation with debug sections, and optimised. The program is the one that the
+makes of program.rs, without optimisation with debug sections, and optimised, both without their name section. The program is the one that the
 environment variable GLUE names, or else the one that the script `glue` runs.
 """
 
@@ -16,7 +16,7 @@ import tempfile
 from pathlib import Path
 
 sys.path.insert(0, str(Path(__file__).resolve().parents[1]))
-from shared import program, run  # noqa: E402
+from shared import program, run, without_names  # noqa: E402
 
 HERE = Path(__file__).resolve().parent
 SIZES = [1_000_000, 4_000_000, 16_000_000]
@@ -53,6 +53,7 @@ def compiled(folder):
         target = ["--target", "wasm32-unknown-unknown", "--crate-type", "cdylib", "-C", f"linker={linker}"]
         words = [rustc, *target, "-C", "linker-flavor=wasm-ld", *flags, str(HERE / "program.rs"), "-o", str(path)]
         subprocess.run(words, check=True, stdout=subprocess.DEVNULL, stderr=subprocess.DEVNULL)
+        path.write_bytes(without_names(path.read_bytes()))
         yield path
 
 
