@@ -16,7 +16,7 @@ import tempfile
 from pathlib import Path
 
 sys.path.insert(0, str(Path(__file__).resolve().parents[1]))
-from shared import program, run, without_names  # noqa: E402
+from shared import program, run  # noqa: E402
 
 HERE = Path(__file__).resolve().parent
 SIZES = [1_000_000, 4_000_000, 16_000_000]
@@ -53,7 +53,7 @@ def compiled(folder):
         target = ["--target", "wasm32-unknown-unknown", "--crate-type", "cdylib", "-C", f"linker={linker}"]
         words = [rustc, *target, "-C", "linker-flavor=wasm-ld", *flags, str(HERE / "program.rs"), "-o", str(path)]
         subprocess.run(words, check=True, stdout=subprocess.DEVNULL, stderr=subprocess.DEVNULL)
-        path.write_bytes(without_names(path.read_bytes()))
+        subprocess.run([sys.executable, str(HERE / "nameless.py"), str(path)], check=True)
         yield path
 
 
