@@ -1,0 +1,3 @@
+pub mod HeapItems
+pub mod HeapKeys
+pub mod HeapTrees
