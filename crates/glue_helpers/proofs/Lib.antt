@@ -1,0 +1,9 @@
+pub mod ArrayTexts
+pub mod ClosureTexts
+pub mod ErrorTexts
+pub mod Numbered
+pub mod PlainTexts
+pub mod ReferenceTexts
+pub mod StringTexts
+pub mod Telling
+pub mod ViewTexts

@@ -1,0 +1,10 @@
+pub mod Arrays
+pub mod Closures
+pub mod Errors
+pub mod Items
+pub mod Numbered
+pub mod Plain
+pub mod References
+pub mod Strings
+pub mod TextNames
+pub mod Views

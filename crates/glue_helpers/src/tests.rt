@@ -1,0 +1,2 @@
+//! Tests of the texts.
+mod helper_texts;
