@@ -1,5 +1,5 @@
 -- What adapters have to be: those that are exported, those that stand for imports, and all others.
-use Rattle.std.specs.Prelude.{ℕ, ◌==◌, nat_le, Bool, true, false, not, ◌&&◌, ◌||◌, List, [], ◌∷◌, length, map, Option, Some, None, option_map, option_and_then}
+use Rattle.std.specs.Prelude.{ℕ, ◌==◌, nat_le, Bool, true, false, not, ◌&&◌, List, [], length, Option, Some, None, option_map}
 use Rattle.std.specs.List.{list_any, list_all, count_by}
 use Rattle.std.specs.Ordering.{nat_cmp}
 use Rattle.values.specs.Map.{look_up}

@@ -1,8 +1,11 @@
 -- The first adapter that isn't what its place in the description asks for, and the first import that nothing defines.
-use Rattle.std.specs.Prelude.{ℕ, ◌==◌, ◌+◌, Bool, true, false, not, ◌&&◌, ◌||◌, is_some, if◌then◌else◌, List, [], ◌∷◌, length, map, codes, Option, Some, None, option_map, option_and_then, find}
+use Rattle.std.specs.Prelude.{ℕ, ◌==◌, Bool, true, false, not, ◌&&◌, ◌||◌, is_some, List, [], ◌∷◌, length, map, take, codes, Option, Some, None, option_map, option_and_then, find}
+use Rattle.std.specs.List.{list_any}
 use Rattle.std.specs.Str.{bytes_eq}
 use Rattle.wasm_core.specs.ids.ImportId.{ImportId}
 use Rattle.wasm_core.specs.ids.ExportId.{ExportId}
+use Rattle.wasm_core.specs.ids.FuncId.{FuncId}
+use Rattle.wasm_core.specs.ids.TagId.{TagId}
 use Rattle.wasm_core.specs.types.FuncType.{FuncType}
 use Rattle.wasm_core.specs.declared.types.Import.{Import}
 use Rattle.wasm_core.specs.declared.types.ImportKind.{ImportKind}
@@ -18,12 +21,13 @@ use Rattle.glue_shared.specs.declared.aux.AuxReceiverKind.{AuxReceiverKind}
 use Rattle.glue_shared.specs.declared.aux.AuxReceiverKind.TheVariants as receivers
 use Rattle.glue_shared.specs.declared.import.AuxImport.{AuxImport}
 use Rattle.glue_shared.specs.declared.description.Lowered.{Lowered}
-use Rattle.glue_shared.specs.Names.{has_number}
+use Rattle.glue_shared.specs.declared.settings.Settings.{Settings}
+use Rattle.glue_shared.specs.Names.{has_number, own_imports}
 use Rattle.glue_steps.specs.Resolving.{entry_at, type_of}
 use Rattle.glue_faults.specs.declared.fault.Fault.{Fault}
 use Rattle.glue_faults.specs.declared.fault.Fault.TheVariants as faults
 use Rattle.glue_faults.specs.First.{first_some, first_after}
-use Rattle.glue_adapters.specs.Adapters.{adapter_at, code_of, has_code, is_local, is_import, fits_outward, fits_inward}
+use Rattle.glue_adapters.specs.Adapters.{adapter_at, has_code, is_local, is_import, fits_outward, fits_inward}
 use Rattle.glue_adapters.specs.Stack.{export_type}
 
 -- ---- the lists in which adapters stand
@@ -176,7 +180,7 @@ bad_adapter l = option_map faults.BadAdapter (bad_id l)
 
 -- ---- imports that nothing defines
 
--- an import that the glue file is to define
+-- an import of the module of placeholders
 abbrev pub is_placeholder : Option Import → Bool
 is_placeholder None = false
 is_placeholder (Some i) = bytes_eq i.«module» (codes "__wbindgen_placeholder__")
@@ -185,12 +189,30 @@ is_placeholder (Some i) = bytes_eq i.«module» (codes "__wbindgen_placeholder__
 abbrev pub implemented : NonstandardWitSection → List ℕ
 implemented wit = map (λ pair. pair.0.0) wit.implements
 
--- the place of the first placeholder, from a place on, that is none of these
-abbrev pub unbound_from : List ℕ → ℕ → List (Option Import) → Option ℕ
-unbound_from defined place [] = None
-unbound_from defined place (i ∷ imports) =
-    if is_placeholder i && not (has_number place defined) then Some place else unbound_from defined (place + 1) imports
+-- a part is the entry of this id
+abbrev pub is_id : ℕ → Option ℕ → Bool
+is_id id None = false
+is_id id (Some part) = part == id
 
--- an import that the glue file is to define, and that no adapter stands for
-abbrev pub unbound_import : Lowered → Option Fault
-unbound_import l = option_map (λ place. faults.UnboundImport (record { 0 = place })) (unbound_from (implemented l.wit) 0 l.«module».imports)
+-- What an import brings in is defined by the glue file, whatever is described: the first memory, the tags of exceptions, and the
+-- function that throws again.
+abbrev pub is_fixed_kind : Lowered → List ℕ → ImportKind → Bool
+is_fixed_kind l name (import_kinds.Memory memory) = not (list_any is_some (take memory.0 l.«module».memories))
+is_fixed_kind l name (import_kinds.Tag tag) =
+    bytes_eq name (codes "__wbindgen_jstag") || is_id tag.0 (option_map (λ (part : TagId). part.0) l.aux.wrapped_js_tag)
+is_fixed_kind l name (import_kinds.Func func) = is_id func.0 (option_map (λ (part : FuncId). part.0) l.aux.rethrow_critical)
+is_fixed_kind l name other = false
+
+-- the glue file defines the import, whatever is described
+abbrev pub is_fixed_import : Lowered → Option Import → Bool
+is_fixed_import l None = false
+is_fixed_import l (Some i) = is_fixed_kind l i.name i.kind
+
+-- no adapter stands for the import at the place (the places of which are these), and the glue file defines it only if it is described
+unfoldable pub is_unbound : Lowered → List ℕ → ℕ → Bool
+is_unbound l defined place = not (has_number place defined) && not (is_fixed_import l (entry_at l.«module».imports place))
+
+-- one of the imports that the glue file defines, for which no adapter stands, and which isn't defined whatever is described
+abbrev pub unbound_import : Settings → Lowered → Option Fault
+unbound_import settings l =
+    option_map (λ place. faults.UnboundImport (record { 0 = place })) (find (is_unbound l (implemented l.wit)) (own_imports settings l.«module» l.wit l.aux))

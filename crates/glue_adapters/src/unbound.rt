@@ -1,16 +1,16 @@
 //! The first adapter that isn't what its place asks for, and the first import that nothing defines.
-ghost use Rattle.std.specs.Prelude.{◌≡◌, ◌&&◌, not, IfOk, map, option_map};
-ghost use Rattle.glue_faults.specs.First as first;
-ghost use Rattle.glue_shared.specs.Names.{has_number};
+ghost use Rattle.std.specs.Prelude.{◌≡◌, IfOk, is_some, find, map, take, option_map};
+ghost use Rattle.std.specs.List.{list_any};
+ghost use Rattle.glue_steps.specs.Resolving.{entry_at};
 ghost use Rattle.glue_adapters.specs.Pairs as spec;
 
 use crate::adapters::bad_code;
 use crate::exports::{bad_callback, bad_entry, bad_export, first_not_import, first_not_local};
 use crate::pairs::bad_pair;
 use glue_faults::{Fault, IdSet};
-use glue_shared::{AdapterId, AuxImport, Lowered, NonstandardWitSection};
+use glue_shared::{AdapterId, AuxImport, Lowered, Settings, own_imports};
 use std::alloc::{AllocError, Global};
-use wasm_core::{ExportId, Import, ImportId};
+use wasm_core::{ExportId, FuncId, Import, ImportId, ImportKind, Memory, MemoryId, TagId};
 
 // The adapters that stand for imports.
 fn paired(alloc: Global, pairs: &[(ImportId, AdapterId)]) -> Result<IdSet, AllocError>
@@ -143,7 +143,7 @@ pub fn bad_adapter(alloc: Global, lowered: &Lowered) -> Result<Option<Fault>, Al
     }
 }
 
-/// Whether an import is one that the glue file is to define.
+/// Whether an import is one of the module of placeholders.
 pub fn is_placeholder(import: &Option<Import>) -> bool
     ensures test { result ≡ spec.is_placeholder import.now }
 {
@@ -153,58 +153,91 @@ pub fn is_placeholder(import: &Option<Import>) -> bool
     }
 }
 
-// The id of a place. Places past the last id stand for want of memory.
-fn import_id(place: usize) -> Result<ImportId, AllocError>
-    ensures id { IfOk result (λ id. id.0 ≡ place) }
+// Whether a memory stands before this one.
+fn has_earlier(memories: &[Option<Memory>], memory: MemoryId) -> bool
+    ensures test { result ≡ list_any is_some (take memory.0 memories.now) }
 {
-    if place < 4_294_967_296 {
-        Ok(ImportId(place as u32))
-    } else {
-        Err(AllocError)
+    memories
+        .iter()
+        .take(memory.0 as usize)
+        .any(|entry| entry.is_some())
+}
+
+fn is_tag(tag: TagId, part: Option<TagId>) -> bool
+    ensures test { result ≡ spec.is_id tag.0 (option_map (λ (part : TagId). part.0) part) }
+{
+    match part {
+        None => false,
+        Some(part) => part.0 == tag.0,
     }
 }
 
-// The place of an import, where it is a placeholder and none of these.
-fn where_unbound(
-    defined: &IdSet,
-    place: usize,
-    import: &Option<Import>,
-) -> Result<Option<ImportId>, AllocError>
-    ensures place { IfOk result (λ found. option_map (λ id. id.0) found ≡ first.where_true (spec.is_placeholder import.now && not (has_number place defined.now)) place) }
+fn is_func(func: FuncId, part: Option<FuncId>) -> bool
+    ensures test { result ≡ spec.is_id func.0 (option_map (λ (part : FuncId). part.0) part) }
 {
-    if !is_placeholder(import) {
-        return Ok(None);
-    }
-    let id = import_id(place)?;
-    if defined.has(id.0) {
-        Ok(None)
-    } else {
-        Ok(Some(id))
+    match part {
+        None => false,
+        Some(part) => part.0 == func.0,
     }
 }
 
-// The place of the first placeholder that is none of these.
-fn first_unbound(
-    defined: &IdSet,
-    imports: &[Option<Import>],
-) -> Result<Option<ImportId>, AllocError>
-    ensures place { IfOk result (λ found. option_map (λ id. id.0) found ≡ spec.unbound_from defined.now 0 imports.now) }
+// Whether the glue file defines what an import of this name brings in, whatever is described.
+fn is_fixed_kind(lowered: &Lowered, name: &str, kind: ImportKind) -> bool
+    ensures test { result ≡ spec.is_fixed_kind lowered.now name.now kind }
 {
-    for place in 0..imports.len() {
-        let found = where_unbound(defined, place, &imports[place])?;
-        if found.is_some() {
-            return Ok(found);
+    match kind {
+        ImportKind::Memory(memory) => !has_earlier(lowered.module.memories(), memory),
+        ImportKind::Tag(tag) => {
+            name == "__wbindgen_jstag" || is_tag(tag, lowered.aux.wrapped_js_tag)
+        }
+        ImportKind::Func(func) => is_func(func, lowered.aux.rethrow_critical),
+        ImportKind::Table(_) | ImportKind::Global(_) => false,
+    }
+}
+
+// The same of the import at a place.
+fn is_fixed_import(lowered: &Lowered, place: ImportId) -> bool
+    ensures test { result ≡ spec.is_fixed_import lowered.now (entry_at lowered.now.«module».imports place.0) }
+{
+    match lowered.module.imports().get(place.0 as usize) {
+        Some(Some(import)) => is_fixed_kind(lowered, import.name.as_str(), import.kind),
+        Some(None) => false,
+        None => false,
+    }
+}
+
+// Whether the place is none of these, and the import there isn't defined whatever is described.
+#[tactic(auto, unfolding(crate::specs::Pairs::is_unbound))]
+fn is_unbound(lowered: &Lowered, defined: &IdSet, place: ImportId) -> bool
+    ensures test { result ≡ spec.is_unbound lowered.now defined.now place.0 }
+{
+    !defined.has(place.0) && !is_fixed_import(lowered, place)
+}
+
+// The first such place of a list.
+fn first_unbound(lowered: &Lowered, defined: &IdSet, places: &[ImportId]) -> Option<ImportId>
+    ensures found { option_map (λ (id : ImportId). id.0) result ≡ find (spec.is_unbound lowered.now defined.now) (map (λ (id : ImportId). id.0) places.now) }
+{
+    for place in places {
+        if is_unbound(lowered, defined, *place) {
+            return Some(*place);
         }
     }
-    Ok(None)
+    None
 }
 
-/// The first import that the glue file is to define, and that no adapter stands for. Want of memory is the only error.
-pub fn unbound_import(alloc: Global, lowered: &Lowered) -> Result<Option<Fault>, AllocError>
-    ensures fault { IfOk result (λ fault. fault ≡ spec.unbound_import lowered.now) }
+/// The first import that the glue file is to define, and that neither an adapter nor the file itself defines. Want of memory is
+/// the only error.
+pub fn unbound_import(
+    alloc: Global,
+    settings: &Settings,
+    lowered: &Lowered,
+) -> Result<Option<Fault>, AllocError>
+    ensures fault { IfOk result (λ fault. fault ≡ spec.unbound_import settings.now lowered.now) }
 {
     let defined = implemented(alloc, lowered.wit.implements.as_slice())?;
-    match first_unbound(&defined, lowered.module.imports())? {
+    let own = own_imports(alloc, settings, &lowered.module, &lowered.wit, &lowered.aux)?;
+    match first_unbound(lowered, &defined, own.as_slice()) {
         Some(import) => Ok(Some(Fault::UnboundImport { import })),
         None => Ok(None),
     }

@@ -1,5 +1,5 @@
 -- What is known of a description of which all is built.
-use Rattle.std.proofs.Common.{◌≡◌, ℕ, List, [], ◌∷◌, Bool, true, false, not, ◌&&◌, ◌||◌, Some, None, true≢false, refl, sym, ◌∙◌, inl, inr, rules}
+use Rattle.std.proofs.Common.{◌≡◌, ℕ, List, [], ◌∷◌, Bool, true, false, not, ◌&&◌, ◌||◌, Option, Some, None, true≢false, refl, sym, ◌∙◌, inl, inr, rules}
 use Rattle.std.specs.List.{list_any, list_all}
 use Rattle.std.specs.Option.{is_some}
 use Rattle.std.proofs.lemmas.Bool.{and_parts}
@@ -215,6 +215,24 @@ adapters_built f s l h e i =
     let passed = neither codes kept (where_true-none (codes || kept) _ (none_unbuilt conditions.UnbuiltInstructions f s l (search rules) h)) in
     let each = list_any-none is_unbuilt_adapter l.wit.adapters e (neither (list_any is_unbuilt_adapter l.wit.adapters) (is_some_item l.wit.exports) passed.0).0 i in
     (neither (not (list_all spec.is_number e.1.args && list_all spec.is_number e.1.results)) (list_any spec.is_unbuilt_instruction (code_of e.1.kind)) each).1
+
+-- ---- lifecycle
+
+absent : {A : Type 0} (o : Option A) → is_some o ≡ false → o ≡ None
+absent None h = refl
+absent (Some x) h = absurd (true≢false h)
+
+-- no function throws again what the module threw
+pub no_rethrow : (f : FileFlags) (s : Settings) (l : Lowered) → unbuilt f s l ≡ None → l.aux.rethrow_critical ≡ None
+unfolding answer
+no_rethrow f s l h =
+    let rest = spec.has_exceptions l || spec.has_types l in
+    let all = neither l.aux.uses_reinit rest (where_true-none (l.aux.uses_reinit || rest) _ (none_unbuilt conditions.UnbuiltLifecycle f s l (search rules) h)) in
+    let older = l.aux.legacy_exception_handling || list_any spec.is_tag l.«module».imports in
+    let parts = is_some l.aux.js_tag || (is_some l.aux.wrapped_js_tag || is_some l.aux.rethrow_critical) in
+    let some = neither older parts (neither (spec.has_exceptions l) (spec.has_types l) all.1).0 in
+    let tags = neither (is_some l.aux.js_tag) (is_some l.aux.wrapped_js_tag || is_some l.aux.rethrow_critical) some.1 in
+    absent l.aux.rethrow_critical (neither (is_some l.aux.wrapped_js_tag) (is_some l.aux.rethrow_critical) tags.1).1
 
 -- ---- files
 

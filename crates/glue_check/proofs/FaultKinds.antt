@@ -2,15 +2,16 @@
 use Rattle.std.proofs.Common.{◌≡◌, List, [], ◌∷◌, Bool, true, false, Option, Some, None, refl, subst}
 use Rattle.std.specs.Prelude.{option_map}
 use Rattle.std.specs.Option.{option_or}
-use Rattle.wasm_core.specs.Contents.{Contents}
 use Rattle.glue_shared.specs.declared.description.Lowered.{Lowered}
 use Rattle.glue_shared.specs.declared.settings.Settings.{Settings}
+use Rattle.glue_shared.specs.Names.{own_names}
 use Rattle.glue_faults.specs.declared.fault.Fault.{Fault}
 use Rattle.glue_faults.specs.First.{first_of, first_some, where_true}
 use Rattle.glue_check.specs.declared.files.FileFlags.{FileFlags}
 use Rattle.glue_check.specs.FaultKinds.{is_of_check}
 use Rattle.glue_adapters.specs.Adapters.{unsupported, unsupported_in}
 use Rattle.glue_adapters.specs.Pairs.{bad_adapter, unbound_import}
+use Rattle.glue_check.specs.Modules.{module_clash}
 use Rattle.glue_check.specs.Naming.{bad_name, global_twice, import_clash, wasm_clash, start_clash, name_clash}
 use Rattle.glue_check.specs.Publishing.{export_clash, fixed_export}
 use Rattle.glue_check.specs.Unbuilt.{unbuilt_target, unbuilt_imports, unbuilt_exports, unbuilt_instructions, unbuilt_classes, unbuilt_settings, unbuilt_lifecycle, unbuilt_files}
@@ -56,9 +57,9 @@ unbuilt_kind files s l = first_some-kind
     (where_true-kind _ _ refl ▸ where_true-kind _ _ refl ▸ where_true-kind _ _ refl ▸ where_true-kind _ _ refl
     ▸ where_true-kind _ _ refl ▸ where_true-kind _ _ refl ▸ where_true-kind _ _ refl ▸ where_true-kind _ _ refl ▸ tt)
 
-clash_kind : (m : Contents) → IsOfCheck (name_clash m)
+clash_kind : (s : Settings) (l : Lowered) → IsOfCheck (name_clash s l)
 unfolding name_clash
-clash_kind m = first_some-kind (import_clash m.imports ∷ wasm_clash m.exports ∷ start_clash m ∷ [])
+clash_kind s l = first_some-kind (import_clash (own_names s l.«module» l.wit l.aux) ∷ wasm_clash l.«module».exports ∷ start_clash l.«module» ∷ [])
     (option_map-kind _ _ (λ i. refl) ▸ option_map-kind _ _ (λ e. refl) ▸ where_true-kind _ _ refl ▸ tt)
 
 verdict_kind : (s : Settings) (l : Lowered) → IsOfCheck (verdict s l)
@@ -66,10 +67,10 @@ unfolding verdict
 verdict_kind s l =
     let m = l.«module» in
     first_some-kind
-    (threads m ∷ package_json l.aux ∷ unsupported l.wit ∷ bad_adapter l ∷ unbound_import l ∷ bad_name m l.aux ∷ global_twice s m l.aux ∷ name_clash m ∷ export_clash l.aux ∷ fixed_export s m l.aux ∷ [])
+    (threads m ∷ package_json l.aux ∷ unsupported l.wit ∷ bad_adapter l ∷ unbound_import s l ∷ bad_name s l ∷ global_twice s l ∷ name_clash s l ∷ module_clash s l ∷ export_clash l.aux ∷ fixed_export s l ∷ [])
     (where_true-kind _ _ refl ▸ where_true-kind _ _ refl ▸ first_of-kind unsupported_in l.wit.adapters (λ entry. option_map-kind _ _ (λ name. refl))
     ▸ option_map-kind _ _ (λ id. refl) ▸ option_map-kind _ _ (λ place. refl) ▸ option_map-kind _ _ (λ name. refl) ▸ option_map-kind _ _ (λ name. refl)
-    ▸ clash_kind m ▸ option_map-kind _ _ (λ e. refl) ▸ option_map-kind _ _ (λ e. refl) ▸ tt)
+    ▸ clash_kind s l ▸ option_map-kind _ _ (λ name. refl) ▸ option_map-kind _ _ (λ e. refl) ▸ option_map-kind _ _ (λ e. refl) ▸ tt)
 
 -- the first fault of a description is one
 pub first_kind : (files : FileFlags) (s : Settings) (l : Lowered) (f : Fault) → first_some (unbuilt files s l ∷ verdict s l ∷ []) ≡ Some f → is_of_check f ≡ true

@@ -1,9 +1,10 @@
 pub mod BuiltForm
-pub mod Called
 pub mod Conditions
+mod Described
 pub mod ExportNames
 pub mod FaultKinds
 pub mod Globals
+mod OwnNames
 pub mod OwnPairs
 pub mod Passed
 pub mod PublicNames

@@ -9,7 +9,10 @@ use Rattle.values.specs.Lists.{IsIn, AreDistinct}
 use Rattle.values.specs.Map.{look_up}
 use Rattle.values.proofs.Members.{in_left, in_right, in_either}
 use Rattle.wasm_core.specs.ids.ImportId.{ImportId}
+use Rattle.wasm_core.specs.ids.FuncId.{FuncId}
 use Rattle.wasm_core.specs.declared.types.Import.{Import}
+use Rattle.wasm_core.specs.declared.types.ImportKind.{ImportKind}
+use Rattle.wasm_core.specs.declared.types.ImportKind.TheVariants as kinds
 use Rattle.glue_shared.specs.declared.import.AuxImport.{AuxImport}
 use Rattle.glue_shared.specs.declared.import.AuxImport.TheVariants as what
 use Rattle.glue_shared.specs.declared.import.AuxValue.TheVariants as value
@@ -19,11 +22,11 @@ use Rattle.glue_shared.specs.declared.description.Lowered.{Lowered}
 use Rattle.glue_shared.specs.declared.settings.Settings.{Settings}
 use Rattle.glue_shared.specs.Names.{is_from_module, is_none, is_whole_name, entry_of, is_normal_call, has_number, is_direct_callee, code_of, plain_call, is_emscripten, is_direct, is_own, own_place, own_places, own_imports}
 use Rattle.glue_adapters.specs.Resolving.{entry_at}
-use Rattle.glue_adapters.specs.Pairs.{implemented}
+use Rattle.glue_adapters.specs.Pairs.{implemented, is_id, is_fixed_kind, is_fixed_import}
 use Rattle.glue_check.specs.declared.files.FileFlags.{FileFlags}
-use Rattle.glue_check.specs.Unbuilt.{global_of, global_name}
+use Rattle.glue_check.specs.Unbuilt.{global_of, global_name, is_function}
 use Rattle.glue_check.specs.Verdict.{unbuilt, verdict}
-use Rattle.glue_check.proofs.BuiltForm.{imports_built}
+use Rattle.glue_check.proofs.BuiltForm.{imports_built, no_rethrow}
 use Rattle.glue_check.proofs.Passed.{pairs_fit, distinct_places, imports_bound}
 
 -- ---- places of entries
@@ -129,6 +132,14 @@ module _ (f : FileFlags) (s : Settings) (l : Lowered) (built : unbuilt f s l ≡
       let ours : bytes_eq i.«module» (codes "__wbindgen_placeholder__") ≡ true = ((imports_built f s l built).placeholders i k).ours in
       rw (ours, none_direct place l.wit.implements) refl
 
+  -- no import is one that the glue file defines whatever is described
+  unfixed : (i : Import) → IsIn (Some i) l.«module».imports → is_fixed_import l (Some i) ≡ false
+  unfixed i k = by i.kind ((imports_built f s l built).placeholders i k).function
+    where
+      by : (kind : ImportKind) → is_function kind ≡ true → is_fixed_kind l i.name kind ≡ false
+      by (kinds.Func func) h = ap (λ (o : Option FuncId). is_id func.0 (option_map (λ (part : FuncId). part.0) o)) (no_rethrow f s l built)
+      by other h = absurd (true≢false (sym h))
+
   -- a pair of these whose import has this place
   with_place : (place : ℕ) (ps : List (ImportId × ℕ)) → IsIn place (map (λ (pair : ImportId × ℕ). pair.0.0) ps) → (pair : ImportId × ℕ) × IsIn pair ps × (place ≡ pair.0.0)
   with_place place [] i = absurd i
@@ -149,8 +160,8 @@ module _ (f : FileFlags) (s : Settings) (l : Lowered) (built : unbuilt f s l ≡
         paired = λ place i.
             let p = stood own 0 l.«module».imports place i in
             let same : place ≡ p.k = let e = p.at in omega (arith, e) in
-            let ours = ((imports_built f s l built).placeholders p.«import» (entry_in l.«module».imports p.k p.«import» p.stands)).ours in
-            subst (λ (n : ℕ). IsIn n (implemented l.wit)) (sym same) (imports_bound s l passed p.k p.«import» p.stands ours);
+            let there : entry_at l.«module».imports place ≡ Some p.«import» = ap (entry_at l.«module».imports) same ∙ p.stands in
+            imports_bound s l passed place i (ap (is_fixed_import l) there ∙ unfixed p.«import» (entry_in l.«module».imports p.k p.«import» p.stands));
         own = λ place i.
             let r = with_place place l.wit.implements i in
             let fit = pairs_fit s l passed r.0 r.1 in

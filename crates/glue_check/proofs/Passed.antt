@@ -1,6 +1,8 @@
 -- What is known of a description that has no fault: one lemma a condition, in the words of its users.
 use Rattle.std.proofs.Common.{◌≡◌, ℕ, zero, suc, ◌+◌, ◌==◌, List, [], ◌∷◌, map, length, arith, Bool, true, false, not, ◌&&◌, ◌||◌, cond, Option, Some, None, true≢false, refl, sym, ap, ◌∙◌, inl, inr, rules}
-use Rattle.std.specs.Prelude.{option_and_then}
+use Rattle.std.specs.Prelude.{option_map, option_and_then}
+use Rattle.std.specs.Option.{option_or}
+use Rattle.std.specs.Str.{bytes_eq}
 use Rattle.std.specs.List.{list_any, filter_map, find}
 use Rattle.std.specs.Ordering.{nat_cmp}
 use Rattle.std.specs.BTreeMap.{is_at}
@@ -20,7 +22,8 @@ use Rattle.glue_shared.specs.declared.aux.AuxExport.{AuxExport}
 use Rattle.glue_shared.specs.declared.import.AuxImport.{AuxImport}
 use Rattle.glue_shared.specs.declared.description.Lowered.{Lowered}
 use Rattle.glue_shared.specs.declared.settings.Settings.{Settings}
-use Rattle.glue_shared.specs.Names.{is_one_of, has_number, fixed_names}
+use Rattle.glue_shared.specs.declared.import.JsImportName.{JsImportName}
+use Rattle.glue_shared.specs.Names.{is_one_of, has_number, fixed_names, described_names, own_imports, own_names}
 use Rattle.glue_adapters.specs.Resolving.{entry_at}
 use Rattle.glue_faults.specs.declared.fault.Fault.TheVariants as faults
 use Rattle.glue_faults.specs.First.{first_of, first_after, where_true}
@@ -31,10 +34,13 @@ use Rattle.glue_faults.proofs.Apart.{compatible}
 use Rattle.glue_adapters.specs.Adapters as adapters
 use Rattle.glue_adapters.specs.Adapters.{adapter_at, code_of, has_code, fits_outward, fits_inward}
 use Rattle.glue_adapters.specs.Pairs as pairs
-use Rattle.glue_adapters.specs.Pairs.{is_bad_code, is_bad_pair, is_bad_export, bad_id, bad_local, bad_paired, bad_called, bad_exported, bad_described, bad_listed, fits_export, fits_pair}
+use Rattle.glue_adapters.specs.Pairs.{is_bad_code, is_bad_pair, is_bad_export, bad_id, bad_local, bad_paired, bad_called, bad_exported, bad_described, bad_listed, fits_export, fits_pair, is_unbound}
 use Rattle.glue_check.specs.declared.verdict.Condition.TheVariants as conditions
 use Rattle.glue_check.specs.Answers.{answer}
 use Rattle.glue_adapters.specs.Exported.{export_name, export_names}
+use Rattle.glue_check.specs.declared.modules.Claimed.{Claimed}
+use Rattle.glue_check.specs.Modules as modules
+use Rattle.glue_check.specs.Modules.{clashing_module, foreign_module}
 use Rattle.glue_check.specs.Naming as naming
 use Rattle.glue_check.specs.Naming.{bad_text, name_clash}
 use Rattle.glue_check.specs.Publishing as publishing
@@ -193,39 +199,30 @@ number_in n (k ∷ ns) h = here (k == n) refl h (number_in n ns)
     here true q h later = inl (sym (eqb-true k n q))
     here false q h later = inr (later h)
 
-bound_from : (defined : List ℕ) (from k : ℕ) (is : List (Option Import)) (i : Import) → pairs.unbound_from defined from is ≡ None → entry_at is k ≡ Some i → pairs.is_placeholder (Some i) ≡ true
-    → has_number (from + k) defined ≡ true
-bound_from defined from k [] i h e p = cc
-bound_from defined from zero (x ∷ is) i h e p =
-    let same : x ≡ Some i = e in
-    let here : from + 0 ≡ from = omega arith in
-    ap (λ n. has_number n defined) here ∙ bound (pairs.is_placeholder x) (has_number from defined) (pairs.unbound_from defined (from + 1) is) (ap pairs.is_placeholder same ∙ p) h
+-- an adapter stands for each import that the glue file defines, unless the file defines it whatever is described
+pub imports_bound : (s : Settings) (l : Lowered) → verdict s l ≡ None → (k : ℕ) → IsIn k (own_imports s l.«module» l.wit l.aux)
+    → pairs.is_fixed_import l (entry_at l.«module».imports k) ≡ false → IsIn k (pairs.implemented l.wit)
+unfolding answer is_unbound
+imports_bound s l h k i fixed =
+    let own = own_imports s l.«module» l.wit l.aux in
+    let defined = pairs.implemented l.wit in
+    let none = option_map-none _ (find (is_unbound l defined) own) (none_of conditions.UnboundImport s l (search rules) h) in
+    number_in k defined (bound (has_number k defined) (pairs.is_fixed_import l (entry_at l.«module».imports k)) fixed (find-none (is_unbound l defined) own k none i))
   where
-    bound : (b d : Bool) (rest : Option ℕ) → b ≡ true → cond (b && not d) (Some from) rest ≡ None → d ≡ true
-    bound true true rest e h = refl
-    bound true false rest e h = cc
-    bound false d rest e h = cc
-bound_from defined from (suc k) (x ∷ is) i h e p =
-    let later : from + 1 + k ≡ from + suc k = omega arith in
-    ap (λ n. has_number n defined) (sym later) ∙ bound_from defined (from + 1) k is i (skipped (pairs.is_placeholder x && not (has_number from defined)) (pairs.unbound_from defined (from + 1) is) h) e p
-  where
-    skipped : (b : Bool) (rest : Option ℕ) → cond b (Some from) rest ≡ None → rest ≡ None
-    skipped true rest h = cc
-    skipped false rest h = h
-
--- an adapter stands for each import that the glue file is to define
-pub imports_bound : (s : Settings) (l : Lowered) → verdict s l ≡ None → (k : ℕ) (i : Import) → entry_at l.«module».imports k ≡ Some i → pairs.is_placeholder (Some i) ≡ true → IsIn k (pairs.implemented l.wit)
-unfolding answer
-imports_bound s l h k i e p =
-    let here : 0 + k ≡ k = omega arith in
-    let none = option_map-none _ (pairs.unbound_from (pairs.implemented l.wit) 0 l.«module».imports) (none_of conditions.UnboundImport s l (search rules) h) in
-    number_in k (pairs.implemented l.wit) (sym (ap (λ n. has_number n (pairs.implemented l.wit)) here) ∙ bound_from (pairs.implemented l.wit) 0 k l.«module».imports i none e p)
+    bound : (d b : Bool) → b ≡ false → (not d && not b) ≡ false → d ≡ true
+    bound true b e h = refl
+    bound false true e h = absurd (true≢false e)
+    bound false false e h = absurd (true≢false h)
 
 -- ---- names
 
-no_texts : (s : Settings) (l : Lowered) → verdict s l ≡ None → bad_text l.«module» l.aux ≡ None
+-- the names of the imports that the glue file defines
+abbrev names_of : Settings → Lowered → List (List ℕ)
+names_of s l = own_names s l.«module» l.wit l.aux
+
+no_texts : (s : Settings) (l : Lowered) → verdict s l ≡ None → bad_text (names_of s l) l.aux ≡ None
 unfolding answer
-no_texts s l h = option_map-none faults.BadName (bad_text l.«module» l.aux) (none_of conditions.BadName s l (search rules) h)
+no_texts s l h = option_map-none faults.BadName (bad_text (names_of s l) l.aux) (none_of conditions.BadName s l (search rules) h)
 
 chosen-none : (name : List ℕ) (o : Option (List ℕ)) (f : List ℕ → Option (List ℕ)) → o ≡ Some name → option_and_then f o ≡ None → f name ≡ None
 chosen-none name None f e h = cc
@@ -235,7 +232,7 @@ chosen-none name (Some other) f e h = let same : name ≡ other = cc in ap f sam
 pub global_ident : (s : Settings) (l : Lowered) → verdict s l ≡ None → (e : ℕ × AuxImport) → IsIn e l.aux.imports → (name : List ℕ) → global_of e.1 ≡ Some name → is_ident name ≡ true
 unfolding bad_text
 global_ident s l h e i name g =
-    let none = some-none (first_of naming.bad_segment l.aux.exports ∷ first_of naming.bad_global l.aux.imports ∷ first_of naming.bad_import l.«module».imports ∷ []) (first_of naming.bad_global l.aux.imports) (no_texts s l h) (inr (inl refl)) in
+    let none = some-none (first_of naming.bad_segment l.aux.exports ∷ first_of naming.bad_global l.aux.imports ∷ find naming.is_proto (names_of s l) ∷ []) (first_of naming.bad_global l.aux.imports) (no_texts s l h) (inr (inl refl)) in
     let here = chosen-none name (global_of e.1) (λ n. where_true (not (is_ident n)) n) g (first_of-none naming.bad_global l.aux.imports e none i) in
     not_false (is_ident name) (where_true-none (not (is_ident name)) name here)
 
@@ -248,14 +245,12 @@ global_apart s l h e i name g =
     let here = chosen-none name (global_of e.1) (λ n. where_true (is_one_of taken n) n) g (first_of-none (naming.taken_global taken) l.aux.imports e none i) in
     away name taken (where_true-none (is_one_of taken name) name here)
 
--- no import that the glue file is to define is called `__proto__`
-pub import_named : (s : Settings) (l : Lowered) → verdict s l ≡ None → (i : Import) → IsIn (Some i) l.«module».imports → pairs.is_placeholder (Some i) ≡ true → naming.is_proto i.name ≡ false
+-- no import that the glue file defines is called `__proto__`
+pub import_named : (s : Settings) (l : Lowered) → verdict s l ≡ None → (name : List ℕ) → IsIn name (names_of s l) → naming.is_proto name ≡ false
 unfolding bad_text
-import_named s l h i k p =
-    let none = some-none (first_of naming.bad_segment l.aux.exports ∷ first_of naming.bad_global l.aux.imports ∷ first_of naming.bad_import l.«module».imports ∷ []) (first_of naming.bad_import l.«module».imports) (no_texts s l h) (inr (inr (inl refl))) in
-    let named : naming.own_name (Some i) ≡ Some i.name = ap (λ b. where_true b i.name) p in
-    let here = chosen-none i.name (naming.own_name (Some i)) (λ n. where_true (naming.is_proto n) n) named (first_of-none naming.bad_import l.«module».imports (Some i) none k) in
-    where_true-none (naming.is_proto i.name) i.name here
+import_named s l h name i =
+    let none = some-none (first_of naming.bad_segment l.aux.exports ∷ first_of naming.bad_global l.aux.imports ∷ find naming.is_proto (names_of s l) ∷ []) (find naming.is_proto (names_of s l)) (no_texts s l h) (inr (inr (inl refl))) in
+    find-none naming.is_proto (names_of s l) name none i
 
 -- ---- things of one name
 
@@ -277,8 +272,69 @@ distinct_names (Some e ∷ exports) h =
 pub distinct_exports : (s : Settings) (l : Lowered) → verdict s l ≡ None → AreDistinct (export_names l.«module»)
 unfolding answer name_clash
 distinct_exports s l h =
-    let none = some-none (naming.import_clash l.«module».imports ∷ naming.wasm_clash l.«module».exports ∷ naming.start_clash l.«module» ∷ []) (naming.wasm_clash l.«module».exports) (none_of conditions.NameClash s l (search rules) h) (inr (inl refl)) in
+    let none = some-none (naming.import_clash (names_of s l) ∷ naming.wasm_clash l.«module».exports ∷ naming.start_clash l.«module» ∷ []) (naming.wasm_clash l.«module».exports) (none_of conditions.NameClash s l (search rules) h) (inr (inl refl)) in
     distinct_names l.«module».exports (compatible naming.same_export l.«module».exports (option_map-none (λ e. faults.NameClash (naming.name_of e)) (first_clash naming.same_export l.«module».exports) none))
+
+distinct_texts : (names : List (List ℕ)) → AreCompatible bytes_eq names → AreDistinct names
+distinct_texts [] h = tt
+distinct_texts (name ∷ names) h = (λ i. false≢true (sym (h.0 name i) ∙ (bytes_eq-Decides name name).1 refl), distinct_texts names h.1)
+
+-- no two imports that the glue file defines have one name
+pub distinct_own : (s : Settings) (l : Lowered) → verdict s l ≡ None → AreDistinct (names_of s l)
+unfolding answer name_clash
+distinct_own s l h =
+    let none = some-none (naming.import_clash (names_of s l) ∷ naming.wasm_clash l.«module».exports ∷ naming.start_clash l.«module» ∷ []) (naming.import_clash (names_of s l)) (none_of conditions.NameClash s l (search rules) h) (inl refl) in
+    distinct_texts (names_of s l) (compatible bytes_eq (names_of s l) (option_map-none faults.NameClash (first_clash bytes_eq (names_of s l)) none))
+
+-- ---- modules
+
+neither_answer : {A : Type 0} (o later : Option A) → option_or o later ≡ None → (o ≡ None) × (later ≡ None)
+neither_answer None later h = (refl, h)
+neither_answer (Some x) later h = cc
+
+no_clash : (s : Settings) (l : Lowered) → verdict s l ≡ None → (first_of modules.reserved_in (described_names l.aux) ≡ None) × (foreign_module s l ≡ None)
+unfolding answer clashing_module
+no_clash s l h =
+    let answers = first_of modules.reserved_in (described_names l.aux) ∷ foreign_module s l ∷ [] in
+    let none = option_map-none faults.ModuleClash (clashing_module s l) (none_of conditions.ModuleClash s l (search rules) h) in
+    (some-none answers (first_of modules.reserved_in (described_names l.aux)) none (inl refl), some-none answers (foreign_module s l) none (inr (inl refl)))
+
+-- nothing is described to come from the module of placeholders or from that of string constants
+pub described_elsewhere : (s : Settings) (l : Lowered) → verdict s l ≡ None → (described : JsImportName) → IsIn described (described_names l.aux)
+    → (from : List ℕ) → modules.module_of described ≡ Some from → modules.is_reserved from ≡ false
+described_elsewhere s l h described i from m =
+    let none = first_of-none modules.reserved_in (described_names l.aux) described (no_clash s l h).0 i in
+    where_true-none (modules.is_reserved from) from (chosen-none from (modules.module_of described) (λ name. where_true (modules.is_reserved name) name) m none)
+
+-- where no place has an answer, the place of an import has none
+none_placed : (f : ℕ → Option Import → Option (List ℕ)) (from k : ℕ) (is : List (Option Import)) (i : Import)
+    → modules.first_placed f from is ≡ None → entry_at is k ≡ Some i → f (from + k) (Some i) ≡ None
+none_placed f from k [] i h e = cc
+none_placed f from zero (x ∷ is) i h e =
+    let same : x ≡ Some i = e in
+    let here : from + 0 ≡ from = omega arith in
+    ap (λ n. f n (Some i)) here ∙ ap (f from) (sym same) ∙ (neither_answer (f from x) (modules.first_placed f (from + 1) is) h).0
+none_placed f from (suc k) (x ∷ is) i h e =
+    let later : from + 1 + k ≡ from + suc k = omega arith in
+    ap (λ n. f n (Some i)) (sym later) ∙ none_placed f (from + 1) k is i (neither_answer (f from x) (modules.first_placed f (from + 1) is) h).1 e
+
+-- An import that the glue file doesn't define comes, in the module that is written, neither from the glue file's own module nor from
+-- one whose name no object can have as a key.
+pub foreign_apart : (s : Settings) (l : Lowered) → verdict s l ≡ None → (k : ℕ) (i : Import) → entry_at l.«module».imports k ≡ Some i
+    → has_number k (own_imports s l.«module» l.wit l.aux) ≡ false → (claim : Claimed) → IsIn claim (modules.claims s l)
+    → modules.is_from (pairs.implemented l.wit) k i claim ≡ false
+unfolding foreign_module
+foreign_apart s l h k i e foreign claim c =
+    let own = own_imports s l.«module» l.wit l.aux in
+    let paired = pairs.implemented l.wit in
+    let none = none_placed (modules.placed_clash own paired (modules.claims s l)) 0 k l.«module».imports i (no_clash s l h).1 e in
+    let here : 0 + k ≡ k = omega arith in
+    let clash = ap (λ n. modules.placed_clash own paired (modules.claims s l) n (Some i)) (sym here) ∙ none in
+    let found = option_map (λ (claim : Claimed). claim.name) (find (modules.is_from paired k i) (modules.claims s l)) in
+    let unfound : found ≡ None = ap (λ b. cond b None found) (sym foreign) ∙ clash in
+    find-none (modules.is_from paired k i) (modules.claims s l) claim (option_map-none (λ (claim : Claimed). claim.name) (find (modules.is_from paired k i) (modules.claims s l)) unfound) c
+
+-- ---- paths
 
 -- no two exported functions have one path
 pub compatible_paths : (s : Settings) (l : Lowered) → verdict s l ≡ None → AreCompatible publishing.same_path l.aux.exports

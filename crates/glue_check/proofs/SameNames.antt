@@ -1,16 +1,14 @@
 -- Entries of one name are those that ask for a word that an earlier one told.
-use Rattle.std.proofs.Common.{◌≡◌, ℕ, List, [], Bool, true, false, Option, Some, None, ◌||◌, ◌&&◌, refl}
+use Rattle.std.proofs.Common.{◌≡◌, ℕ, List, Bool, true, false, Option, Some, None, ◌||◌, ◌&&◌, refl}
 use Rattle.std.specs.List.{list_any}
 use Rattle.std.specs.Str.{bytes_eq}
 use Rattle.std.specs.FinSet as set
 use Rattle.wasm_core.specs.entries.Export.{Export}
-use Rattle.wasm_core.specs.declared.types.Import.{Import}
 use Rattle.glue_shared.specs.declared.aux.AuxExport.{AuxExport}
 use Rattle.glue_faults.specs.Clash.{first_clash, first_told}
 use Rattle.glue_faults.proofs.Clashes.{ByWords, among, first_told_is}
-use Rattle.glue_adapters.specs.Pairs.{is_placeholder}
-use Rattle.glue_check.specs.Naming.{same_export, export_words, same_import, import_words, name_where}
-use Rattle.glue_check.specs.Publishing.{same_path, path_words, qualified}
+use Rattle.glue_check.specs.Naming.{same_export, export_words, one_word, name_where}
+use Rattle.glue_check.specs.Publishing.{same_path, qualified_words, qualified}
 use Rattle.glue_check.specs.Unbuilt.{is_function_kind}
 
 or_false : (a : Bool) → ((a || false) || false) ≡ a
@@ -34,21 +32,14 @@ both_told true false x y = refl
 both_told false true x y = refl
 both_told false false x y = refl
 
-none_told : (asked : Bool) (y : List ℕ) → list_any (among []) (name_where asked y) ≡ false
-none_told true y = refl
-none_told false y = refl
+word_by_name : ByWords bytes_eq one_word one_word
+word_by_name a b = or_false (bytes_eq a b)
 
-import_by_name : ByWords same_import import_words import_words
-import_by_name None None = refl
-import_by_name None (Some i) = none_told (is_placeholder (Some i)) i.name
-import_by_name (Some i) None = refl
-import_by_name (Some a) (Some b) = both_told (is_placeholder (Some a)) (is_placeholder (Some b)) a.name b.name
+pub first_same_name : (names : List (List ℕ)) → first_told one_word one_word set.empty names ≡ first_clash bytes_eq names
+first_same_name names = first_told_is bytes_eq one_word one_word word_by_name names
 
-pub first_same_import : (imports : List (Option Import)) → first_told import_words import_words set.empty imports ≡ first_clash same_import imports
-first_same_import imports = first_told_is same_import import_words import_words import_by_name imports
-
-path_by_name : ByWords same_path path_words path_words
+path_by_name : ByWords same_path qualified_words qualified_words
 path_by_name a b = both_told (is_function_kind a.kind) (is_function_kind b.kind) (qualified a) (qualified b)
 
-pub first_same_path : (exports : List AuxExport) → first_told path_words path_words set.empty exports ≡ first_clash same_path exports
-first_same_path exports = first_told_is same_path path_words path_words path_by_name exports
+pub first_same_path : (exports : List AuxExport) → first_told qualified_words qualified_words set.empty exports ≡ first_clash same_path exports
+first_same_path exports = first_told_is same_path qualified_words qualified_words path_by_name exports

@@ -8,6 +8,7 @@ use Rattle.glue_adapters.specs.Pairs.{bad_adapter, unbound_import}
 use Rattle.glue_check.specs.declared.files.FileFlags.{FileFlags}
 use Rattle.glue_check.specs.declared.verdict.Condition.{Condition}
 use Rattle.glue_check.specs.declared.verdict.Condition.TheVariants as conditions
+use Rattle.glue_check.specs.Modules.{module_clash}
 use Rattle.glue_check.specs.Naming.{bad_name, global_twice, name_clash}
 use Rattle.glue_check.specs.Publishing.{export_clash, fixed_export}
 use Rattle.glue_check.specs.Unbuilt.{unbuilt_target, unbuilt_imports, unbuilt_exports, unbuilt_instructions, unbuilt_classes, unbuilt_settings, unbuilt_lifecycle, unbuilt_files}
@@ -27,9 +28,10 @@ answer files settings l conditions.Threads = threads l.«module»
 answer files settings l conditions.PackageJson = package_json l.aux
 answer files settings l conditions.UnsupportedInstr = unsupported l.wit
 answer files settings l conditions.BadAdapter = bad_adapter l
-answer files settings l conditions.UnboundImport = unbound_import l
-answer files settings l conditions.BadName = bad_name l.«module» l.aux
-answer files settings l conditions.GlobalTwice = global_twice settings l.«module» l.aux
-answer files settings l conditions.NameClash = name_clash l.«module»
+answer files settings l conditions.UnboundImport = unbound_import settings l
+answer files settings l conditions.BadName = bad_name settings l
+answer files settings l conditions.GlobalTwice = global_twice settings l
+answer files settings l conditions.NameClash = name_clash settings l
+answer files settings l conditions.ModuleClash = module_clash settings l
 answer files settings l conditions.ExportClash = export_clash l.aux
-answer files settings l conditions.FixedExport = fixed_export settings l.«module» l.aux
+answer files settings l conditions.FixedExport = fixed_export settings l

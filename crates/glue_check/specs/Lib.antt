@@ -1,5 +1,6 @@
 pub mod Answers
 pub mod FaultKinds
+pub mod Modules
 pub mod Naming
 pub mod Publishing
 pub mod Taken

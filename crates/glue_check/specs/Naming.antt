@@ -4,19 +4,20 @@ use Rattle.std.specs.List.{list_any}
 use Rattle.std.specs.Option.{option_or}
 use Rattle.std.specs.Str.{bytes_eq}
 use Rattle.wasm_core.specs.Contents.{Contents}
-use Rattle.wasm_core.specs.declared.types.Import.{Import}
+use Rattle.wasm_core.specs.ids.FuncId.{FuncId}
 use Rattle.wasm_core.specs.entries.Export.{Export}
 use Rattle.glue_words.specs.Ident.{is_ident}
 use Rattle.glue_shared.specs.declared.aux.AuxExport.{AuxExport}
 use Rattle.glue_shared.specs.declared.aux.WasmBindgenAux.{WasmBindgenAux}
 use Rattle.glue_shared.specs.declared.import.AuxImport.{AuxImport}
 use Rattle.glue_shared.specs.declared.settings.Settings.{Settings}
-use Rattle.glue_shared.specs.Names.{is_one_of, fixed_names}
+use Rattle.glue_shared.specs.declared.description.Lowered.{Lowered}
+use Rattle.glue_shared.specs.Names.{is_one_of, fixed_names, own_names}
 use Rattle.glue_faults.specs.declared.fault.Fault.{Fault}
 use Rattle.glue_faults.specs.declared.fault.Fault.TheVariants as faults
 use Rattle.glue_faults.specs.First.{first_of, first_some, where_true}
 use Rattle.glue_faults.specs.Clash.{first_clash}
-use Rattle.glue_adapters.specs.Pairs.{is_placeholder}
+use Rattle.glue_adapters.specs.Resolving.{entry_at}
 use Rattle.glue_check.specs.Unbuilt.{global_of}
 
 -- ---- bad names
@@ -33,26 +34,17 @@ bad_segment e = option_or (find is_proto e.namespace) (where_true (is_proto e.na
 abbrev pub bad_global : ℕ × AuxImport → Option (List ℕ)
 bad_global entry = option_and_then (λ name. where_true (not (is_ident name)) name) (global_of entry.1)
 
--- the name of an import that the glue file is to define
-abbrev pub own_name : Option Import → Option (List ℕ)
-own_name None = None
-own_name (Some i) = where_true (is_placeholder (Some i)) i.name
-
--- such a name that is `__proto__`
-abbrev pub bad_import : Option Import → Option (List ℕ)
-bad_import i = option_and_then (λ name. where_true (is_proto name) name) (own_name i)
-
--- the first bad name: of exports, of globals, of imports that the glue file is to define
-unfoldable pub bad_text : Contents → WasmBindgenAux → Option (List ℕ)
-bad_text m aux = first_some (
+-- the first bad name: of exports, of globals, and `__proto__` among the names of the imports that the glue file defines
+unfoldable pub bad_text : List (List ℕ) → WasmBindgenAux → Option (List ℕ)
+bad_text own aux = first_some (
     first_of bad_segment aux.exports
     ∷ first_of bad_global aux.imports
-    ∷ first_of bad_import m.imports
+    ∷ find is_proto own
     ∷ [])
 
--- a name that is `__proto__` or no identifier where it has to be another
-abbrev pub bad_name : Contents → WasmBindgenAux → Option Fault
-bad_name m aux = option_map faults.BadName (bad_text m aux)
+-- a name of an export or import is `__proto__`, or a global is no identifier
+abbrev pub bad_name : Settings → Lowered → Option Fault
+bad_name settings l = option_map faults.BadName (bad_text (own_names settings l.«module» l.wit l.aux) l.aux)
 
 -- ---- globals
 
@@ -61,8 +53,8 @@ abbrev pub taken_global : List (List ℕ) → ℕ × AuxImport → Option (List 
 taken_global taken entry = option_and_then (λ name. where_true (is_one_of taken name) name) (global_of entry.1)
 
 -- a global is a name that the glue file may bind
-abbrev pub global_twice : Settings → Contents → WasmBindgenAux → Option Fault
-global_twice settings m aux = option_map faults.GlobalTwice (first_of (taken_global (fixed_names settings m)) aux.imports)
+abbrev pub global_twice : Settings → Lowered → Option Fault
+global_twice settings l = option_map faults.GlobalTwice (first_of (taken_global (fixed_names settings l.«module»)) l.aux.imports)
 
 -- ---- things of one name
 
@@ -71,20 +63,9 @@ abbrev pub name_where : Bool → List ℕ → List (List ℕ)
 name_where true name = name ∷ []
 name_where false name = []
 
--- the words that an import asks for and tells: its name, where the glue file is to define it
-abbrev pub import_words : Option Import → List (List ℕ)
-import_words None = []
-import_words (Some i) = name_where (is_placeholder (Some i)) i.name
-
--- two imports of one name, of the module of placeholders
-abbrev pub same_import : Option Import → Option Import → Bool
-same_import (Some earlier) (Some later) =
-    is_placeholder (Some earlier) && (is_placeholder (Some later) && bytes_eq earlier.name later.name)
-same_import earlier later = false
-
-abbrev pub import_name : Option Import → List ℕ
-import_name None = []
-import_name (Some i) = i.name
+-- the words that a name asks for and tells: itself
+abbrev pub one_word : List ℕ → List (List ℕ)
+one_word name = name ∷ []
 
 -- the words that an export asks for and tells: its name
 abbrev pub export_words : Option Export → List (List ℕ)
@@ -109,9 +90,13 @@ is_called name (Some e) = bytes_eq e.name name
 abbrev pub start_name : List ℕ
 start_name = codes "__wbindgen_start"
 
--- two imports of one name, of the module of placeholders
-abbrev pub import_clash : List (Option Import) → Option Fault
-import_clash imports = option_map (λ i. faults.NameClash (import_name i)) (first_clash same_import imports)
+-- the module has a start function, and it stands
+abbrev pub has_start : Contents → Bool
+has_start m = is_some (option_and_then (λ (f : FuncId). entry_at m.funcs f.0) m.start)
+
+-- two of the imports that the glue file defines, which have these names, have one name
+abbrev pub import_clash : List (List ℕ) → Option Fault
+import_clash own = option_map faults.NameClash (first_clash bytes_eq own)
 
 -- two exports of one name
 abbrev pub wasm_clash : List (Option Export) → Option Fault
@@ -119,8 +104,12 @@ wasm_clash exports = option_map (λ e. faults.NameClash (name_of e)) (first_clas
 
 -- an export of the name under which the start function is exported
 abbrev pub start_clash : Contents → Option Fault
-start_clash m = where_true (is_some m.start && list_any (is_called start_name) m.exports) (faults.NameClash start_name)
+start_clash m = where_true (has_start m && list_any (is_called start_name) m.exports) (faults.NameClash start_name)
 
--- two things of the module have one name
-unfoldable pub name_clash : Contents → Option Fault
-name_clash m = first_some (import_clash m.imports ∷ wasm_clash m.exports ∷ start_clash m ∷ [])
+-- two things of the module that is written have one name
+unfoldable pub name_clash : Settings → Lowered → Option Fault
+name_clash settings l = first_some (
+    import_clash (own_names settings l.«module» l.wit l.aux)
+    ∷ wasm_clash l.«module».exports
+    ∷ start_clash l.«module»
+    ∷ [])

@@ -13,6 +13,7 @@ use Rattle.glue_faults.specs.First.{first_some, where_true}
 use Rattle.glue_adapters.specs.Adapters.{unsupported}
 use Rattle.glue_adapters.specs.Pairs.{bad_adapter, unbound_import}
 use Rattle.glue_check.specs.declared.files.FileFlags.{FileFlags}
+use Rattle.glue_check.specs.Modules.{module_clash}
 use Rattle.glue_check.specs.Naming.{bad_name, global_twice, name_clash}
 use Rattle.glue_check.specs.Publishing.{export_clash, fixed_export}
 use Rattle.glue_check.specs.Unbuilt.{unbuilt_target, unbuilt_imports, unbuilt_exports, unbuilt_instructions, unbuilt_classes, unbuilt_settings, unbuilt_lifecycle, unbuilt_files}
@@ -30,19 +31,20 @@ threads m = where_true (list_any is_shared m.memories) faults.Threads
 abbrev pub package_json : WasmBindgenAux → Option Fault
 package_json aux = where_true (is_some_item aux.package_jsons) faults.PackageJson
 
--- the first that is met of the conditions that a description can meet of which all is built, with what it names
+-- the first that is met of the conditions on a description and its module, as far as these are stated yet, with what it names
 unfoldable pub verdict : Settings → Lowered → Option Fault
 verdict settings l = first_some (
     threads l.«module»
     ∷ package_json l.aux
     ∷ unsupported l.wit
     ∷ bad_adapter l
-    ∷ unbound_import l
-    ∷ bad_name l.«module» l.aux
-    ∷ global_twice settings l.«module» l.aux
-    ∷ name_clash l.«module»
+    ∷ unbound_import settings l
+    ∷ bad_name settings l
+    ∷ global_twice settings l
+    ∷ name_clash settings l
+    ∷ module_clash settings l
     ∷ export_clash l.aux
-    ∷ fixed_export settings l.«module» l.aux
+    ∷ fixed_export settings l
     ∷ [])
 
 -- the first kind of what is asked for and isn't built

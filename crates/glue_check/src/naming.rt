@@ -11,16 +11,16 @@ ghost use Rattle.glue_check.specs.Naming as spec;
 ghost use Rattle.glue_check.specs.Taken.{global_in};
 
 use crate::clash::{Claim, first_clash};
+use crate::own::own_names;
 use crate::taken::with_fixed;
 use crate::unbuilt::global_of;
-use glue_adapters::is_placeholder;
 use glue_faults::Fault;
 use glue_scope::{IdentScope, Names};
-use glue_shared::{AdapterId, AuxExport, AuxImport, Settings, WasmBindgenAux};
+use glue_shared::{AdapterId, AuxExport, AuxImport, Lowered, Settings, WasmBindgenAux};
 use glue_words::is_valid_ident;
 use std::alloc::{AllocError, Global};
 use values::{Duplicate, Text};
-use wasm_core::{Export, Import, Module};
+use wasm_core::{Export, Module};
 
 // What can have a name that is bad.
 trait Named {
@@ -51,8 +51,8 @@ fn is_proto(name: &str) -> bool
     name == "__proto__"
 }
 
-// The name, where a test holds.
-fn where_true(test: bool, name: &Text) -> Option<&Text>
+/// The name, where a test holds.
+pub(crate) fn where_true(test: bool, name: &Text) -> Option<&Text>
     ensures chosen { option_copied result ≡ first.where_true test name.now }
 {
     if test { Some(name) } else { None }
@@ -88,31 +88,10 @@ impl Named for (AdapterId, AuxImport) {
     }
 }
 
-/// The name of an import that the glue file is to define.
-pub(crate) fn own_name(import: &Option<Import>) -> Option<&Text>
-    ensures name { option_copied result ≡ spec.own_name import.now }
-{
-    match import {
-        None => None,
-        Some(known) => where_true(is_placeholder(import), &known.name),
-    }
-}
-
-impl Named for Option<Import> {
-    ghost bad = { spec.bad_import };
-
-    fn bad(&self) -> Option<&Text> {
-        match own_name(self) {
-            None => None,
-            Some(name) => where_true(is_proto(name.as_str()), name),
-        }
-    }
-}
-
 // The first bad name, in the description's order.
 #[tactic(auto, unfolding(crate::specs::Naming::bad_text))]
-fn bad_text<'a>(module: &'a Module, aux: &'a WasmBindgenAux) -> Option<&'a Text>
-    ensures bad { option_copied result ≡ spec.bad_text «module».now aux.now }
+fn bad_text<'a>(own: &'a [Text], aux: &'a WasmBindgenAux) -> Option<&'a Text>
+    ensures bad { option_copied result ≡ spec.bad_text own.now aux.now }
 {
     let exported = first_bad(aux.exports.as_slice());
     if exported.is_some() {
@@ -122,18 +101,20 @@ fn bad_text<'a>(module: &'a Module, aux: &'a WasmBindgenAux) -> Option<&'a Text>
     if global.is_some() {
         return global;
     }
-    first_bad(module.imports())
+    first_proto(own)
 }
 
-/// The first name that is `__proto__` or no identifier where it has to be another. Want of memory is the only error.
-pub(crate) fn bad_name(
+/// The first bad name: a segment or name of an export that is `__proto__`, a described global that is no identifier, or an import of
+/// the name `__proto__` that the glue file defines. Want of memory is the only error.
+pub fn bad_name(
     alloc: Global,
-    module: &Module,
-    aux: &WasmBindgenAux,
+    settings: &Settings,
+    lowered: &Lowered,
 ) -> Result<Option<Fault>, AllocError>
-    ensures fault { IfOk result (λ fault. fault ≡ spec.bad_name «module».now aux.now) }
+    ensures fault { IfOk result (λ fault. fault ≡ spec.bad_name settings.now lowered.now) }
 {
-    match bad_text(module, aux) {
+    let own = own_names(alloc, settings, lowered)?;
+    match bad_text(own.as_slice(), &lowered.aux) {
         None => Ok(None),
         Some(name) => Ok(Some(Fault::BadName {
             name: name.copy(alloc)?,
@@ -176,18 +157,17 @@ fn fixed_scope<N: Names>(
     with_fixed(alloc, none, settings, module)
 }
 
-/// The first global that the glue file may bind itself. Want of memory is the only error.
+/// The first import that is described as a global which the glue file may bind itself. Want of memory is the only error.
 #[tactic(auto, using(crate::proofs::TakenNames::globals_same))]
-pub(crate) fn global_twice(
+pub fn global_twice(
     alloc: Global,
     settings: &Settings,
-    module: &Module,
-    aux: &WasmBindgenAux,
+    lowered: &Lowered,
 ) -> Result<Option<Fault>, AllocError>
-    ensures fault { IfOk result (λ fault. fault ≡ spec.global_twice settings.now «module».now aux.now) }
+    ensures fault { IfOk result (λ fault. fault ≡ spec.global_twice settings.now lowered.now) }
 {
-    let taken: IdentScope = fixed_scope(alloc, settings, module)?;
-    match first_taken(&taken, aux.imports.as_slice()) {
+    let taken: IdentScope = fixed_scope(alloc, settings, &lowered.module)?;
+    match first_taken(&taken, lowered.aux.imports.as_slice()) {
         None => Ok(None),
         Some(name) => Ok(Some(Fault::GlobalTwice {
             name: name.copy(alloc)?,
@@ -195,24 +175,17 @@ pub(crate) fn global_twice(
     }
 }
 
-impl Claim for Option<Import> {
-    ghost asks = { spec.import_words };
+impl Claim for Text {
+    ghost asks = { spec.one_word };
 
-    ghost tells = { spec.import_words };
+    ghost tells = { spec.one_word };
 
     fn is_met<N: Names>(&self, _alloc: Global, told: &N) -> Result<bool, AllocError> {
-        match self {
-            None => Ok(false),
-            Some(import) => Ok(is_placeholder(self) && told.is_bound(import.name.as_str())),
-        }
+        Ok(told.is_bound(self.as_str()))
     }
 
     fn tell<N: Names>(&self, _alloc: Global, told: &mut N) -> Result<(), AllocError> {
-        if let Some(import) = self {
-            if is_placeholder(self) {
-                told.reserve(import.name.as_str())?;
-            }
-        }
+        told.reserve(self.as_str())?;
         Ok(())
     }
 }
@@ -240,15 +213,6 @@ impl Claim for Option<Export> {
     }
 }
 
-fn import_name(alloc: Global, import: &Option<Import>) -> Result<Text, AllocError>
-    ensures name { IfOk result (λ name. name ≡ spec.import_name import.now) }
-{
-    match import {
-        None => Text::from_str(alloc, ""),
-        Some(import) => import.name.copy(alloc),
-    }
-}
-
 fn name_of(alloc: Global, export: &Option<Export>) -> Result<Text, AllocError>
     ensures name { IfOk result (λ name. name ≡ spec.name_of export.now) }
 {
@@ -258,15 +222,15 @@ fn name_of(alloc: Global, export: &Option<Export>) -> Result<Text, AllocError>
     }
 }
 
-// The first import whose name an earlier one has.
-#[tactic(auto, using(crate::proofs::SameNames::first_same_import))]
-fn import_clash(alloc: Global, imports: &[Option<Import>]) -> Result<Option<Fault>, AllocError>
-    ensures fault { IfOk result (λ fault. fault ≡ spec.import_clash imports.now) }
+// The first of these names that an earlier one is.
+#[tactic(auto, using(crate::proofs::SameNames::first_same_name))]
+fn import_clash(alloc: Global, own: &[Text]) -> Result<Option<Fault>, AllocError>
+    ensures fault { IfOk result (λ fault. fault ≡ spec.import_clash own.now) }
 {
-    match first_clash(alloc, imports)? {
+    match first_clash(alloc, own)? {
         None => Ok(None),
-        Some(import) => Ok(Some(Fault::NameClash {
-            name: import_name(alloc, import)?,
+        Some(name) => Ok(Some(Fault::NameClash {
+            name: name.copy(alloc)?,
         })),
     }
 }
@@ -312,26 +276,41 @@ fn start_fault(alloc: Global, asked: bool) -> Result<Option<Fault>, AllocError>
     }))
 }
 
+/// Whether the module has a start function, and it stands.
+pub fn has_start(module: &Module) -> bool
+    ensures test { result ≡ spec.has_start «module».now }
+{
+    match module.start() {
+        Some(start) => matches!(module.funcs().get(start.0 as usize), Some(Some(_))),
+        None => false,
+    }
+}
+
 fn start_clash(alloc: Global, module: &Module) -> Result<Option<Fault>, AllocError>
     ensures fault { IfOk result (λ fault. fault ≡ spec.start_clash «module».now) }
 {
-    let asked = module.start().is_some() && has_start_export(module.exports());
+    let asked = has_start(module) && has_start_export(module.exports());
     start_fault(alloc, asked)
 }
 
-/// The first name of two imports that the glue file is to define, of two exports, or of an export and that of the start function.
-/// Want of memory is the only error.
+/// The first name of two imports that the glue file defines, of two exports of the module, or of an export and that of the start
+/// function. Want of memory is the only error.
 #[tactic(auto, unfolding(crate::specs::Naming::name_clash))]
-pub(crate) fn name_clash(alloc: Global, module: &Module) -> Result<Option<Fault>, AllocError>
-    ensures fault { IfOk result (λ fault. fault ≡ spec.name_clash «module».now) }
+pub fn name_clash(
+    alloc: Global,
+    settings: &Settings,
+    lowered: &Lowered,
+) -> Result<Option<Fault>, AllocError>
+    ensures fault { IfOk result (λ fault. fault ≡ spec.name_clash settings.now lowered.now) }
 {
-    let imported = import_clash(alloc, module.imports())?;
+    let own = own_names(alloc, settings, lowered)?;
+    let imported = import_clash(alloc, own.as_slice())?;
     if imported.is_some() {
         return Ok(imported);
     }
-    let exported = wasm_clash(alloc, module.exports())?;
+    let exported = wasm_clash(alloc, lowered.module.exports())?;
     if exported.is_some() {
         return Ok(exported);
     }
-    start_clash(alloc, module)
+    start_clash(alloc, &lowered.module)
 }

@@ -1,25 +1,22 @@
 //! What exports publish: paths that two of them share, and names that the glue file publishes itself.
 ghost use Rattle.std.specs.Prelude.{◌≡◌, IfOk, find};
 ghost use Rattle.std.specs.Option.{option_copied};
-ghost use Rattle.std.specs.List.{flat_map};
-ghost use Rattle.std.specs.FinSet as set;
 ghost use Rattle.values.specs.TextSet.{with_texts};
 ghost use Rattle.glue_shared.specs.Names.{fixed_public_names, is_one_of, published_names, standing_names, wasm_names};
 ghost use Rattle.glue_shared.specs.Paths as paths;
-ghost use Rattle.glue_check.specs.Naming.{import_words};
 ghost use Rattle.glue_check.specs.Publishing as spec;
 
 use crate::clash::{Claim, first_clash};
+use crate::own::own_names;
 use crate::unbuilt::is_function_kind;
 use glue_faults::Fault;
 use glue_scope::{IdentScope, Names};
-use glue_shared::{AuxExport, Settings, Target, WasmBindgenAux};
+use glue_shared::{AuxExport, Lowered, Settings, Target, WasmBindgenAux};
 use std::alloc::{AllocError, Global};
 use values::Text;
-use wasm_core::{Import, Module};
 
-// The segments of a namespace and a name, joined by `__`.
-fn qualified_name(alloc: Global, namespace: &[Text], name: &Text) -> Result<Text, AllocError>
+/// The segments of a namespace and a name, joined by `__`. Want of memory is the only error.
+pub fn qualified_name(alloc: Global, namespace: &[Text], name: &Text) -> Result<Text, AllocError>
     ensures name { IfOk result (λ joined. joined ≡ paths.qualified_name namespace.now name.now) }
 {
     let mut joined = Text::from_str(alloc, "")?;
@@ -31,16 +28,17 @@ fn qualified_name(alloc: Global, namespace: &[Text], name: &Text) -> Result<Text
     Ok(joined)
 }
 
-fn qualified(alloc: Global, export: &AuxExport) -> Result<Text, AllocError>
+/// The qualified name of an export. Want of memory is the only error.
+pub fn qualified(alloc: Global, export: &AuxExport) -> Result<Text, AllocError>
     ensures name { IfOk result (λ name. name ≡ spec.qualified export.now) }
 {
     qualified_name(alloc, export.namespace.as_slice(), &export.name)
 }
 
 impl Claim for AuxExport {
-    ghost asks = { spec.path_words };
+    ghost asks = { spec.qualified_words };
 
-    ghost tells = { spec.path_words };
+    ghost tells = { spec.qualified_words };
 
     fn is_met<N: Names>(&self, alloc: Global, told: &N) -> Result<bool, AllocError> {
         if !is_function_kind(self.kind) {
@@ -59,9 +57,9 @@ impl Claim for AuxExport {
     }
 }
 
-/// The first export whose path an earlier one has. Want of memory is the only error.
+/// The first function whose qualified name an earlier one has. Want of memory is the only error.
 #[tactic(auto, using(crate::proofs::SameNames::first_same_path))]
-pub(crate) fn export_clash(alloc: Global, aux: &WasmBindgenAux) -> Result<Option<Fault>, AllocError>
+pub fn export_clash(alloc: Global, aux: &WasmBindgenAux) -> Result<Option<Fault>, AllocError>
     ensures fault { IfOk result (λ fault. fault ≡ spec.export_clash aux.now) }
 {
     match first_clash(alloc, aux.exports.as_slice())? {
@@ -127,17 +125,13 @@ fn is_bundler(target: &Target) -> bool
     matches!(target, Target::Bundler { .. })
 }
 
-// Adds the names of the imports that the glue file is to define.
-fn tell_imports<N: Names>(
-    alloc: Global,
-    told: N,
-    imports: &[Option<Import>],
-) -> Result<N, AllocError>
-    ensures told { IfOk result (λ scope. N.bound scope ≡ with_texts (N.bound told) (flat_map import_words imports.now)) }
+// Adds each of these names.
+fn tell_all<N: Names>(told: N, names: &[Text]) -> Result<N, AllocError>
+    ensures told { IfOk result (λ scope. N.bound scope ≡ with_texts (N.bound told) names.now) }
 {
     let mut told = told;
-    for import in imports {
-        import.tell(alloc, &mut told)?;
+    for name in names {
+        told.reserve(name.as_str())?;
     }
     Ok(told)
 }
@@ -175,18 +169,30 @@ fn first_fixed<'a, N: Names>(
         .find(|export| is_fixed_export(settings, own, export))
 }
 
-/// The first export whose name the glue file publishes itself. Want of memory is the only error.
-pub(crate) fn fixed_export(
+// The names of the imports that the glue file defines, as a scope.
+fn own_scope<N: Names>(
     alloc: Global,
     settings: &Settings,
-    module: &Module,
-    aux: &WasmBindgenAux,
-) -> Result<Option<Fault>, AllocError>
-    ensures fault { IfOk result (λ fault. fault ≡ spec.fixed_export settings.now «module».now aux.now) }
+    lowered: &Lowered,
+) -> Result<N, AllocError>
+    ensures bound { IfOk result (λ scope. N.bound scope ≡ spec.own_set settings.now lowered.now) }
 {
-    let none: IdentScope = Names::new(alloc);
-    let own = tell_imports(alloc, none, module.imports())?;
-    match first_fixed(settings, &own, aux.exports.as_slice()) {
+    let none: N = Names::new(alloc);
+    let names = own_names(alloc, settings, lowered)?;
+    tell_all(none, names.as_slice())
+}
+
+/// The first function of a name that the glue file publishes itself or that stands already where it publishes: one of the target's,
+/// `__wasm` where it is asked for, on a bundler that of an import that the glue file defines. Want of memory is the only error.
+pub fn fixed_export(
+    alloc: Global,
+    settings: &Settings,
+    lowered: &Lowered,
+) -> Result<Option<Fault>, AllocError>
+    ensures fault { IfOk result (λ fault. fault ≡ spec.fixed_export settings.now lowered.now) }
+{
+    let own: IdentScope = own_scope(alloc, settings, lowered)?;
+    match first_fixed(settings, &own, lowered.aux.exports.as_slice()) {
         None => Ok(None),
         Some(export) => Ok(Some(Fault::FixedExport {
             name: qualified(alloc, export)?,

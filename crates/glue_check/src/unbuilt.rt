@@ -137,7 +137,7 @@ fn is_free_name<N: Names>(taken: &N, name: &str) -> bool
 }
 
 /// Whether an export is a function that stands by itself.
-pub(crate) fn is_function_kind(kind: AuxExportKind) -> bool
+pub fn is_function_kind(kind: AuxExportKind) -> bool
     ensures test { result ≡ spec.is_function_kind kind }
 {
     match kind {
@@ -172,8 +172,8 @@ fn is_any_unbuilt<N: Names>(taken: &N, exports: &[AuxExport]) -> bool
         .any(|export| is_unbuilt_export(taken, export))
 }
 
-// The names that the glue file may not declare as they are.
-fn taken_names<N: Names>(
+/// The names that the glue file may not declare as they are. Want of memory is the only error.
+pub fn taken_names<N: Names>(
     alloc: Global,
     settings: &Settings,
     lowered: &Lowered,

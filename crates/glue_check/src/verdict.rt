@@ -7,6 +7,7 @@ ghost use Rattle.glue_check.specs.Answers as answers;
 ghost use Rattle.glue_check.specs.Verdict as spec;
 
 use crate::files::FileFlags;
+use crate::modules::module_clash;
 use crate::naming::{bad_name, global_twice, name_clash};
 use crate::publishing::{export_clash, fixed_export};
 use crate::unbuilt::{
@@ -39,6 +40,7 @@ enum Condition {
     BadName,
     GlobalTwice,
     NameClash,
+    ModuleClash,
     ExportClash,
     FixedExport,
 }
@@ -56,7 +58,7 @@ const UNBUILT: [Condition; 8] = [
 ];
 
 /// The conditions in their order: the first that gives a fault decides.
-const CONDITIONS: [Condition; 10] = [
+const CONDITIONS: [Condition; 11] = [
     Condition::Threads,
     Condition::PackageJson,
     Condition::UnsupportedInstr,
@@ -65,6 +67,7 @@ const CONDITIONS: [Condition; 10] = [
     Condition::BadName,
     Condition::GlobalTwice,
     Condition::NameClash,
+    Condition::ModuleClash,
     Condition::ExportClash,
     Condition::FixedExport,
 ];
@@ -128,12 +131,13 @@ fn answer(
         Condition::PackageJson => Ok(package_json(aux)),
         Condition::UnsupportedInstr => unsupported(alloc, wit),
         Condition::BadAdapter => bad_adapter(alloc, lowered),
-        Condition::UnboundImport => unbound_import(alloc, lowered),
-        Condition::BadName => bad_name(alloc, module, aux),
-        Condition::GlobalTwice => global_twice(alloc, settings, module, aux),
-        Condition::NameClash => name_clash(alloc, module),
+        Condition::UnboundImport => unbound_import(alloc, settings, lowered),
+        Condition::BadName => bad_name(alloc, settings, lowered),
+        Condition::GlobalTwice => global_twice(alloc, settings, lowered),
+        Condition::NameClash => name_clash(alloc, settings, lowered),
+        Condition::ModuleClash => module_clash(alloc, settings, lowered),
         Condition::ExportClash => export_clash(alloc, aux),
-        Condition::FixedExport => fixed_export(alloc, settings, module, aux),
+        Condition::FixedExport => fixed_export(alloc, settings, lowered),
     }
 }
 

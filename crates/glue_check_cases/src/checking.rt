@@ -7,12 +7,14 @@ use glue_lower::LowerFault;
 use glue_shared::{EncodeInto, Lowered, Settings, Target};
 use std::alloc::{AllocError, Global};
 use std::process::Abort;
+use values::Text;
 
 /// What is asked for beside the description.
 #[derive(Clone, Copy)]
 pub enum Asked {
     Bundler,
     Web,
+    NoModules,
     Node,
     Module,
     Emscripten,
@@ -63,8 +65,13 @@ fn ask_others(settings: &mut Settings) {
     settings.force_abort = true;
 }
 
-fn ask(settings: &mut Settings, asked: Asked) {
+fn ask(alloc: Global, settings: &mut Settings, asked: Asked) -> Result<(), AllocError> {
     match asked {
+        Asked::NoModules => {
+            settings.target = Target::NoModules {
+                global: Text::from_str(alloc, "wasm_bindgen")?,
+            }
+        }
         Asked::Debug => settings.debug = true,
         Asked::Typescript => settings.typescript = true,
         Asked::ExportWasm => settings.export_wasm = true,
@@ -73,12 +80,14 @@ fn ask(settings: &mut Settings, asked: Asked) {
         Asked::Others => ask_others(settings),
         _ => ask_target(settings, asked),
     }
+    Ok(())
 }
 
-fn asked_settings(alloc: Global, asked: &[Asked]) -> Result<Settings, AllocError> {
+/// The settings that these ask for.
+pub fn asked_settings(alloc: Global, asked: &[Asked]) -> Result<Settings, AllocError> {
     let mut settings = settings(alloc, Target::Deno, EncodeInto::Always)?;
     for it in asked {
-        ask(&mut settings, *it);
+        ask(alloc, &mut settings, *it)?;
     }
     Ok(settings)
 }
@@ -91,7 +100,7 @@ fn asked_files(asked: &[Asked]) -> FileFlags {
 }
 
 /// A fault's name and what it names.
-fn fault_text(alloc: Global, fault: &Fault) -> Result<String, AllocError> {
+pub fn fault_text(alloc: Global, fault: &Fault) -> Result<String, AllocError> {
     let variant = fault.name();
     match fault {
         Fault::UnsupportedInstr { adapter, name } => {
@@ -110,7 +119,9 @@ fn fault_text(alloc: Global, fault: &Fault) -> Result<String, AllocError> {
         | Fault::BadName { name }
         | Fault::GlobalTwice { name }
         | Fault::NameClash { name }
-        | Fault::ExportClash { name } => {
+        | Fault::ModuleClash { module: name }
+        | Fault::ExportClash { name }
+        | Fault::FixedExport { name } => {
             let name = name.as_str();
             format!(in alloc; "{variant} {name}")
         }

@@ -68,7 +68,8 @@ pub enum Fault {
     /// Two things of one name.
     #[error("NameClash")]
     NameClash { name: Text },
-    /// A module that is imported, whose name the glue file needs for itself.
+    /// A module that is imported, whose name the glue file needs for itself; or one that is described, though nothing can be described
+    /// to come from it: that of placeholders or of string constants.
     #[error("ModuleClash")]
     ModuleClash { module: Text },
     /// A class that isn't described.
@@ -89,7 +90,7 @@ pub enum Fault {
     /// Two exports of one path or one qualified name, or one whose path runs through another.
     #[error("ExportClash")]
     ExportClash { name: Text },
-    /// An export of a name that the glue file publishes itself.
+    /// An export of a name that the glue file publishes itself, or that stands already where it publishes.
     #[error("FixedExport")]
     FixedExport { name: Text },
     /// A re-export of something that can't be exported again.

@@ -1,0 +1,458 @@
+//! Conditions by their own calls: those that stand behind what isn't built are met there alone. Each with what its fault names, and
+//! near misses.
+use crate::checking::{Asked, asked_settings, fault_text};
+use crate::compare::assert_case;
+use crate::described::{Edit, edited_lowered};
+use crate::edits::{LOGGING, NO_CODE, NO_PAIR, SECOND_PAIR};
+use crate::modules::{
+    ADD, FOREIGN_AND_OWN, FOREIGN_MEMORY, FOREIGN_PROTO, FROM_GLUE_FILE, FROM_PROTO, FROM_STRINGS,
+    TWO_IMPORTS, WITH_FOREIGN, WITH_MANY_EXPORTS, WITH_MEMORY_IMPORT, WITH_OTHER_TAG,
+    WITH_TABLE_IMPORT, WITH_TAG_IMPORT,
+};
+use glue_adapters::{bad_adapter, unbound_import};
+use glue_check::{Fault, bad_name, fixed_export, module_clash, name_clash};
+use glue_lower::LowerFault;
+use glue_shared::{Lowered, Settings};
+use std::alloc::{AllocError, Global};
+use std::process::Abort;
+
+/// A condition that is called by itself.
+#[derive(Clone, Copy, Debug)]
+enum Call {
+    BadAdapter,
+    UnboundImport,
+    BadName,
+    NameClash,
+    ModuleClash,
+    FixedExport,
+}
+
+/// What is asked for, a module, what is replaced in the description of `add` and `log`, and the fault: nothing without one.
+type Case = (
+    &'static [Asked],
+    &'static [u8],
+    &'static [Edit],
+    &'static str,
+);
+
+/// A condition and its cases.
+type Condition = (Call, &'static [Case]);
+
+/// A condition, a module, a part of the description, and what stands in its place, each with its fault, for one target.
+type Row = (
+    &'static [Asked],
+    &'static [u8],
+    &'static str,
+    &'static [(&'static str, &'static str)],
+);
+
+fn answer(
+    alloc: Global,
+    call: Call,
+    settings: &Settings,
+    lowered: &Lowered,
+) -> Result<Option<Fault>, AllocError> {
+    match call {
+        Call::BadAdapter => bad_adapter(alloc, lowered),
+        Call::UnboundImport => unbound_import(alloc, settings, lowered),
+        Call::BadName => bad_name(alloc, settings, lowered),
+        Call::NameClash => name_clash(alloc, settings, lowered),
+        Call::ModuleClash => module_clash(alloc, settings, lowered),
+        Call::FixedExport => fixed_export(alloc, settings, lowered),
+    }
+}
+
+/// The fault that a condition gives, in words; nothing without one.
+fn told(
+    alloc: Global,
+    call: Call,
+    asked: &[Asked],
+    lowered: &Lowered,
+) -> Result<String, AllocError> {
+    let settings = asked_settings(alloc, asked)?;
+    match answer(alloc, call, &settings, lowered)? {
+        None => Ok(String::new(alloc)),
+        Some(fault) => fault_text(alloc, &fault),
+    }
+}
+
+fn assert_call<H: Abort>(
+    rt: &H,
+    alloc: Global,
+    call: Call,
+    asked: &[Asked],
+    module: &[u8],
+    edits: &[(&str, &str)],
+    want: &str,
+) -> Result<(), LowerFault> {
+    let lowered = edited_lowered(rt, alloc, module, edits)?;
+    let told = told(alloc, call, asked, &lowered)?;
+    assert_case(
+        rt,
+        told.as_str() == want,
+        &(call, told.as_str(), want, edits),
+    );
+    Ok(())
+}
+
+/// Getters and setters, with and without a rest parameter: `add` gives what an export gives, or takes what one takes.
+const GETTER: Edit = (
+    r#"{"id":0,"args":["s32","s32"],"results":["s32"],"code":[["ArgGet",0],["Int32ToWasm"],["ArgGet",1],["Int32ToWasm"],["CallExport",0],["WasmToInt32",false]]}"#,
+    r#"{"id":0,"args":[],"results":["s32"],"code":[["CallExport",4]]}"#,
+);
+
+const SETTER: Edit = (
+    r#"{"id":0,"args":["s32","s32"],"results":["s32"],"code":[["ArgGet",0],["Int32ToWasm"],["ArgGet",1],["Int32ToWasm"],["CallExport",0],["WasmToInt32",false]]}"#,
+    r#"{"id":0,"args":["s32"],"code":[["ArgGet",0],["Int32ToWasm"],["CallExport",1]]}"#,
+);
+
+const UNNAMED: Edit = (r#""args":["a","b"]"#, r#""args":[]"#);
+
+const AS_GETTER: Edit = (r#""kind":"function""#, r#""kind":"getter","class":"C""#);
+
+const AS_SETTER: Edit = (r#""kind":"function""#, r#""kind":"setter","class":"C""#);
+
+const AS_METHOD: Edit = (r#""kind":"function""#, r#""kind":"method","class":"C""#);
+
+const REST: Edit = (r#""name":"add""#, r#""name":"add","variadic":true"#);
+
+const ACCESSORS: &[Case] = &[
+    (&[], WITH_MANY_EXPORTS, &[GETTER, UNNAMED, AS_GETTER], ""),
+    (
+        &[],
+        WITH_MANY_EXPORTS,
+        &[GETTER, UNNAMED, AS_GETTER, REST],
+        "BadAdapter 0",
+    ),
+    (&[], WITH_MANY_EXPORTS, &[SETTER, UNNAMED, AS_SETTER], ""),
+    (
+        &[],
+        WITH_MANY_EXPORTS,
+        &[SETTER, UNNAMED, AS_SETTER, REST],
+        "BadAdapter 0",
+    ),
+    // A method may have one; a getter takes nothing, and a setter gives nothing.
+    (
+        &[],
+        WITH_MANY_EXPORTS,
+        &[SETTER, UNNAMED, AS_METHOD, REST],
+        "",
+    ),
+    (
+        &[],
+        WITH_MANY_EXPORTS,
+        &[SETTER, UNNAMED, AS_GETTER],
+        "BadAdapter 0",
+    ),
+    (
+        &[],
+        WITH_MANY_EXPORTS,
+        &[GETTER, UNNAMED, AS_SETTER],
+        "BadAdapter 0",
+    ),
+];
+
+/// Parts that a description names: the tag that wraps exceptions, and the function that throws again.
+const WRAPPING_TAG: Edit = (
+    r#""version":1"#,
+    r#""version":1,"parts":{"wrapped_js_tag":0}"#,
+);
+
+const RETHROWING: Edit = (
+    r#""version":1"#,
+    r#""version":1,"parts":{"rethrow_critical":0}"#,
+);
+
+const RETHROWING_ADD: Edit = (
+    r#""version":1"#,
+    r#""version":1,"parts":{"rethrow_critical":1}"#,
+);
+
+/// The second import alone has an adapter.
+const PAIR_OF_SECOND: Edit = (r#""implements":[[0,1]]"#, r#""implements":[[1,1]]"#);
+
+const UNBOUND: &[Case] = &[
+    (&[], ADD, &[NO_PAIR], "UnboundImport 0"),
+    (&[], TWO_IMPORTS, &[PAIR_OF_SECOND], "UnboundImport 0"),
+    // The glue file defines the first memory, tags of exceptions, and the function that throws again.
+    (&[], WITH_MEMORY_IMPORT, &[], ""),
+    (&[], WITH_TABLE_IMPORT, &[], "UnboundImport 1"),
+    (&[], WITH_TAG_IMPORT, &[], ""),
+    (&[], WITH_OTHER_TAG, &[], "UnboundImport 1"),
+    (&[], WITH_OTHER_TAG, &[WRAPPING_TAG], ""),
+    (&[], ADD, &[NO_PAIR, RETHROWING], ""),
+    (&[], ADD, &[NO_PAIR, RETHROWING_ADD], "UnboundImport 0"),
+    // What comes from elsewhere isn't the glue file's to define.
+    (&[], WITH_FOREIGN, &[NO_PAIR], ""),
+    (&[], FOREIGN_MEMORY, &[], ""),
+];
+
+const OWN_PROTO: &[Case] = &[
+    (&[], FOREIGN_PROTO, &[], "BadName __proto__"),
+    (&[], FOREIGN_PROTO, &[NO_PAIR], ""),
+];
+
+const OWN_NAMES: &[Case] = &[
+    (
+        &[],
+        FOREIGN_AND_OWN,
+        &[LOGGING, SECOND_PAIR],
+        "NameClash log",
+    ),
+    (&[], FOREIGN_AND_OWN, &[PAIR_OF_SECOND], ""),
+];
+
+/// What the call of the import is described as.
+const GLUE_FILE: Edit = (
+    r#"{"global":"console","fields":["log"]}"#,
+    r#"{"module":"./out_bg.js","name":"log"}"#,
+);
+
+const FIELD_OF_GLUE_FILE: Edit = (
+    r#"{"global":"console","fields":["log"]}"#,
+    r#"{"module":"./out_bg.js","name":"log","fields":["x"]}"#,
+);
+
+const OTHER_FILE: Edit = (
+    r#"{"global":"console","fields":["log"]}"#,
+    r#"{"module":"./out.js","name":"log"}"#,
+);
+
+const PROTO: Edit = (
+    r#"{"global":"console","fields":["log"]}"#,
+    r#"{"module":"__proto__","name":"log"}"#,
+);
+
+const LOCAL_PROTO: Edit = (
+    r#"{"global":"console","fields":["log"]}"#,
+    r#"{"local":"__proto__","name":"log"}"#,
+);
+
+const PLACEHOLDER: Edit = (
+    r#"{"global":"console","fields":["log"]}"#,
+    r#"{"module":"__wbindgen_placeholder__","name":"log"}"#,
+);
+
+const STRINGS: Edit = (
+    r#"["Bare",{"global":"console","fields":["log"]}]"#,
+    r#"["Instanceof",{"module":"wasm:js/string-constants","name":"log"}]"#,
+);
+
+const LOCAL_STRINGS: Edit = (
+    r#"{"global":"console","fields":["log"]}"#,
+    r#"{"local":"wasm:js/string-constants","name":"log"}"#,
+);
+
+const GLOBAL_PLACEHOLDER: Edit = (
+    r#"{"global":"console","fields":["log"]}"#,
+    r#"{"global":"__wbindgen_placeholder__"}"#,
+);
+
+/// The value is changed on the way, so that the described name can't be the import itself.
+const UNSIGNED: Edit = (
+    r#"["WasmToInt32",false],["CallAdapter",2]"#,
+    r#"["WasmToInt32",true],["CallAdapter",2]"#,
+);
+
+/// A re-export of a name of the string constants' module.
+const REEXPORTED: Edit = (
+    r#""version":1"#,
+    r#""version":1,"reexports":[{"name":"r","js":{"module":"wasm:js/string-constants","name":"f"}}]"#,
+);
+
+const MODULES: &[Case] = &[
+    // Imports that the glue file doesn't define, by their module.
+    (&[], FROM_GLUE_FILE, &[NO_PAIR], "ModuleClash ./out_bg.js"),
+    (&[], FROM_PROTO, &[NO_PAIR], "ModuleClash __proto__"),
+    (&[], FROM_STRINGS, &[NO_PAIR], ""),
+    (&[], WITH_FOREIGN, &[NO_PAIR], ""),
+    (&[], ADD, &[NO_PAIR], ""),
+    (&[], FROM_GLUE_FILE, &[], ""),
+    (&[], FROM_PROTO, &[], ""),
+    // The described name is the import itself, and has its module.
+    (&[], ADD, &[GLUE_FILE], "ModuleClash ./out_bg.js"),
+    (&[], ADD, &[PROTO], "ModuleClash __proto__"),
+    (&[], ADD, &[OTHER_FILE], ""),
+    (&[], ADD, &[LOCAL_PROTO], ""),
+    (&[], FROM_PROTO, &[OTHER_FILE], ""),
+    (&[], ADD, &[FIELD_OF_GLUE_FILE], ""),
+    (&[], ADD, &[GLUE_FILE, UNSIGNED], ""),
+    (&[Asked::Emscripten], ADD, &[GLUE_FILE], ""),
+    // What is described, used or not.
+    (
+        &[],
+        ADD,
+        &[PLACEHOLDER],
+        "ModuleClash __wbindgen_placeholder__",
+    ),
+    (&[], ADD, &[STRINGS], "ModuleClash wasm:js/string-constants"),
+    (
+        &[],
+        ADD,
+        &[REEXPORTED],
+        "ModuleClash wasm:js/string-constants",
+    ),
+    (&[], ADD, &[LOCAL_STRINGS], ""),
+    (&[], ADD, &[GLOBAL_PLACEHOLDER], ""),
+    // Imports are described before re-exports, and both before the module's imports.
+    (
+        &[],
+        ADD,
+        &[REEXPORTED, PLACEHOLDER],
+        "ModuleClash __wbindgen_placeholder__",
+    ),
+    (
+        &[],
+        FROM_GLUE_FILE,
+        &[REEXPORTED, NO_PAIR],
+        "ModuleClash wasm:js/string-constants",
+    ),
+];
+
+const CONDITIONS: &[Condition] = &[
+    (Call::BadAdapter, ACCESSORS),
+    (Call::UnboundImport, UNBOUND),
+    (Call::BadName, OWN_PROTO),
+    (Call::NameClash, OWN_NAMES),
+    (Call::ModuleClash, MODULES),
+];
+
+fn assert_condition<H: Abort>(
+    rt: &H,
+    alloc: Global,
+    condition: &Condition,
+) -> Result<(), LowerFault> {
+    let (call, cases) = condition;
+    for (asked, module, edits, want) in *cases {
+        assert_call(rt, alloc, *call, asked, module, edits, want)?;
+    }
+    Ok(())
+}
+
+#[test]
+fn each_call_gives_its_fault(rt: HostRuntime) -> Result<(), LowerFault> {
+    for condition in CONDITIONS {
+        assert_condition(&rt, rt.alloc(), condition)?;
+    }
+    Ok(())
+}
+
+const NAME: &str = r#""name":"add""#;
+
+/// Names of an export, or its name with a namespace.
+const PUBLISHED: &[Row] = &[
+    (
+        &[Asked::Web],
+        ADD,
+        NAME,
+        &[
+            (r#""name":"initSync""#, "FixedExport initSync"),
+            (r#""name":"default""#, "FixedExport default"),
+            (r#""name":"add""#, ""),
+            (r#""name":"log""#, ""),
+            (r#""name":"length""#, ""),
+            (r#""name":"__wasm""#, ""),
+            // A name in a namespace is published under the first segment.
+            (
+                r#""namespace":["initSync","a"],"name":"f""#,
+                "FixedExport initSync__a__f",
+            ),
+            (r#""namespace":["a"],"name":"initSync""#, ""),
+        ],
+    ),
+    (
+        &[Asked::NoModules],
+        ADD,
+        NAME,
+        &[
+            (r#""name":"initSync""#, "FixedExport initSync"),
+            (r#""name":"name""#, "FixedExport name"),
+            (r#""name":"length""#, "FixedExport length"),
+            (r#""name":"arguments""#, "FixedExport arguments"),
+            (r#""name":"caller""#, "FixedExport caller"),
+            (r#""name":"constructor""#, "FixedExport constructor"),
+            (r#""name":"default""#, ""),
+            (r#""name":"wasm_bindgen""#, ""),
+        ],
+    ),
+    // A bundler publishes the imports that the glue file defines.
+    (
+        &[Asked::Bundler],
+        ADD,
+        NAME,
+        &[
+            (r#""name":"__wbg_set_wasm""#, "FixedExport __wbg_set_wasm"),
+            (r#""name":"log""#, "FixedExport log"),
+            (r#""namespace":["log"],"name":"f""#, "FixedExport log__f"),
+            (r#""name":"initSync""#, ""),
+        ],
+    ),
+    (
+        &[Asked::Bundler],
+        FOREIGN_AND_OWN,
+        NAME,
+        &[(r#""name":"log""#, "FixedExport log")],
+    ),
+    (
+        &[Asked::ExportWasm],
+        ADD,
+        NAME,
+        &[
+            (r#""name":"__wasm""#, "FixedExport __wasm"),
+            (r#""name":"initSync""#, ""),
+        ],
+    ),
+    (
+        &[Asked::Debug, Asked::Bundler],
+        ADD,
+        NAME,
+        &[(r#""name":"__wasm""#, "FixedExport __wasm")],
+    ),
+    (
+        &[Asked::Node],
+        ADD,
+        NAME,
+        &[(r#""name":"initSync""#, ""), (r#""name":"log""#, "")],
+    ),
+];
+
+fn assert_row<H: Abort>(rt: &H, alloc: Global, row: &Row) -> Result<(), LowerFault> {
+    let (asked, module, part, texts) = row;
+    for (text, want) in *texts {
+        assert_call(
+            rt,
+            alloc,
+            Call::FixedExport,
+            asked,
+            module,
+            &[(*part, *text)],
+            want,
+        )?;
+    }
+    Ok(())
+}
+
+/// The import of `env` stands without an adapter.
+const FOREIGN_LOG: &[Edit] = &[NO_PAIR, NO_CODE, (r#""name":"add""#, r#""name":"log""#)];
+
+/// A method of a class stands at no top level.
+const METHOD: &[Edit] = &[AS_METHOD, (r#""name":"add""#, r#""name":"initSync""#)];
+
+#[test]
+fn names_that_the_glue_file_publishes_are_fixed(rt: HostRuntime) -> Result<(), LowerFault> {
+    for row in PUBLISHED {
+        assert_row(&rt, rt.alloc(), row)?;
+    }
+    let bundler = &[Asked::Bundler];
+    assert_call(
+        &rt,
+        rt.alloc(),
+        Call::FixedExport,
+        bundler,
+        WITH_FOREIGN,
+        FOREIGN_LOG,
+        "",
+    )?;
+    let web = &[Asked::Web];
+    assert_call(&rt, rt.alloc(), Call::FixedExport, web, ADD, METHOD, "")
+}
