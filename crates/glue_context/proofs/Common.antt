@@ -1,44 +1,38 @@
 -- The names that the proofs of this crate cite, passed on from one place. Declares nothing.
-pub use Rattle.std.proofs.Common.{All, Bool, Bor, IfSome, IsPermutation, IsSortedBy, List, None, Option, Ordering, Some, [], ap, append-nil, arith, bytes_eq, codes, cond, false, filter_map, flat_map, fold, get_or, if◌then◌else◌, inl, inr, is_some, length, map, not, option_and_then, option_map, refl, rules, subst, suc, sym, take, true, true≢false, zero, ℕ, ◌&&◌, ◌++◌, ◌+◌, ◌-◌, ◌<◌, ◌==◌, ◌||◌, ◌∙◌, ◌∷◌, ◌≡◌, ◌≤◌}
-pub use Rattle.std.proofs.lemmas.Bool.{and_parts, cond_both, or_parts}
+pub use Rattle.std.proofs.Common.{All, Bool, Bor, IsPermutation, List, None, Option, Ordering, Some, [], ap, append-nil, arith, bytes_eq, codes, false, filter_map, flat_map, fold, inl, inr, is_some, map, option_map, refl, rules, subst, suc, sym, take, true, true≢false, zero, ℕ, ◌++◌, ◌+◌, ◌-◌, ◌<◌, ◌==◌, ◌∙◌, ◌∷◌, ◌≡◌}
 pub use Rattle.std.proofs.lemmas.Grind.{common_steps, flat_map-append}
 pub use Rattle.std.proofs.lemmas.List.Concat.{flat_map_single}
-pub use Rattle.std.proofs.lemmas.List.Elements.{All-cons, All-head, All-nil, All-tail, filter_map-append}
+pub use Rattle.std.proofs.lemmas.List.Elements.{All-head, All-nil, All-tail, filter_map-append}
 pub use Rattle.std.proofs.lemmas.List.Sorted.{All-permutation, IsPermutation-map, IsPermutation-sym}
 pub use Rattle.std.proofs.lemmas.Slice.Eq.{bytes_eq-Decides}
-pub use Rattle.std.specs.List.{AllByRecursion, list_all, list_any}
-pub use Rattle.std.specs.List.Sorted.{IsSortedByClosure}
-pub use Rattle.values.proofs.Members.{distinct_both, in_either, in_left, in_right}
+pub use Rattle.std.specs.List.{AllByRecursion, AllZip, list_all, list_any}
+pub use Rattle.values.proofs.Members.{distinct_both, in_left, in_right}
 pub use Rattle.values.specs.Lists.{AreApart, AreDistinct, IsAway, IsIn}
 pub use Rattle.glue_check.specs.Unbuilt.{global_of}
 unfoldable pub use Rattle.glue_check.specs.Verdict.{unbuilt, verdict}
 pub use Rattle.glue_check.specs.declared.files.FileFlags.{FileFlags}
 pub use Rattle.glue_check.proofs.BuiltForm.{IsBuiltExport}
-pub use Rattle.glue_check.proofs.Called.{IsPath, IsThere, fields_of}
-pub use Rattle.glue_check.proofs.Steps.{HasSteps}
+pub use Rattle.glue_check.proofs.Steps.{HasSteps, IsPath, IsThere, fields_of, some_of}
 pub use Rattle.glue_steps.specs.Exported.{export_name, export_names}
 pub use Rattle.glue_context.specs.Defined.{IsDefined, defined_by, defined_places}
 pub use Rattle.glue_context.specs.Edits.{AreFit, with_added, with_moved}
-pub use Rattle.glue_context.specs.Items.{IsArranged, IsDeclareItem, IsDefineItem, IsFunctionOf, IsGlue, Matches, Rises, all_items, declaration_back, declaration_front, default_names, definition_back, definition_front, export_order, is_bindable, is_definable, pair_name, pair_order}
+pub use Rattle.glue_context.specs.Items.{IsArranged, IsDeclareItem, IsDefineItem, IsFunctionOf, IsGlue, all_items, declaration_back, declaration_front, default_names, definition_back, definition_front, export_order, is_bindable, is_definable, pair_name, pair_order}
 pub use Rattle.glue_context.specs.Linked.{IsLinked, IsPrescribed}
 pub use Rattle.glue_context.specs.Rewritten.{edits_of, move_of, rewritten}
-pub use Rattle.glue_shared.specs.Names.{described_hosts, entry_of, fixed_public, global_names, helper_names, import_names, is_direct, is_own, is_one_of, is_whole_name, js_import, live_count, names_of, own_place, own_places}
+pub use Rattle.glue_shared.specs.Names.{described_hosts, fixed_public, global_names, helper_names, import_names, is_one_of, js_import, live_count, names_of}
 unfoldable pub use Rattle.glue_shared.specs.Names.{fixed_names, host_names, own_imports}
 pub use Rattle.glue_shared.specs.declared.aux.AuxExport.{AuxExport}
 pub use Rattle.glue_shared.specs.declared.description.Lowered.{Lowered}
 pub use Rattle.glue_shared.specs.declared.import.AuxImport.{AuxImport}
-pub use Rattle.glue_shared.specs.declared.import.JsImportName.{JsImportName}
 pub use Rattle.glue_shared.specs.declared.names.TheConstants.{HOSTS, TARGET_NAMES}
 pub use Rattle.glue_shared.specs.declared.settings.Settings.{Settings}
 pub use Rattle.glue_shared.specs.declared.settings.Target.TheVariants.{Deno}
-pub use Rattle.glue_steps.specs.Resolving.{adapter_steps, entry_at, is_some_item}
+pub use Rattle.glue_steps.specs.Resolving.{entry_at}
 pub use Rattle.glue_steps.specs.declared.step.Step.{Step}
-pub use Rattle.glue_steps.specs.declared.step.Step.TheVariants.{CallExport, CallImport, Parameter, ToUnsigned, Unchanged}
 pub use Rattle.glue_targets.specs.Published.{IsPublished, fixed_by, fixed_published, is_exported, published_by, published_pairs}
 pub use Rattle.glue_targets.specs.Targets.{frame_end, frame_start, loading_item}
 pub use Rattle.glue_tree.proofs.Functions.{IsFrame}
 pub use Rattle.glue_words.proofs.Belonging.{AllItems, Belongs, Context}
-pub use Rattle.glue_words.specs.Ident.{is_ident}
 pub use Rattle.glue_words.specs.Linking.{AreAmong, EachItem, IsExported}
 pub use Rattle.glue_words.specs.Names.{bound_in, bound_name, bound_names, hosted_in, is_export_key, spliced_in, used_in, wasm_in}
 pub use Rattle.glue_words.specs.declared.item.Item.{Item}

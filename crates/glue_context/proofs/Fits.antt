@@ -1,16 +1,13 @@
 -- What the check of a description gives of its exports and imports: their items belong into the file, and what they declare and publish.
-use Rattle.glue_context.proofs.Common.{◌≡◌, ℕ, List, [], ◌∷◌, ◌++◌, ◌==◌, Bool, true, false, refl, ◌∙◌, subst, rules, inl, inr, cond, AllByRecursion, Some, codes, list_all, list_any, filter_map-append, and_parts, AreAmong, IsIn, in_left, ImportId, Item, bound_name, bound_in, used_in, hosted_in, wasm_in, spliced_in, is_export_key, Context, Belongs, IsFrame, is_exported, published_by, Step, Parameter, Unchanged, ToUnsigned, CallExport, CallImport, AuxExport, AuxImport, Settings, Lowered, host_names, export_names, IsDeclareItem, IsDefineItem, IsFunctionOf, declaration_front, declaration_back, definition_front, definition_back, IsBuiltExport, IsThere, IsPath, HasSteps, fields_of}
+use Rattle.glue_context.proofs.Common.{◌≡◌, ℕ, List, [], ◌∷◌, ◌++◌, Bool, true, false, refl, ◌∙◌, subst, arith, rules, AllByRecursion, codes, list_all, list_any, filter_map-append, AreAmong, IsIn, in_left, ImportId, Item, bound_name, bound_in, used_in, hosted_in, wasm_in, spliced_in, is_export_key, Context, Belongs, IsFrame, is_exported, published_by, Step, AuxExport, AuxImport, Settings, Lowered, host_names, export_names, IsDeclareItem, IsDefineItem, IsFunctionOf, declaration_front, declaration_back, definition_front, definition_back, IsBuiltExport, IsThere, IsPath, HasSteps, fields_of}
 use Rattle.std.specs.Prelude.{filter}
-use Rattle.std.proofs.lemmas.List.Folds.{list_any-append, list_all-append}
+use Rattle.std.proofs.lemmas.{List.Folds.list_any-append, List.Folds.list_all-append}
 use Rattle.glue_words.specs.declared.item.Thing.TheVariants as thing
 use Rattle.glue_words.specs.declared.word.Word.{Word}
-use Rattle.glue_words.specs.declared.word.Word.TheVariants as w
 use Rattle.glue_words.specs.Limits.{is_computed}
-use Rattle.glue_words.specs.Names.{used_name, hosted_name, wasm_name, spliced_key}
 use Rattle.glue_words.specs.Spacing.{joins}
 use Rattle.glue_words.specs.Tables.{punct_text}
 use Rattle.glue_words.proofs.Among.{apart_none, among_both, among_by, among_in, among_itself, among_left}
-use Rattle.glue_shared.specs.declared.import.{AuxImport.TheVariants.Value, AuxValue.TheVariants.Bare}
 use Rattle.glue_tree.proofs.Fit.{is_inner}
 use Rattle.glue_targets.proofs.FixedTexts.{call_takes}
 use Rattle.glue_binding.specs.Spelling.{path_words}
@@ -21,16 +18,13 @@ use Rattle.glue_binding.proofs.Linked.{StandsBeside, bound_local, bound_resolved
 use Rattle.glue_check.proofs.Globals.{in_flat}
 use Rattle.glue_context.specs.Edits.{has_start}
 use Rattle.glue_context.specs.Keys.{described_keys, import_properties, imported_properties, other_properties}
-use Rattle.glue_context.proofs.Lists.{not_true}
 
 -- ---- what steps bring along
 
 -- no step declares a name of the file
 binds_none : (steps : List Step) → bound_in (outside_of steps) ≡ []
 binds_none [] = refl
-binds_none (CallImport a n r g fields ∷ steps) =
-    filter_map-append bound_name (path_words fields) (outside_of steps) ∙ rw (path_tells fields).binds (binds_none steps)
-binds_none (other ∷ steps) = binds_none steps
+binds_none (step ∷ steps) = let rest = binds_none steps in grind (arith, filter_map-append, path_tells)
 
 -- a file has the names that words use
 abbrev HasNames : Context → List Word → Type 0
@@ -41,34 +35,20 @@ HasNames c words =
 -- the words of fields use nothing but their computed keys
 has_path : (c : Context) (fields : List (List ℕ)) (words : List Word) → AreAmong (filter is_computed fields) c.keys → HasNames c words → HasNames c (path_words fields ++ words)
 has_path c fields words keys h =
-    let path = path_words fields in
-    let k = path_tells fields in (
-      rw (filter_map-append used_name path words, k.uses) h.0,
-      rw (filter_map-append hosted_name path words, k.hosts) h.1,
-      rw (filter_map-append wasm_name path words, k.takes) h.2,
-      rw (filter_map-append spliced_key path words, k.splices) (among_both (filter is_computed fields) (spliced_in words) c.keys keys h.3),
-      rw (filter_map-append spliced_key path words, k.splices, list_all-append is_computed (filter is_computed fields) (spliced_in words), k.formed) h.4,
-    )
+    let k = path_tells fields in grind (arith, filter_map-append, list_all-append, among_both)
 
 -- what passes a test among items passes it among more items
 passes_in : {A : Type 0} (test : A → Bool) (x : A) (ys : List A) → test x ≡ true → IsIn x ys → IsIn x (filter test ys)
 passes_in test x [] q k = absurd k
-passes_in test x (y ∷ ys) q (inl same) = rw (subst (λ z. test z ≡ true) same q) (inl same)
-passes_in test x (y ∷ ys) q (inr k) = elim (test y) as (λ b. IsIn x (cond b (y ∷ filter test ys) (filter test ys)))
-    [ true ↦ inr (passes_in test x ys q k) | false ↦ passes_in test x ys q k ]
+passes_in test x (y ∷ ys) q k = let rest = passes_in test x ys q in grind arith
 
 kept_in : {A : Type 0} (test : A → Bool) (xs ys : List A) → AreAmong xs ys → AreAmong (filter test xs) (filter test ys)
 kept_in test [] ys h = tt
-kept_in test (x ∷ xs) ys h = by (test x) refl (kept_in test xs ys h.1)
-  where
-    by : (b : Bool) → test x ≡ b → AreAmong (filter test xs) (filter test ys) → AreAmong (cond b (x ∷ filter test xs) (filter test xs)) (filter test ys)
-    by true q rest = (passes_in test x ys q h.0, rest)
-    by false q rest = rest
+kept_in test (x ∷ xs) ys h = let rest = kept_in test xs ys h.1 in let here = passes_in test x ys in grind arith
 
 -- the fields of a global are the properties that its import names
 fields_named : (what : AuxImport) → AreAmong (fields_of what) (import_properties what)
-fields_named (Value (Bare js)) = among_itself js.fields
-fields_named other = tt
+fields_named what = grind (arith, among_itself)
 
 module _ (s : Settings) (l : Lowered) where
   -- the names of a file of the description, with these declared
@@ -97,38 +77,29 @@ module _ (s : Settings) (l : Lowered) where
   module _ (declared : List (List ℕ)) (wasm : IsIn (codes "wasm") declared) where
     has_names : (steps : List Step) → AreThere steps → HasNames (names_with declared) (outside_of steps)
     has_names [] h = (tt, tt, tt, tt, refl)
-    has_names (CallExport name n r ∷ steps) h =
-        let k = has_names steps h.1 in ((wasm, k.0), k.1, (in_left name (export_names l.«module») _ h.0, k.2), k.3, k.4)
-    has_names (CallImport a n r g fields ∷ steps) h =
-        let k = has_path (names_with declared) fields (outside_of steps) (path_described fields h.0.2) (has_names steps h.1) in
-        (k.0, (h.0.1, k.1), k.2, k.3, k.4)
-    has_names (Parameter n ∷ steps) h = has_names steps h.1
-    has_names (Unchanged ∷ steps) h = has_names steps h.1
-    has_names (ToUnsigned ∷ steps) h = has_names steps h.1
-    has_names (other ∷ steps) h = absurd h.0
+    has_names (step ∷ steps) h =
+        let k = has_names steps h.1 in
+        let path = λ (fields : List (List ℕ)) (p : IsPath l fields). has_path (names_with declared) fields (outside_of steps) (path_described fields p) k in
+        grind (arith, in_left)
 
   -- and their texts are spaced
   are_fit : (steps : List Step) → AreThere steps → list_all step_fit steps ≡ true
   are_fit [] h = refl
-  are_fit (CallImport a n r g fields ∷ steps) h = rw h.0.0 (are_fit steps h.1)
-  are_fit (other ∷ steps) h = are_fit steps h.1
+  are_fit (step ∷ steps) h = let rest = are_fit steps h.1 in grind arith
 
 -- ---- the item of a function, with words before and behind it
 
 inner_words : (words : List Word) → list_all is_inner words ≡ true → list_any is_export_key words ≡ false
 inner_words [] h = refl
-inner_words (w.Key place ∷ words) h = let p = and_parts _ _ h in rw (not_true (place == 12) p.0) (inner_words words p.1)
-inner_words (word ∷ words) h = inner_words words h
+inner_words (word ∷ words) h = let rest = inner_words words in grind arith
 
 function_binds : {l : Lowered} {id : ℕ} {names : List (List ℕ)} {f : _} (d : IsFunctionOf l id names f) (back : List Word) → bound_in (f.words ++ back) ≡ bound_in back
 function_binds {f = f} d back = filter_map-append bound_name f.words back
     ∙ rw (d.bound.words, bound_binds d.steps _ f d.bound [] [] (binds_none d.steps)) refl
 
-module _ {s : Settings} {l : Lowered} {id : ℕ} {names : List (List ℕ)} {f : _} (d : IsFunctionOf l id names f) where
+module _ (s : Settings) {l : Lowered} {id : ℕ} {names : List (List ℕ)} {f : _} (d : IsFunctionOf l id names f) where
   there : HasSteps s l id → AllByRecursion (IsThere s l) d.steps
-  there h =
-      let same : Some h.steps ≡ Some d.steps = rw (h.told) at d.told in
-      let steps : h.steps ≡ d.steps = cc in rw steps at h.there
+  there h = rw d.told at h
 
   module _ (front back : List Word) (frame : IsFrame front back) (h : HasSteps s l id) where
     -- no word of the function is `export`
@@ -160,7 +131,7 @@ module _ (s : Settings) (l : Lowered) where
 
     pub declare_belongs : (declared : List (List ℕ)) → IsIn (codes "wasm") declared → IsBuiltExport s l e → HasSteps s l e.adapter
         → Belongs (names_with s l declared) item.words
-    declare_belongs declared wasm b h = rw d.is (function_fits d.of_adapter (declaration_front e.name) declaration_back
+    declare_belongs declared wasm b h = rw d.is (function_fits s d.of_adapter (declaration_front e.name) declaration_back
         (record { right = (rw b.ident refl, refl); before = refl; behind = refl; after = refl; apart = refl; ends = refl }) h
         declared wasm (search (rules, apart_none)))
 
@@ -175,11 +146,11 @@ module _ (s : Settings) (l : Lowered) where
 
     pub define_belongs : (declared : List (List ℕ)) → IsIn (codes "wasm") declared → HasSteps s l pair.1 → Belongs (names_with s l declared) item.words
     define_belongs declared wasm h =
-        rw d.is (function_fits d.of_adapter (definition_front d.«import».name) definition_back defines h declared wasm (search (rules, apart_none)))
+        rw d.is (function_fits s d.of_adapter (definition_front d.«import».name) definition_back defines h declared wasm (search (rules, apart_none)))
 
     pub define_exported : HasSteps s l pair.1 → is_exported item ≡ false
     define_exported h = rw (
       d.is,
       list_any-append is_export_key d.function.words definition_back,
-      function_inner d.of_adapter (definition_front d.«import».name) definition_back defines h,
+      function_inner s d.of_adapter (definition_front d.«import».name) definition_back defines h,
     ) refl

@@ -1,5 +1,3 @@
-mod Arranged
-pub mod Built
 mod Common
 mod Edited
 pub mod Facts

@@ -1,41 +1,31 @@
--- Lists: what tests say of their items, items with their counterparts, and the items of a description.
-use Rattle.glue_context.proofs.Common.{◌≡◌, ℕ, suc, ◌+◌, ◌<◌, ◌-◌, inl, inr, List, [], ◌∷◌, ◌++◌, length, map, get_or, Bool, true, refl, sym, ap, arith, codes, ◌||◌, list_all, list_any, flat_map, flat_map-append, is_one_of, bytes_eq, bytes_eq-Decides, common_steps, IsIn, IsAway, AreApart, Item, EachItem, AllItems, IsArranged, Matches, IsDeclareItem, IsDefineItem, IsGlue, all_items, default_names, Settings, ImportId, AuxExport, Lowered, frame_start, frame_end, loading_item, Ordering}
-use Rattle.std.specs.Bool.{Decides}
+-- Lists: what tests say of their members, items with their counterparts, and the items of a description.
+use Rattle.glue_context.proofs.Common.{◌≡◌, ◌+◌, ◌-◌, ◌<◌, suc, true, codes, list_all, default_names, inl, inr, List, [], ◌∷◌, ◌++◌, Bool, refl, ap, arith, AllZip, Ordering, flat_map, flat_map-append, common_steps, ℕ, IsIn, Item, EachItem, AllItems, IsArranged, IsDeclareItem, IsDefineItem, IsGlue, all_items, Settings, ImportId, AuxExport, Lowered, frame_start, frame_end, loading_item}
 use Rattle.std.specs.Fmt.{decimal}
-use Rattle.std.proofs.lemmas.Bool.Decides.{Decides-like, Decides-or}
-use Rattle.std.proofs.lemmas.List.{map-id}
-use Rattle.std.proofs.lemmas.List.Sums.{AllPass-from_list_all, list_all-from_AllPass}
+use Rattle.std.proofs.lemmas.List.{map-append}
 use Rattle.std.proofs.lemmas.List.Folds.{list_all-map}
+use Rattle.std.proofs.lemmas.List.Sums.{AllPass-from_list_all, list_all-from_AllPass}
+use Rattle.std.proofs.lemmas.Slice.Zip.{all_zipped_more}
 use Rattle.glue_context.specs.Edits.{has_start}
-use Rattle.glue_context.proofs.Arranged.{all_are, each_is, arranged_from}
-pub use Rattle.std.proofs.lemmas.Bool.{not-true as not_true}
+pub use Rattle.glue_naming.proofs.Arranged.{all_are, each_is, moved_from, arranged_from, distinct_moved, arranged_by_sort}
+
+-- for the loops that make items
+pub ruleset item_steps = (common_steps, map-append, all_zipped_more, list_all-map)
+
+-- one more numbered name
+pub default_next : (count n : ℕ) → n < count → default_names (count - n) n ≡ (codes "arg" ++ decimal n) ∷ default_names (count - (n + 1)) (n + 1)
+default_next count n more = let less : count - n ≡ suc (count - (n + 1)) = omega arith in ap (λ (k : ℕ). default_names k n) less
+
+pub ruleset name_steps = (common_steps, default_next)
 
 -- ---- tests of each item
 
 module _ {A : Type 0} (test : A → Bool) where
-  pub all_in : (xs : List A) → list_all test xs ≡ true → (x : A) → IsIn x xs → test x ≡ true
-  all_in xs h = each_is (λ x. test x ≡ true) xs (AllPass-from_list_all test xs h)
-
   pub all_by : (xs : List A) → ((x : A) → IsIn x xs → test x ≡ true) → list_all test xs ≡ true
   all_by xs h = list_all-from_AllPass test xs (all_are (λ x. test x ≡ true) xs h)
 
   -- what each item passes, each passes in another order
   pub all_moved : {order : A → A → Ordering} (xs ys : List A) → IsArranged order xs ys → list_all test xs ≡ true → list_all test ys ≡ true
-  all_moved xs ys a h = all_by ys (λ y k. all_in xs h y (arranged_from a y k))
-
--- ---- what tests of equality find, among items that are looked at by a function
-
-module _ {A B : Type 0} (same : B → B → Bool) (decides : (x y : B) → Decides (same x y) (x ≡ y)) (look : A → B) where
-  pub finds : (y : B) (xs : List A) → Decides (list_any (λ x. same (look x) y) xs) (IsIn y (map look xs))
-  finds y [] = (λ h. absurd (cc), λ k. absurd k)
-  finds y (x ∷ xs) = Decides-or (same (look x) y) _ (Decides-like (same (look x) y) sym sym (decides (look x) y)) (finds y xs)
-
-pub among_is : (name : List ℕ) (names : List (List ℕ)) → is_one_of names name ≡ true → IsIn name names
-among_is name names h = rw map-id at ((finds bytes_eq bytes_eq-Decides (λ n. n) name names).0 h)
-
-pub apart_map : {A B : Type 0} (f : A → B) (xs : List A) (ys : List B) → ((x : A) → IsIn x xs → IsAway (f x) ys) → AreApart (map f xs) ys
-apart_map f [] ys h = tt
-apart_map f (x ∷ xs) ys h = (h x (inl refl), apart_map f xs ys (λ y k. h y (inr k)))
+  all_moved xs ys a h = all_by ys (λ y k. each_is (λ x. test x ≡ true) xs (AllPass-from_list_all test xs h) y (arranged_from a y k))
 
 pub flat_none : {A B : Type 0} (xs : List A) → flat_map {X = A} {A = B} (λ x. []) xs ≡ []
 flat_none [] = refl
@@ -52,35 +42,12 @@ pub each_any : (Q : List Item → Item → List Item → Type 0) (before items :
 each_any Q before [] h = tt
 each_any Q before (item ∷ items) h = (h.0 before items, each_any Q (before ++ item ∷ []) items h.1)
 
--- ---- items and their counterparts
-
-module _ {A B : Type 0} (R : A → B → Type 0) where
-  -- what holds of no items, and with each item and its counterpart of one more
-  matched : (S : List A → List B → Type 0) (xs : List A) (ys : List B) → Matches R xs ys → S [] []
-      → ((x : A) (y : B) (us : List A) (vs : List B) → IsIn x xs → R x y → S us vs → S (x ∷ us) (y ∷ vs)) → S xs ys
-  matched S [] [] m none more = none
-  matched S (x ∷ xs) (y ∷ ys) m none more = more x y xs ys (inl refl) m.0 (matched S xs ys m.1 none (λ u v us vs k. more u v us vs (inr k)))
-  matched S xs ys m none more = absurd m
-
--- counterparts stand at the same places, where the first are looked at by a function, and where they aren't
-pub matches_look : {A B C : Type 0} (R : B → C → Type 0) (look : A → B) (xs : List A) (ys : List C) → length ys ≡ length xs
-    → ((k : ℕ) (d : A) (e : C) → k < length xs → R (look (get_or xs k d)) (get_or ys k e)) → Matches R (map look xs) ys
-matches_look R look [] [] long h = tt
-matches_look R look (x ∷ xs) (y ∷ ys) long h = (h 0 x y (omega arith), matches_look R look xs ys (omega arith) (λ k d e l. h (suc k) d e (omega arith)))
-matches_look R look xs ys long h = absurd (omega (arith, long))
-
-pub matches_at : {A B : Type 0} (R : A → B → Type 0) (xs : List A) (ys : List B) → length ys ≡ length xs
-    → ((k : ℕ) (d : A) (e : B) → k < length xs → R (get_or xs k d) (get_or ys k e)) → Matches R xs ys
-matches_at R xs ys long h = rw map-id at (matches_look R (λ x. x) xs ys long h)
-
--- for the loops that make items
-pub ruleset item_steps = (common_steps, matches_look, matches_at, list_all-map)
-
--- one more numbered name
-pub default_next : (count n : ℕ) → n < count → default_names (count - n) n ≡ (codes "arg" ++ decimal n) ∷ default_names (count - (n + 1)) (n + 1)
-default_next count n more = let less : count - n ≡ suc (count - (n + 1)) = omega arith in ap (λ (k : ℕ). default_names k n) less
-
-pub ruleset name_steps = (common_steps, default_next)
+-- what holds of no items, and with each item and its counterpart of one more
+matched : {A B : Type 0} (R : A → B → Type 0) (S : List A → List B → Type 0) (xs : List A) (ys : List B) → AllZip R xs ys → S [] []
+    → ((x : A) (y : B) (us : List A) (vs : List B) → IsIn x xs → R x y → S us vs → S (x ∷ us) (y ∷ vs)) → S xs ys
+matched R S [] [] m none more = none
+matched R S (x ∷ xs) (y ∷ ys) m none more = more x y xs ys (inl refl) m.0 (matched R S xs ys m.1 none (λ u v us vs k. more u v us vs (inr k)))
+matched R S xs ys m none more = absurd m
 
 -- ---- the items of a description: a fact of each, and what they give together
 
@@ -92,15 +59,14 @@ module _ {s : Settings} {l : Lowered} {items : List Item} (g : IsGlue s l items)
   -- each item has a fact that each kind of item has
   pub each_item : (P : Item → Type 0) → ((e : AuxExport) (item : Item) → IsIn e l.aux.exports → IsDeclareItem l e item → P item)
       → ((pair : ImportId × ℕ) (item : Item) → IsIn pair l.wit.implements → IsDefineItem l pair item → P item)
-      → P (frame_start s.stem) → P (frame_end s.stem) → P (loading_item s.stem (has_start l.«module»)) → AllItems P (all_items s.stem (has_start l.«module») g.declares g.defines)
+      → P (frame_start s.stem) → P (frame_end s.stem) → P (loading_item s.stem (has_start l.«module»))
+      → AllItems P (all_items s.stem (has_start l.«module») g.declares g.defines)
   each_item P a b start end loading =
-      all_joined P g.declares (frame_start s.stem ∷ (g.defines ++ last))
-      (matched (IsDeclareItem l) (λ es. AllItems P) g.exports g.declares g.declared tt (λ e item es js k x h. (a e item (arranged_from g.by_name e k) x, h))) (
-        start,
-        all_joined P g.defines last
-            (matched (IsDefineItem l) (λ ps. AllItems P) g.pairs g.defines g.defined tt (λ pair item ps js k x h. (b pair item (arranged_from g.by_import pair k) x, h)))
-            (end, (loading, tt)),
-      )
+      let declares = matched (IsDeclareItem l) (λ es. AllItems P) g.exports g.declares g.declared tt
+      (λ e item es js k x h. (a e item (arranged_from g.by_name e k) x, h)) in
+      let defines = matched (IsDefineItem l) (λ ps. AllItems P) g.pairs g.defines g.defined tt
+      (λ pair item ps js k x h. (b pair item (arranged_from g.by_import pair k) x, h)) in
+      all_joined P g.declares (frame_start s.stem ∷ (g.defines ++ last)) declares (start, all_joined P g.defines last defines (end, (loading, tt)))
 
   -- what the items give is what exports, imports and the fixed items do
   pub given : {B : Type 0} (give : Item → List B) (f : AuxExport → List B) (h : ImportId × ℕ → List B)

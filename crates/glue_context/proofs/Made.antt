@@ -1,14 +1,14 @@
 -- What is made of a description that is checked: linked, defined and published.
-use Rattle.glue_context.proofs.Common.{◌≡◌, ℕ, zero, suc, ◌==◌, inl, inr, List, [], ◌∷◌, ◌++◌, map, Bool, true, false, None, refl, sym, ap, ◌∙◌, subst, arith, append-nil, codes, flat_map, flat_map_single, bytes_eq, bytes_eq-Decides, IsPermutation-map, IsPermutation-sym, IsIn, IsAway, AreDistinct, AreAmong, AreApart, in_left, in_right, distinct_both, ImportId, Item, AuxImport, HOSTS, TARGET_NAMES, bound_in, bound_names, Belongs, AuxExport, Settings, Lowered, host_names, fixed_names, fixed_public, helper_names, import_names, live_count, global_names, is_one_of, described_hosts, names_of, js_import, IsGlue, all_items, rewritten, IsLinked, IsDefined, defined_by, defined_places, IsPublished, published_pairs, published_by, fixed_published, fixed_by, EachItem, IsExported, IsPrescribed, export_names, FileFlags, unbuilt, verdict, IsBuiltExport}
-use Rattle.std.proofs.lemmas.{Bool.Decides.Decides-eqb, Fmt.decimal_digit}
-use Rattle.glue_targets.specs.PublicTree.{PublicPair, public_tree, function_pair, fronts}
+use Rattle.glue_context.proofs.Common.{◌≡◌, ℕ, zero, suc, ◌==◌, inl, inr, List, [], ◌∷◌, ◌++◌, map, Bool, true, false, None, refl, sym, ap, ◌∙◌, subst, arith, append-nil, codes, flat_map, flat_map_single, bytes_eq, bytes_eq-Decides, IsPermutation-map, IsPermutation-sym, IsIn, IsAway, AreDistinct, AreAmong, AreApart, in_left, in_right, distinct_both, ImportId, Item, AuxImport, HOSTS, TARGET_NAMES, bound_in, bound_names, Belongs, AuxExport, Settings, Lowered, host_names, fixed_names, fixed_public, helper_names, import_names, live_count, global_names, is_one_of, list_all, described_hosts, names_of, js_import, IsGlue, all_items, rewritten, IsLinked, IsDefined, defined_by, defined_places, IsPublished, published_pairs, published_by, fixed_published, fixed_by, EachItem, IsExported, IsPrescribed, export_names, FileFlags, unbuilt, verdict, IsBuiltExport, Some, global_of}
+use Rattle.std.proofs.lemmas.{List.Elements.All-map, Bool.Decides.Decides-eqb, Fmt.decimal_digit, List.Folds.flat_map-map}
+use Rattle.glue_targets.specs.PublicTree.{PublicPair, public_tree, function_pair}
 use Rattle.glue_words.specs.declared.item.Thing.TheVariants.{Adapter}
-use Rattle.glue_words.proofs.{Among.among_itself, Among.among_right, Among.among_trans, Among.apart_both, Among.apart_joined, Among.apart_swap, Fitting.linked_by_words, Fitting.belongs_by_facts, Fitting.declared_are}
+use Rattle.glue_words.proofs.{Among.among_in, Among.among_itself, Among.among_right, Among.among_trans, Among.apart_both, Among.apart_by, Among.apart_joined, Among.apart_swap, Fitting.linked_by_words, Fitting.belongs_by_facts, Fitting.declared_are}
 use Rattle.glue_targets.proofs.FixedTexts as fixed
-use Rattle.glue_check.proofs.Globals.{global_named}
+use Rattle.glue_check.proofs.ExportNames.{names_of as public_names}
 use Rattle.glue_context.specs.Edits.{has_start}
 use Rattle.glue_context.specs.Keys.{described_keys}
-use Rattle.glue_context.proofs.{Facts.Facts, Facts.IsGlobal, Facts.names_of as public_names, Facts.places_of, Built.built, Arranged.arranged_from, Arranged.moved_from, Arranged.distinct_moved, Fits.names_with, Fits.declare_belongs, Fits.declare_binds, Fits.declare_publishes, Fits.define_belongs, Fits.define_binds, Fits.define_exported, Lists.all_in, Lists.among_is, Lists.apart_map, Lists.flat_none, Lists.each_any, Lists.each_item, Lists.given, Edited.moved_keeps, Edited.rewritten_exports}
+use Rattle.glue_context.proofs.{Facts.Facts, Facts.places_of, Facts.built, Fits.names_with, Fits.declare_belongs, Fits.declare_binds, Fits.declare_publishes, Fits.define_belongs, Fits.define_binds, Fits.define_exported, Lists.arranged_from, Lists.moved_from, Lists.distinct_moved, Lists.all_are, Lists.each_is, Lists.flat_none, Lists.each_any, Lists.each_item, Lists.given, Edited.moved_keeps, Edited.rewritten_exports}
 
 -- the three facts of items that a built description asks for
 pub record IsSound (s : Settings) (l : Lowered) (items : List Item) : Type 0 where
@@ -29,25 +29,36 @@ pairs_distinct : (es : List AuxExport) → AreDistinct (public_names es) → Are
 pairs_distinct [] h = tt
 pairs_distinct (e ∷ es) h = (λ k. h.0 (pair_named e es k), pairs_distinct es h.1)
 
-no_fronts : (es : List AuxExport) → flat_map (λ (pair : PublicPair). fronts pair.0) (map pair_of es) ≡ []
-no_fronts [] = refl
-no_fronts (e ∷ es) = no_fronts es
-
 -- what the frame and loading declare, in order
 abbrev fixed_bound : List (List ℕ)
 fixed_bound = codes "__wbg_get_imports" ∷ codes "import0" ∷ codes "wasmUrl" ∷ codes "wasmInstantiated" ∷ codes "wasmInstance" ∷ codes "wasm" ∷ []
+
+-- a text that is found is one of them
+among_is : (name : List ℕ) (names : List (List ℕ)) → is_one_of names name ≡ true → IsIn name names
+among_is name [] h = cc
+among_is name (other ∷ names) h = let rest = among_is name names in let same = bytes_eq-Decides other name in grind arith
+
+all_found : (names xs : List (List ℕ)) → list_all (is_one_of names) xs ≡ true → AreAmong xs names
+all_found names [] h = tt
+all_found names (x ∷ xs) h = let rest = all_found names xs in let here = among_is x names in grind arith
 
 fixed_apart : AreDistinct fixed_bound × AreApart fixed_bound (map (λ w. w.now) HOSTS)
 fixed_apart = grind arith
 
 -- loading uses what is declared there
 loading_within : (starts : Bool) → AreAmong (fixed.loading_uses starts) fixed_bound
-loading_within true = grind arith
-loading_within false = grind arith
+loading_within starts = grind arith
 
 import0_in : (n : ℕ) → IsIn (codes "import0") (import_names n)
 import0_in zero = inl (ap (λ ds. codes "import" ++ ds) (sym (decimal_digit 0 (omega arith))))
 import0_in (suc n) = inr (import0_in n)
+
+-- what described globals bring is away from names that they are away from
+described_apart : (ys : List (List ℕ)) (entries : List (ℕ × AuxImport))
+    → ((e : ℕ × AuxImport) → IsIn e entries → (name : List ℕ) × (global_of e.1 ≡ Some name) × IsAway name ys)
+    → AreApart (flat_map (described_hosts false) (flat_map (λ (e : ℕ × AuxImport). names_of (js_import e.1)) entries)) ys
+described_apart ys [] h = tt
+described_apart ys (e ∷ entries) h = let rest = described_apart ys entries (λ x k. h x (inr k)) in let here = h e (inl refl) in grind arith
 
 module _ (s : Settings) (l : Lowered) (items : List Item) (b : Facts s l) (g : IsGlue s l items) where
   abbrev all : List Item
@@ -64,16 +75,8 @@ module _ (s : Settings) (l : Lowered) (items : List Item) (b : Facts s l) (g : I
       let names = codes "import0" ∷ fixed_names s l.«module» in
       let numbered = in_right (codes "import0") (map (λ w. w.now) TARGET_NAMES) _ (in_right (codes "import0") (helper_names l.«module») _
       (in_left (codes "import0") _ (global_names s.target) (import0_in (live_count l.«module».imports)))) in
-      elim (among_is name names (all_in (is_one_of names) fixed_bound refl name k))
+      elim (among_in name fixed_bound names (all_found names fixed_bound refl) k)
       [ inl same ↦ away (subst (λ (n : List ℕ). IsIn n (fixed_names s l.«module»)) (sym same) numbered) | inr there ↦ away there ]
-
-  -- nor is what described globals bring
-  described_apart : (entries : List (ℕ × AuxImport)) → ((e : ℕ × AuxImport) → IsIn e entries → IsGlobal s l e.1)
-      → AreApart (flat_map (described_hosts false) (flat_map (λ (e : ℕ × AuxImport). names_of (js_import e.1)) entries)) fixed_bound
-  described_apart [] h = tt
-  described_apart (e ∷ entries) h =
-      let g = h e (inl refl) in
-      rw (global_named e.1 g.name g.is) (apart_both (g.name ∷ []) _ fixed_bound (no_bound g.name g.apart, tt) (described_apart entries (λ x k. h x (inr k))))
 
   hosts_are : host_names s l.aux
       ≡ map (λ w. w.now) HOSTS ++ flat_map (described_hosts false) (flat_map (λ (e : ℕ × AuxImport). names_of (js_import e.1)) l.aux.imports)
@@ -91,9 +94,11 @@ module _ (s : Settings) (l : Lowered) (items : List Item) (b : Facts s l) (g : I
       let there = among_right fixed_bound names fixed_bound (among_itself fixed_bound) in
       let known : AreAmong (codes "URL" ∷ codes "WebAssembly" ∷ codes "fetch" ∷ []) c.hosts = rw hosts_are (grind arith) in
       let public : (ys : List (List ℕ)) → ((e : AuxExport) → IsBuiltExport s l e → IsAway e.name ys) → AreApart names ys =
-      λ ys away. apart_map (λ (e : AuxExport). e.name) g.exports ys (λ e k. away e (b.exports e (arranged_from g.by_name e k))) in
+      λ ys away. apart_by names ys (each_is (λ y. IsAway y ys) names (All-map (λ y. IsAway y ys) (λ (e : AuxExport). e.name) g.exports
+      (all_are (λ (e : AuxExport). IsAway e.name ys) g.exports (λ e k. away e (b.exports e (arranged_from g.by_name e k)))))) in
+      let globals = described_apart fixed_bound l.aux.imports (λ e k. let g = b.globals e k in (g.0, g.1, no_bound g.0 g.2)) in
       let outside : AreApart fixed_bound c.hosts =
-      rw hosts_are (apart_joined fixed_bound (map (λ w. w.now) HOSTS) _ fixed_apart.1 (apart_swap _ fixed_bound (described_apart l.aux.imports b.globals))) in
+      rw hosts_are (apart_joined fixed_bound (map (λ w. w.now) HOSTS) _ fixed_apart.1 (apart_swap _ fixed_bound globals)) in
       let k = linked_by_words c all (sym bound)
       (each_item g (λ item. Belongs c item.words)
       (λ e item k x. declare_belongs s l e item x c.declared there.1.1.1.1.1.0 (b.exports e k) (b.export_steps e k))
@@ -125,7 +130,7 @@ module _ (s : Settings) (l : Lowered) (items : List Item) (b : Facts s l) (g : I
             (λ e item h x before after. rw x.is (record
             { «export» = e; described = h; of = refl; function = x.function; of_adapter = x.of_adapter; words = refl }))
             (λ pair item h x before after. let k = moved_keeps s l pair.0.0 x.«import» x.stands in rw x.is (record
-            { adapter = pair.1; pair = h; function = x.function; of_adapter = x.of_adapter; «import» = k.«import»; stands = k.stands; words = rw k.same }))
+            { adapter = pair.1; pair = h; function = x.function; of_adapter = x.of_adapter; «import» = k.0; stands = k.1; words = rw k.2 }))
             (λ before after. tt) (λ before after. tt) (λ before after. tt));
       }
 
@@ -137,7 +142,7 @@ module _ (s : Settings) (l : Lowered) (items : List Item) (b : Facts s l) (g : I
   published : IsPublished s l.aux (fixed_public s l.«module» l.wit l.aux) all
   published =
       let tree : public_tree s l.aux ≡ map pair_of l.aux.exports =
-      rw (b.structs, b.enums, b.reexports, b.no_reset, functions l.aux.exports b.exports) (simp (append-nil, no_fronts)) in
+      rw (b.structs, b.enums, b.reexports, b.no_reset, functions l.aux.exports b.exports) (simp (append-nil, flat_map-map, flat_none)) in
       let pairs : published_pairs all ≡ map pair_of g.exports =
       given g published_by (λ e. pair_of e ∷ []) (λ pair. []) (declare_publishes s l) (λ pair item k x. rw x.is)
       ∙ simp (flat_none, flat_map_single, append-nil) in

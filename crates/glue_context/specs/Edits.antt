@@ -1,5 +1,5 @@
 -- What is changed in the collected module, as one value, and the module with it.
-use Rattle.std.specs.Prelude.{ℕ, Bool, true, false, is_some, List, [], ◌∷◌, length, fold, All, Option, Some, None, option_and_then, IsSomeAnd}
+use Rattle.std.specs.Prelude.{ℕ, Bool, true, false, List, [], ◌∷◌, length, fold, All, Option, Some, None, IsSomeAnd}
 use Rattle.wasm_core.specs.ids.ImportId.{ImportId}
 use Rattle.wasm_core.specs.ids.FuncId.{FuncId}
 use Rattle.wasm_core.specs.ids.GlobalId.{GlobalId}
@@ -11,7 +11,7 @@ use Rattle.wasm_core.specs.entries.ExportItem.{ExportItem}
 use Rattle.wasm_core.specs.entries.ExportItem.TheVariants as items
 use Rattle.wasm_core.specs.Contents.{Contents, IsLive}
 use Rattle.wasm_core.specs.Edits.{with_import, with_export, with_func, without_start, IsLiveItem}
-use Rattle.glue_steps.specs.Resolving.{entry_at}
+pub use Rattle.glue_check.specs.Naming.{has_start}
 use Rattle.glue_context.specs.declared.edits.Edits.{Edits}
 use Rattle.glue_context.specs.declared.edits.TheConstants.{SHIM, START}
 
@@ -38,10 +38,6 @@ shim_body g = record {
 abbrev pub with_shim : Option GlobalId → Contents → Contents
 with_shim None m = m
 with_shim (Some g) m = with_export SHIM.now (items.Func (record { 0 = length m.funcs })) (with_func shim_type SHIM.now (shim_body g.0) m)
-
--- the module has a start function, and it stands
-abbrev pub has_start : Contents → Bool
-has_start m = is_some (option_and_then (λ (f : FuncId). entry_at m.funcs f.0) m.start)
 
 -- no start function, and the one that stood is exported
 abbrev pub with_start_exported : Option FuncId → Contents → Contents

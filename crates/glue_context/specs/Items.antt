@@ -1,10 +1,8 @@
 -- The items of the glue file: what the description declares, the frame with the definitions of imports, and loading.
-use Rattle.std.specs.Prelude.{◌≡◌, ℕ, zero, suc, ◌+◌, Bool, false, ◌&&◌, is_some, List, [], ◌∷◌, ◌++◌, length, codes, Option, Some, None}
-use Rattle.std.specs.List.{flat_map}
+use Rattle.std.specs.Prelude.{◌≡◌, ℕ, zero, suc, ◌+◌, Bool, ◌&&◌, is_some, List, [], ◌∷◌, ◌++◌, length, codes, Option, Some, None}
+use Rattle.std.specs.List.{AllZip, flat_map}
 use Rattle.std.specs.Fmt.{decimal}
-use Rattle.std.specs.Ordering.{nat_cmp, ordering_then, is_lt}
-use Rattle.std.specs.Cmp.Lexicographic.{slice_cmp}
-use Rattle.std.specs.List.Sorted.{IsPermutation}
+use Rattle.std.specs.Ordering.{nat_cmp, ordering_then}
 use Rattle.std.specs.declared.cmp.Ordering.{Ordering}
 use Rattle.values.specs.Map.{look_up}
 use Rattle.wasm_core.specs.ids.ImportId.{ImportId}
@@ -26,14 +24,8 @@ use Rattle.glue_words.specs.Words.{space, line_feed}
 use Rattle.glue_words.specs.declared.punct.TheConstants as punct
 use Rattle.glue_words.specs.declared.key.TheConstants as key
 use Rattle.glue_targets.specs.Targets.{frame_start, frame_end, loading_item}
+pub use Rattle.glue_naming.specs.Arranged.{IsArranged, text_order}
 use Rattle.glue_context.specs.Edits.{has_start}
-
--- each of the first list has its counterpart at the same place of the second
-abbrev pub Matches : {A B : Type 0} → (A → B → Type 0) → List A → List B → Type 0
-Matches R [] [] = Unit {0}
-Matches R [] (y ∷ ys) = ⊥
-Matches R (x ∷ xs) [] = ⊥
-Matches R (x ∷ xs) (y ∷ ys) = R x y × Matches R xs ys
 
 -- `export function name`, and what stands behind the function
 abbrev pub declaration_front : List ℕ → List Word
@@ -109,21 +101,6 @@ is_definable l pair = is_some (entry_at l.«module».imports pair.0.0) && is_som
 
 -- ---- the order in which they stand
 
--- no item comes before the one in front of it
-abbrev pub Rises : {A : Type 0} → (A → A → Ordering) → List A → Type 0
-Rises order [] = Unit {0}
-Rises order (x ∷ []) = Unit {0}
-Rises order (x ∷ y ∷ xs) = (is_lt (order y x) ≡ false) × Rises order (y ∷ xs)
-
--- the same items, each as often, in this order
-pub record IsArranged {A : Type 0} (order : A → A → Ordering) (xs arranged : List A) : Type 0 where
-  pub same : IsPermutation xs arranged
-  pub rises : Rises order arranged
-
--- texts by their bytes
-abbrev pub text_order : List ℕ → List ℕ → Ordering
-text_order = slice_cmp nat_cmp
-
 -- exports by name
 abbrev pub export_order : AuxExport → AuxExport → Ordering
 export_order a b = text_order a.name b.name
@@ -159,6 +136,6 @@ pub record IsGlue (settings : Settings) (l : Lowered) (items : List Item) : Type
   pub by_import : IsArranged (pair_order l) l.wit.implements pairs
   pub declares : List Item
   pub defines : List Item
-  pub declared : Matches (IsDeclareItem l) exports declares
-  pub defined : Matches (IsDefineItem l) pairs defines
+  pub declared : AllZip (IsDeclareItem l) exports declares
+  pub defined : AllZip (IsDefineItem l) pairs defines
   pub all : items ≡ all_items settings.stem (has_start l.«module») declares defines

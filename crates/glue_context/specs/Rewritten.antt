@@ -1,5 +1,5 @@
 -- The module that is written: what is changed in the collected one is told by settings and description.
-use Rattle.std.specs.Prelude.{ℕ, List, [], ◌++◌, codes, Option, None, option_map, filter_map}
+use Rattle.std.specs.Prelude.{ℕ, List, [], Option, None, option_map, filter_map}
 use Rattle.wasm_core.specs.ids.ImportId.{ImportId}
 use Rattle.wasm_core.specs.Contents.{Contents}
 use Rattle.wasm_core.specs.declared.types.Import.{Import}
@@ -7,12 +7,9 @@ use Rattle.glue_shared.specs.declared.settings.Settings.{Settings}
 use Rattle.glue_shared.specs.declared.description.Lowered.{Lowered}
 use Rattle.glue_shared.specs.Names.{own_imports}
 use Rattle.glue_steps.specs.Resolving.{entry_at}
+pub use Rattle.glue_check.specs.Modules.{glue_module}
 use Rattle.glue_context.specs.declared.edits.Edits.{Edits}
 use Rattle.glue_context.specs.Edits.{has_start, edited}
-
--- the module that own imports move to
-abbrev pub glue_module : List ℕ → List ℕ
-glue_module stem = codes "./" ++ (stem ++ codes "_bg.js")
 
 -- an import that stands comes from the glue file's module, under its name
 abbrev pub move_of : List ℕ → List (Option Import) → ℕ → Option (ImportId × List ℕ × List ℕ)

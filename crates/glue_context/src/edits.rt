@@ -4,8 +4,9 @@ ghost use Rattle.wasm_core.specs.declared.types.Import as declared;
 ghost use Rattle.glue_shared.specs.Names.{own_imports};
 ghost use Rattle.glue_steps.specs.Resolving.{entry_at};
 ghost use Rattle.glue_context.specs.Edits as spec;
-ghost use Rattle.glue_context.specs.Rewritten.{glue_module, move_of, edits_of};
+ghost use Rattle.glue_context.specs.Rewritten.{move_of, edits_of};
 
+use glue_check::{glue_module_name, has_start};
 use glue_shared::{Lowered, Settings};
 use std::alloc::{AllocError, Global};
 use values::{Duplicate, Seq, Text};
@@ -37,16 +38,6 @@ pub struct Edits {
     pub shim: Option<GlobalId>,
     /// Whether the start function becomes the export `START`.
     pub start: bool,
-}
-
-// The name of the module that own imports move to.
-fn glue_module_name(alloc: Global, stem: &str) -> Result<Text, AllocError>
-    ensures name { IfOk result (λ name. name ≡ glue_module stem.now) }
-{
-    let mut name = Text::from_str(alloc, "./")?;
-    name.push_str(stem)?;
-    name.push_str("_bg.js")?;
-    Ok(name)
 }
 
 // The name of the import at a place, where one stands there.
@@ -104,16 +95,6 @@ fn move_imports(
         push_move(alloc, stem, module, *place, &mut moves)?;
     }
     Ok(moves)
-}
-
-/// Whether the module has a start function, and it stands.
-pub(crate) fn has_start(module: &Module) -> bool
-    ensures test { result ≡ spec.has_start «module».now }
-{
-    match module.start() {
-        Some(start) => matches!(module.funcs().get(start.0 as usize), Some(Some(_))),
-        None => false,
-    }
 }
 
 /// What settings and a description ask to be changed in the collected module. Want of memory is the only error.

@@ -1,14 +1,16 @@
 //! The items of the glue file, group by group: what the description declares, the frame with the definitions of imports, and loading.
 ghost use Rattle.std.specs.Prelude.{◌≡◌, ◌++◌, ◌∷◌, [], ◌+◌, length, codes, map, IfOk, OnOk, Some, None, is_some, true};
 ghost use Rattle.std.specs.Fmt.{decimal};
-ghost use Rattle.std.specs.List.{list_all};
+ghost use Rattle.std.specs.List.{AllZip, list_all};
 ghost use Rattle.glue_steps.specs.Resolving as resolving;
+ghost use Rattle.glue_naming.specs.Naming as naming;
 ghost use Rattle.glue_context.specs.Items as spec;
 
-use crate::edits::has_start;
 use glue_binding::bind;
+use glue_check::has_start;
+use glue_naming::function_name;
 use glue_scope::Names;
-use glue_shared::{AdapterId, AuxExport, Lowered, Settings};
+use glue_shared::{AdapterId, AuxExport, Lowered, NameMap, Settings};
 use glue_steps::{Indexed, Step, adapter_steps};
 use glue_targets::{frame_end, frame_start, loading_item};
 use glue_tree::JsFunction;
@@ -131,17 +133,36 @@ fn words_of(function: JsFunction) -> Seq<Word>
     function.words
 }
 
-// The item of an export.
+// The name that an export was given, where it is its own.
+#[tactic(auto, using(glue_naming::proofs::Own::own_found, glue_naming::proofs::Own::own_named))]
+fn declared_name<'a>(
+    alloc: Global,
+    names: &'a NameMap,
+    export: &AuxExport,
+) -> Result<&'a Text, AllocError>
+    requires named { naming.is_own_name names.now export.now ≡ true }
+    ensures name { IfOk result (λ name. name.now ≡ export.now.name) }
+{
+    match function_name(alloc, names, export)? {
+        Some(name) => Ok(name),
+        None => unreachable!(),
+    }
+}
+
+// The item of an export, under the name that it was given.
 fn declare_export<N: Names>(
     alloc: Global,
     indexed: &Indexed<'_>,
+    names: &NameMap,
     export: &AuxExport,
 ) -> Result<Item, AllocError>
     requires bindable { spec.is_bindable indexed.now export.now ≡ true }
+    requires named { naming.is_own_name names.now export.now ≡ true }
     ensures item { IfOk result (λ item. spec.IsDeclareItem indexed.now export.now item) }
 {
     let function = adapter_function::<N>(alloc, indexed, export.adapter, &export.args)?;
-    let item = declare_function(alloc, export.adapter, &export.name, words_of(function))?;
+    let name = declared_name(alloc, names, export)?;
+    let item = declare_function(alloc, export.adapter, name, words_of(function))?;
     Ok(item)
 }
 
@@ -230,14 +251,16 @@ fn pairs_by_import(
 fn declare_exports<N: Names>(
     alloc: Global,
     indexed: &Indexed<'_>,
+    names: &NameMap,
     exports: &[&AuxExport],
 ) -> Result<Seq<Item>, AllocError>
     requires bindable { list_all (spec.is_bindable indexed.now) (map (λ e. e.now) exports.now) ≡ true }
-    ensures items { IfOk result (λ items. spec.Matches (spec.IsDeclareItem indexed.now) (map (λ e. e.now) exports.now) items) }
+    requires named { list_all (naming.is_own_name names.now) (map (λ e. e.now) exports.now) ≡ true }
+    ensures items { IfOk result (λ items. AllZip (spec.IsDeclareItem indexed.now) (map (λ e. e.now) exports.now) items) }
 {
     let mut items = Seq::new(alloc);
     for export in exports {
-        items.push(declare_export::<N>(alloc, indexed, export)?)?;
+        items.push(declare_export::<N>(alloc, indexed, names, export)?)?;
     }
     Ok(items)
 }
@@ -250,7 +273,7 @@ fn define_imports<N: Names>(
     pairs: &[(ImportId, AdapterId)],
 ) -> Result<Seq<Item>, AllocError>
     requires definable { list_all (spec.is_definable indexed.now) pairs.now ≡ true }
-    ensures items { IfOk result (λ items. spec.Matches (spec.IsDefineItem indexed.now) pairs.now items) }
+    ensures items { IfOk result (λ items. AllZip (spec.IsDefineItem indexed.now) pairs.now items) }
 {
     let mut items = Seq::new(alloc);
     for pair in pairs {
@@ -277,21 +300,23 @@ fn put_together(
     Ok(items)
 }
 
-/// The items that settings and a description ask for, where the check has found steps for each adapter that becomes a function.
-/// Want of memory is the only error.
+/// The items that settings and a description ask for, where the check has found steps for each adapter that becomes a function, and
+/// each export was given its own name. Want of memory is the only error.
 pub fn glue_items<N: Names>(
     alloc: Global,
     settings: &Settings,
     lowered: &Lowered,
+    names: &NameMap,
 ) -> Result<Seq<Item>, AllocError>
     requires bindable { list_all (spec.is_bindable lowered.now) lowered.now.aux.exports ≡ true }
     requires definable { list_all (spec.is_definable lowered.now) lowered.now.wit.implements ≡ true }
+    requires named { list_all (naming.is_own_name names.now) lowered.now.aux.exports ≡ true }
     ensures items { IfOk result (λ items. spec.IsGlue settings.now lowered.now items) }
 {
     let exports = exports_by_name(alloc, lowered.aux.exports.as_slice())?;
     let pairs = pairs_by_import(alloc, lowered)?;
     let indexed = Indexed::new(alloc, lowered)?;
-    let declares = declare_exports::<N>(alloc, &indexed, exports.as_slice())?;
+    let declares = declare_exports::<N>(alloc, &indexed, names, exports.as_slice())?;
     let start = frame_start(alloc, settings)?;
     let defines = define_imports::<N>(alloc, &indexed, pairs.as_slice())?;
     let end = frame_end(alloc, settings)?;

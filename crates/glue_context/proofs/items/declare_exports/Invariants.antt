@@ -1,8 +1,5 @@
-use Rattle.glue_context.proofs.Common.{◌≡◌, ℕ, ◌<◌, get_or, length, Bor, AuxExport, Item, IsDeclareItem}
+use Rattle.glue_context.proofs.Common.{take, map, AllZip, Bor, AuxExport, IsDeclareItem}
 use Rattle.glue_context.proofs.items.declare_exports.Given as goal
 
 abbrev pub invariant-loop-export : goal.invariant-loop-export
-invariant-loop-export g l = record {
-  long : length l.items ≡ l.export-index;
-  each : (k : ℕ) (d : Bor AuxExport) (e : Item) → k < l.export-index → IsDeclareItem l.indexed (get_or l.exports k d).now (get_or l.items k e);
-}
+invariant-loop-export g l = AllZip (IsDeclareItem l.indexed) (map (λ (e : Bor AuxExport). e.now) (take l.export-index l.exports)) l.items

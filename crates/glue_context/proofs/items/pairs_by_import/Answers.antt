@@ -1,15 +1,13 @@
 use Rattle.glue_context.proofs.Common.{rules, ℕ, ImportId, IsPermutation, pair_name, pair_order}
 use Rattle.std.proofs.lemmas.Cmp.{nat_list_cmp_total, nat_cmp_total, on_total, then_total}
 use Rattle.std.proofs.lemmas.List.{map-id}
-use Rattle.glue_context.proofs.Arranged.{arranged_by_sort}
+use Rattle.glue_context.proofs.Lists.{arranged_by_sort}
 use Rattle.glue_context.proofs.items.pairs_by_import.Goals as goal
 
 pub returns : goal.returns
 returns c =
     let l = c.args.lowered.now in
     let moved : IsPermutation l.wit.implements c.sort_by.new.self.items = search rules in
-    record {
-      sorted = simp map-id at (arranged_by_sort (λ (p : ImportId × ℕ). p) (pair_order l)
-          (then_total (on_total (pair_name l) nat_list_cmp_total) (on_total (λ (p : ImportId × ℕ). p.1) nat_cmp_total))
-          l.wit.implements c.sort_by.new.self.items moved c.in_ok-sort_by.ensures.sorted (λ a r q k. search rules));
-    }
+    let total = then_total (on_total (pair_name l) nat_list_cmp_total) (on_total (λ (p : ImportId × ℕ). p.1) nat_cmp_total) in
+    let sorted = arranged_by_sort (λ (p : ImportId × ℕ). p) (pair_order l) total _ _ moved c.in_ok-sort_by.ensures.sorted (λ a r q k. search rules) in
+    record { sorted = simp map-id at sorted }

@@ -1,0 +1,5 @@
+pub mod Arranged
+mod Draws
+mod Kept
+pub mod Own
+mod Reserved

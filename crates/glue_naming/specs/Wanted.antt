@@ -1,0 +1,54 @@
+-- The names that a description asks for, in the order in which they are drawn.
+use Rattle.std.specs.Prelude.{◌≡◌, ℕ, List, [], ◌∷◌, ◌++◌, map, codes, if◌then◌else◌}
+use Rattle.std.specs.List.{flat_map}
+use Rattle.std.specs.Ordering.{nat_cmp, ordering_then}
+use Rattle.std.specs.declared.cmp.Ordering.{Ordering}
+use Rattle.glue_shared.specs.declared.aux.AuxEnum.{AuxEnum}
+use Rattle.glue_shared.specs.declared.aux.AuxExport.{AuxExport}
+use Rattle.glue_shared.specs.declared.aux.AuxStruct.{AuxStruct}
+use Rattle.glue_shared.specs.declared.aux.WasmBindgenAux.{WasmBindgenAux}
+use Rattle.glue_shared.specs.Paths.{qualified_name}
+use Rattle.glue_check.specs.Publishing.{qualified}
+use Rattle.glue_check.specs.Unbuilt.{is_function_kind}
+use Rattle.glue_naming.specs.declared.named.Named.TheVariants.{Class, Registry, Enum, Function}
+use Rattle.glue_naming.specs.declared.named.WantedName.TheVariants.{Plain, After}
+use Rattle.glue_naming.specs.declared.named.Wanted.{Wanted}
+use Rattle.glue_naming.specs.Arranged.{IsArranged, text_order}
+
+-- the qualified name of a class, and of an enum
+abbrev pub class_key : AuxStruct → List ℕ
+class_key s = qualified_name s.namespace s.name
+
+abbrev pub enum_key : AuxEnum → List ℕ
+enum_key e = qualified_name e.namespace e.name
+
+-- a class, and at once its registry: the name that was drawn for the class, followed by `Finalization`
+abbrev pub class_names : AuxStruct → List Wanted
+class_names s =
+    record { thing = Class (class_key s); name = Plain (class_key s) }
+    ∷ record { thing = Registry (class_key s); name = After (codes "Finalization") }
+    ∷ []
+
+-- an enum of this qualified name
+abbrev pub enum_name : List ℕ → Wanted
+enum_name key = record { thing = Enum key; name = Plain key }
+
+-- a function of this qualified name
+abbrev pub function_wanted : List ℕ → Wanted
+function_wanted key = record { thing = Function key; name = Plain key }
+
+-- an export, where it stands by itself
+abbrev pub function_names : AuxExport → List Wanted
+function_names e = if is_function_kind e.kind then function_wanted (qualified e) ∷ [] else []
+
+-- exports by debug name, and then by the adapter's id
+abbrev pub debug_order : AuxExport → AuxExport → Ordering
+debug_order a b = ordering_then (text_order a.debug b.debug) (nat_cmp a.adapter b.adapter)
+
+-- classes as they are described, each with its registry, enums by qualified name, and functions by debug name and then by id
+pub record AreWanted (aux : WasmBindgenAux) (list : List Wanted) : Type 0 where
+  pub enums : List (List ℕ)
+  pub by_name : IsArranged text_order (map enum_key aux.enums) enums
+  pub functions : List AuxExport
+  pub by_debug : IsArranged debug_order aux.exports functions
+  pub all : list ≡ flat_map class_names aux.structs ++ (map enum_name enums ++ flat_map function_names functions)

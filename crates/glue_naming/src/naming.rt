@@ -1,0 +1,48 @@
+//! The names of what a description declares.
+ghost use Rattle.std.specs.Prelude.{◌≡◌, IfOk, Some};
+ghost use Rattle.std.specs.Option.{option_copied};
+ghost use Rattle.values.specs.Lists.{IsIn};
+ghost use Rattle.glue_naming.specs.Naming as spec;
+
+use crate::asked::wanted;
+use crate::drawing::name_all;
+use crate::given::reserved_scope;
+use crate::named::{Named, name_in};
+use glue_check::{Checked, qualified};
+use glue_scope::Names;
+use glue_shared::{AuxExport, Lowered, NameMap, Settings};
+use std::alloc::{AllocError, Global};
+use values::Text;
+
+/// The names that are drawn for what is described. Want of memory is the only error.
+pub fn names_of<N: Names>(
+    alloc: Global,
+    settings: &Settings,
+    lowered: &Lowered,
+) -> Result<NameMap, AllocError>
+    ensures names { IfOk result (λ map. spec.AreNames settings.now lowered.now map) }
+{
+    let list = wanted(alloc, &lowered.aux)?;
+    let scope: N = reserved_scope(alloc, settings, lowered)?;
+    name_all(alloc, scope, list.as_slice())
+}
+
+/// The names of what a checked description declares. Want of memory is the only error.
+pub fn draw_names<N: Names>(alloc: Global, checked: &Checked) -> Result<NameMap, AllocError>
+    ensures names { IfOk result (λ map. spec.AreNames checked.now.settings checked.now.lowered map) }
+    ensures own { IfOk result (λ map. (e : AuxExport) → IsIn e checked.now.lowered.aux.exports → spec.function_name map e ≡ Some e.name) }
+{
+    names_of::<N>(alloc, checked.settings(), checked.lowered())
+}
+
+/// The name that the function of an export was given. Want of memory is the only error.
+pub fn function_name<'a>(
+    alloc: Global,
+    map: &'a NameMap,
+    export: &AuxExport,
+) -> Result<Option<&'a Text>, AllocError>
+    ensures name { IfOk result (λ name. option_copied name ≡ spec.function_name map.now export.now) }
+{
+    let thing = Named::Function(qualified(alloc, export)?);
+    Ok(name_in(map, &thing))
+}
