@@ -1,5 +1,5 @@
 -- What a call answers, step by step.
-use Rattle.std.proofs.Common.{◌≡◌, ◌≢◌, ◌⊎◌, inl, inr, Bool, List, true≢false, refl, sym, ap, subst, ◌∙◌}
+use Rattle.std.proofs.Common.{◌≡◌, ◌≢◌, ◌⊎◌, inl, inr, ℕ, Bool, List, true≢false, refl, sym, ap, subst, ◌∙◌}
 use Rattle.std.specs.Prelude.{true, false, not, ◌&&◌, codes, Option, Some, None, Result, Ok, Err, IfSome, IfErr, IsErrAnd}
 use Rattle.wasm_core.specs.Contents.{Contents}
 use Rattle.wasm_core.specs.Edits.{without_custom}
@@ -25,6 +25,7 @@ use Rattle.glue_prepare.specs.declared.prepared.Prepared.{Prepared}
 use Rattle.glue_prepare.specs.Prepared.{prepared, finished, marker, with_marked_target, with_features, target_tests, refuse_where, is_web, can_reset, has_export, ◌>>◌}
 use Rattle.cli_support.specs.Configured.{Configured, call_settings, file_flags}
 use Rattle.cli_support.specs.declared.bindgen.Flags.{Flags}
+use Rattle.cli_support.specs.Listed.{IsSortedSet}
 use Rattle.cli_support.specs.Generating.{Told, pure, refuse, ready, lowered, unless, answer_of, checked, taken, ◌>>=◌, check_fault, Described, described_by, Made, IsMadeOf, IsLate, Answers, CallAnswers, collected_description}
 
 -- ---- what is made
@@ -34,15 +35,18 @@ no_fault : (checked : Checked) → check_fault checked.files checked.settings ch
 no_fault checked = rw (checked.built, checked.passed) refl
 
 -- the output of items and of the module that goes with them
-made_of : (checked : Checked) (s : Settings) (items : List Item) (written : Contents) (missing : Bool) (o : Made) → checked.settings ≡ s → IsGlue checked.settings checked.lowered items
-    → written ≡ rewritten checked.settings checked.lowered → o ≡ record { settings = s; items = items; js = printed items; «module» = written; features_missing = missing }
+made_of : (checked : Checked) (s : Settings) (hosts keys : List (List ℕ)) (items : List Item) (written : Contents) (missing : Bool) (o : Made) → checked.settings ≡ s
+    → IsSortedSet (host_names checked.settings checked.lowered.aux) hosts → IsSortedSet (described_keys checked.lowered.aux) keys → IsGlue checked.settings checked.lowered items
+    → written ≡ rewritten checked.settings checked.lowered → o ≡ record { settings = s; hosts = hosts; keys = keys; items = items; js = printed items; «module» = written; features_missing = missing }
     → IsMadeOf checked.settings checked.lowered o
-made_of checked s items written missing o of_settings g w is_made =
+made_of checked s hosts keys items written missing o of_settings of_hosts of_keys g w is_made =
     let own = checked.settings in
     let l = checked.lowered in
     let k = sound checked.files own l items checked.built checked.passed g in
     subst (IsMadeOf own l) (sym is_made) (record {
       same_settings = sym of_settings;
+      hosts = of_hosts;
+      keys = of_keys;
       glue = g;
       js = refl;
       «module» = w;
@@ -179,11 +183,12 @@ module _ (told : Settings → Contents → Option (Option Lowered)) (c : Configu
           subst (λ (x : Option Lowered). Answers c (Ok o) (after_lowered p (Some x))) (sym is)
           (subst (λ (f : Option Fault). Answers c (Ok o) (unless f (described_by p l))) (sym none) (record { found = described_by p l; is = refl; made = made; same_features = features }))
 
-      pub output_made : (checked : Checked) (items : List Item) (written : Contents) (o : Made) → checked.files ≡ files → checked.settings ≡ p.settings → checked.lowered ≡ kept
+      pub output_made : (checked : Checked) (hosts keys : List (List ℕ)) (items : List Item) (written : Contents) (o : Made) → checked.files ≡ files → checked.settings ≡ p.settings
+          → checked.lowered ≡ kept → IsSortedSet (host_names checked.settings checked.lowered.aux) hosts → IsSortedSet (described_keys checked.lowered.aux) keys
           → IsGlue checked.settings checked.lowered items → written ≡ rewritten checked.settings checked.lowered
-          → o ≡ record { settings = p.settings; items = items; js = printed items; «module» = written; features_missing = p.features_missing } → CallAnswers told c (Ok o)
-      output_made checked items written o same_files same_settings same_lowered g w is_made =
-          let made = subst (λ (x : Settings). IsMadeOf x checked.lowered o) same_settings (made_of checked p.settings items written p.features_missing o same_settings g w is_made) in
+          → o ≡ record { settings = p.settings; hosts = hosts; keys = keys; items = items; js = printed items; «module» = written; features_missing = p.features_missing } → CallAnswers told c (Ok o)
+      output_made checked hosts keys items written o same_files same_settings same_lowered of_hosts of_keys g w is_made =
+          let made = subst (λ (x : Settings). IsMadeOf x checked.lowered o) same_settings (made_of checked p.settings hosts keys items written p.features_missing o same_settings of_hosts of_keys g w is_made) in
           let none_files = subst (λ (x : FileFlags). check_fault x checked.settings checked.lowered ≡ None) (same_files ∙ of_files) (no_fault checked) in
           let none_settings = subst (λ (x : Settings). check_fault (file_flags c.flags) x checked.lowered ≡ None) same_settings none_files in
           let same = same_lowered ∙ collected in

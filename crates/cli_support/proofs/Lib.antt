@@ -1,5 +1,7 @@
 mod Answered
+mod Listed
+mod Parameters
+mod Released
 mod Rooted
 mod Setters
-mod TextSetters
 pub use Rattle.glue_ends.proofs.Prefixes

@@ -22,6 +22,7 @@ use Rattle.glue_check.specs.FaultKinds.{is_of_check}
 use Rattle.glue_check.specs.Verdict.{unbuilt, verdict}
 use Rattle.glue_prepare.specs.declared.prepared.Prepared.{Prepared}
 use Rattle.glue_prepare.specs.Prepared.{prepared}
+use Rattle.cli_support.specs.Listed.{IsSortedSet}
 use Rattle.cli_support.specs.Configured.{Configured, Input, call_settings, file_flags, reading}
 use Rattle.cli_support.specs.declared.bindgen.Handed.{Handed}
 use Rattle.cli_support.specs.declared.bindgen.Handed.TheVariants as handed
@@ -192,19 +193,24 @@ answer_of told c = do
 
 -- ---- what a call answers
 
--- what is made: the settings that the description was checked for, the items, their text, the module, and whether no section told which
--- features the module uses
+-- what is made: the settings that the description was checked for, the names of the outside, the computed keys, the items, their text, the
+-- module, and whether no section told which features the module uses
 pub record Made : Type 0 where
   pub settings : Settings
+  pub hosts : List (List ℕ)
+  pub keys : List (List ℕ)
   pub items : List Item
   pub js : List ℕ
   pub «module» : Contents
   pub features_missing : Bool
 
--- What a call makes of a description: the items that it asks for, their text, and the module with its own imports moved and its start
--- function exported. The items are linked with that module, define each own import once, and publish exactly the public tree.
+-- What a call makes of a description: the names of the outside (the description's among them) and its computed keys, in order of bytes and each once, the
+-- items that it asks for, their text, and the module with its own imports moved and its start function exported. The items are linked with
+-- that module, define each own import once, and publish exactly the public tree.
 pub record IsMadeOf (settings : Settings) (l : Lowered) (o : Made) : Type 0 where
   pub same_settings : o.settings ≡ settings
+  pub hosts : IsSortedSet (host_names settings l.aux) o.hosts
+  pub keys : IsSortedSet (described_keys l.aux) o.keys
   pub glue : IsGlue settings l o.items
   pub js : o.js ≡ printed o.items
   pub «module» : o.«module» ≡ rewritten settings l

@@ -1,6 +1,7 @@
 pub mod Configured
 pub mod Generating
 pub mod GlobalName
+pub mod Listed
 pub mod Plan
 pub mod Setting
 pub use Rattle.glue_context.specs.Rewritten
@@ -15,3 +16,7 @@ pub use Rattle.glue_faults.specs.declared.fault as fault
 pub use Rattle.glue_faults.specs.Named
 pub use Rattle.glue_prepare.specs.declared.prepared as prepared
 pub use Rattle.glue_prepare.specs.Prepared
+pub use Rattle.wasm_core.specs.Contents
+pub use Rattle.wasm_core.specs.Emission
+pub use Rattle.wasm_core.specs.Parsing
+pub use Rattle.wasm_core.specs.declared.faults as faults

@@ -5,16 +5,22 @@ ghost use Rattle.wasm_core.specs.Parsing as parsing;
 ghost use Rattle.values.specs.Count.{Rose};
 ghost use Rattle.glue_context.specs.Edits.{AreFit, edited};
 ghost use Rattle.glue_context.specs.Items.{IsGlue};
+ghost use Rattle.glue_context.specs.Keys.{described_keys};
 ghost use Rattle.glue_context.specs.Rewritten.{edits_of, rewritten};
+ghost use Rattle.glue_shared.specs.Names.{host_names};
+ghost use Rattle.cli_support.specs.Listed.{IsSortedSet};
 ghost use Rattle.cli_support.specs.Configured.{call_settings, file_flags, reading};
 ghost use Rattle.cli_support.specs.Generating as spec;
 
 use crate::bindgen::{Bindgen, Flags, Handed};
+use crate::hosts::host_set;
+use crate::keys::key_set;
 use crate::output::Output;
 use glue_check::{Checked, FileFlags, check};
 use glue_context::{Edits, apply_edits, edits_of, glue_items};
 use glue_faults::Fault;
 use glue_lower::{LowerFault, Lowering};
+use glue_naming::draw_names;
 use glue_prepare::{Prepared, prepare};
 use glue_scope::IdentScope;
 use glue_shared::{Lowered, Settings, roots};
@@ -152,14 +158,26 @@ fn collect(alloc: Global, lowered: Lowered) -> Result<Lowered, AllocError>
     }
 }
 
+// The names of the outside and the computed keys of a description.
+fn list(alloc: Global, checked: &Checked) -> Result<(Seq<Text>, Seq<Text>), AllocError>
+    ensures hosts { IfOk result (λ listed. IsSortedSet (host_names checked.now.settings checked.now.lowered.aux) listed.0) }
+    ensures keys { IfOk result (λ listed. IsSortedSet (described_keys checked.now.lowered.aux) listed.1) }
+{
+    let aux = &checked.lowered().aux;
+    let hosts = host_set(alloc, checked.settings(), aux)?;
+    let keys = key_set(alloc, aux)?;
+    Ok((hosts, keys))
+}
+
 // The items of a description, and what is changed in its module.
-#[tactic(auto, using(glue_context::proofs::Built::bindable_built, glue_context::proofs::Built::definable_built))]
+#[tactic(auto, using(glue_context::proofs::Facts::bindable_built, glue_context::proofs::Facts::definable_built, glue_naming::proofs::Own::all_own))]
 fn plan(alloc: Global, checked: &Checked) -> Result<(Seq<Item>, Edits), AllocError>
     ensures items { IfOk result (λ drawn. IsGlue checked.now.settings checked.now.lowered drawn.0) }
     ensures edits { IfOk result (λ drawn. drawn.1 ≡ edits_of checked.now.settings checked.now.lowered) }
     ensures fit { IfOk result (λ drawn. AreFit drawn.1 checked.now.lowered.«module») }
 {
-    let items = glue_items::<IdentScope>(alloc, checked.settings(), checked.lowered())?;
+    let names = draw_names::<IdentScope>(alloc, checked)?;
+    let items = glue_items::<IdentScope>(alloc, checked.settings(), checked.lowered(), &names)?;
     let edits = edits_of(alloc, checked.settings(), checked.lowered())?;
     Ok((items, edits))
 }
@@ -274,7 +292,7 @@ impl Bindgen {
     /// - `collect` leaves nothing of the module but what can be reached.
     /// - `check` of `glue_check`: `NotBuilt` where something is asked for that isn't built, with the first kind of it (`unbuilt`); else
     ///   the first condition that the description or its module meets (`verdict`).
-    /// - `draw` makes the items, and changes the module for them.
+    /// - `list` lists the names of the outside and the computed keys; `draw` makes the items, and changes the module for them.
     pub fn generate_output<L: Lowering>(
         &mut self,
         alloc: Global,
@@ -297,7 +315,16 @@ impl Bindgen {
         let lowered = lower(alloc, &settings, module, lowering)?;
         let lowered = collect(alloc, lowered)?;
         let checked = check(alloc, self.file_flags(), &settings, lowered)?;
+        let (hosts, keys) = list(alloc, &checked)?;
         let (items, module) = draw(alloc, checked)?;
-        Ok(Output::new(alloc, settings, items, module, features_missing)?)
+        Ok(Output::new(
+            alloc,
+            settings,
+            hosts,
+            keys,
+            items,
+            module,
+            features_missing,
+        )?)
     }
 }

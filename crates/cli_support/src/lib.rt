@@ -2,11 +2,12 @@
 //!
 //! `Bindgen::generate_output` parses the module, has its description read, and makes the items of the glue file; `Output::files`
 //! plans the files. Promised: each fault has its cause in one order; the items are linked with the module that is written, define
-//! each own import once by its adapter's function, and publish exactly the described tree; the module is the one that was read, made
-//! fit for the call's settings, with nothing kept but what can be reached, its own imports moved and its start function exported.
+//! each own import once by its adapter's function, and publish exactly the described tree; the names of the outside and the computed
+//! keys of the description are listed in order of bytes, each once; the module is the one that was read, made fit for the call's
+//! settings, with nothing kept but what can be reached, its own imports moved and its start function exported.
 //!
-//! Stands on `wasm_core`, `glue_prepare`, `glue_lower`, `glue_check`, `glue_faults`, `glue_context`, `glue_targets`, `glue_steps`,
-//! `glue_scope`, `glue_words`, `glue_shared`, `glue_layout` and `glue_ends`.
+//! Stands on `wasm_core`, `glue_prepare`, `glue_lower`, `glue_check`, `glue_faults`, `glue_naming`, `glue_context`, `glue_targets`,
+//! `glue_steps`, `glue_scope`, `glue_words`, `glue_shared`, `glue_layout` and `glue_ends`.
 #![tactic(auto)]
 
 mod bindgen;
@@ -15,8 +16,11 @@ mod flags;
 mod generating;
 mod global_name;
 mod held;
+mod hosts;
 mod inputs;
+mod keys;
 mod output;
+mod sorted;
 mod targets;
 
 pub use bindgen::{Bindgen, NoInput};
@@ -29,6 +33,11 @@ pub use glue_ends::{
 pub use glue_faults::Fault;
 pub use glue_layout::reset_indentation;
 pub use glue_lower::{JsonLowering, LowerFault, Lowering};
-pub use glue_steps::adapter_steps;
+pub use glue_scope::{IdentScope, Names};
+pub use glue_shared::{AdapterId, EncodeInto, Lowered, Settings, Target};
+pub use glue_steps::{Indexed, Step, adapter_steps};
 pub use glue_targets::{frame_end, frame_start, loading_item};
+pub use glue_words::Item;
 pub use output::Output;
+pub use values::{Seq, Text};
+pub use wasm_core::{EmitFault, Module};

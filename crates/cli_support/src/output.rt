@@ -21,6 +21,8 @@ use wasm_core::{EmitFault, Module};
 #[derive(Drop)]
 pub struct Output {
     settings: Settings,
+    hosts: Seq<Text>,
+    keys: Seq<Text>,
     items: Seq<Item>,
     js: Text,
     module: Module,
@@ -32,7 +34,7 @@ impl Model for Output {
 
     ghost Value = { Made };
 
-    ghost view = { λ o. record { settings = o.settings; items = o.items; js = o.js; «module» = o.«module»; features_missing = o.features_missing } };
+    ghost view = { λ o. record { settings = o.settings; hosts = o.hosts; keys = o.keys; items = o.items; js = o.js; «module» = o.«module»; features_missing = o.features_missing } };
 }
 
 // The stem with an ending.
@@ -52,19 +54,23 @@ fn bytes_of_text(text: String) -> Seq<u8>
 }
 
 impl Output {
-    // The output of items and the module that goes with them.
+    // The output of items and the module that goes with them, with the names of the outside and the computed keys that were described.
     pub(crate) fn new(
         alloc: Global,
         settings: Settings,
+        hosts: Seq<Text>,
+        keys: Seq<Text>,
         items: Seq<Item>,
         module: Module,
         features_missing: bool,
     ) -> Result<Output, AllocError>
-        ensures made { IfOk result (λ o. o ≡ record { settings = settings; items = items; js = printed items; «module» = «module»; features_missing = features_missing }) }
+        ensures made { IfOk result (λ o. o ≡ record { settings = settings; hosts = hosts; keys = keys; items = items; js = printed items; «module» = «module»; features_missing = features_missing }) }
     {
         match print(alloc, items.as_slice()) {
             Ok(js) => Ok(Output {
                 settings,
+                hosts,
+                keys,
                 items,
                 js: Text::new(js),
                 module,
@@ -119,6 +125,22 @@ impl Output {
         ensures items { result.now ≡ self.now.items }
     {
         self.items.as_slice()
+    }
+
+    /// The names of the outside, in order of bytes and each once, whether an item uses them or not: those of each target, those that
+    /// the target of the call adds, described globals, names that vendors give with and without each of their prefixes, and where imports
+    /// are left out also names from modules and, on Node, `inspect` where a class can be inspected.
+    pub fn hosts(&self) -> &[Text]
+        ensures hosts { result.now ≡ self.now.hosts }
+    {
+        self.hosts.as_slice()
+    }
+
+    /// The computed property keys that the description names, in order of bytes and each once.
+    pub fn keys(&self) -> &[Text]
+        ensures keys { result.now ≡ self.now.keys }
+    {
+        self.keys.as_slice()
     }
 
     // The module's file.

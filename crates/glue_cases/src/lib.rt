@@ -17,6 +17,8 @@ mod layout;
 #[cfg(test)]
 mod library;
 #[cfg(test)]
+mod listed;
+#[cfg(test)]
 mod marked;
 #[cfg(test)]
 mod prepare;

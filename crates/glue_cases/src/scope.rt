@@ -1,7 +1,7 @@
 use crate::compare::{assert_case, assert_told, copied};
 use glue_inputs::{printed, texts};
 use glue_scope::{
-    IdentScope, Item, Names, NoteKind, Role, Thing, Word, is_computed_key, is_valid_ident,
+    IdentScope, Item, MemView, Names, NoteKind, Role, Thing, Word, is_computed_key, is_valid_ident,
     js_string_literal, key_text, print, property_words, punct_text, regex_text, to_valid_ident,
 };
 use std::alloc::{AllocError, Global};
@@ -242,4 +242,12 @@ fn accesses_properties(rt: HostRuntime) -> Result<(), AllocError> {
         assert_case(&rt, is_computed_key(name) == *is_computed, name);
     }
     Ok(())
+}
+
+#[test]
+fn a_view_is_displayed_with_its_number(rt: HostRuntime) -> Result<(), AllocError> {
+    let alloc = rt.alloc();
+    let name = Text::from_str(alloc, "getUint8ArrayMemory")?;
+    let view = MemView { name, num: 0 };
+    assert_told(&rt, format!(in alloc; "{view}"), "getUint8ArrayMemory0")
 }

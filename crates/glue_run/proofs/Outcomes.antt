@@ -1,11 +1,11 @@
 -- What a run of some bytes comes to, from the generator's answer.
 use Rattle.std.proofs.Common.{◌≡◌, ◌≢◌, ℕ, List, Bool, true, false, true≢false, inl, inr, refl, sym, ap, subst, ◌∙◌, cond, arith}
 use Rattle.std.specs.Prelude.{Option, Some, None, Result, Ok, Err, IfOk, IfErr}
-use Rattle.wasm_core.specs.Contents.{Contents}
-use Rattle.wasm_core.specs.Emission.{too_large}
-use Rattle.wasm_core.specs.Parsing.{module_of}
-use Rattle.wasm_core.specs.declared.faults.ParseFault.{ParseFault}
-use Rattle.wasm_core.specs.declared.faults.ParseFault.TheVariants as parse
+use Rattle.cli_support.specs.Contents.{Contents}
+use Rattle.cli_support.specs.Emission.{too_large}
+use Rattle.cli_support.specs.Parsing.{module_of}
+use Rattle.cli_support.specs.faults.ParseFault.{ParseFault}
+use Rattle.cli_support.specs.faults.ParseFault.TheVariants as parse
 use Rattle.cli_support.specs.settings.Settings.{Settings}
 use Rattle.cli_support.specs.description.Lowered.{Lowered}
 use Rattle.cli_support.specs.Lowering.{lowered_of}

@@ -1,7 +1,7 @@
 -- What an output is, for a module's bytes.
 use Rattle.std.specs.Prelude.{◌≡◌, ℕ, List, true, false, codes, Some, None, Ok}
-use Rattle.wasm_core.specs.Contents.{Contents}
-use Rattle.wasm_core.specs.Parsing.{module_of}
+use Rattle.cli_support.specs.Contents.{Contents}
+use Rattle.cli_support.specs.Parsing.{module_of}
 use Rattle.cli_support.specs.settings.Settings.{Settings}
 use Rattle.cli_support.specs.description.Lowered.{Lowered}
 use Rattle.cli_support.specs.Lowering.{lowered_of}

@@ -1,7 +1,7 @@
 -- What a run of some bytes comes to.
 use Rattle.std.specs.Prelude.{Bool, true, false, ◌≡◌, ◌≢◌, ◌≤◌, ◌⊎◌, IsSomeAnd, ℕ, List, [], ◌++◌, codes, Option, Some, None, Ok, Err}
 use Rattle.std.specs.Io.KnownBytes.{Appends, Keeps}
-use Rattle.wasm_core.specs.Emission.{too_large}
+use Rattle.cli_support.specs.Emission.{too_large}
 use Rattle.cli_support.specs.Causes.{AppendsPrefix}
 use Rattle.cli_support.specs.Count.{Rose}
 use Rattle.cli_support.specs.Listing.{listing}

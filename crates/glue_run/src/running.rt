@@ -1,7 +1,7 @@
 //! The top call.
 ghost use Rattle.std.specs.Prelude.{◌↔◌, ◌≡◌, ◌≢◌, ◌≤◌, ◌⊎◌, ℕ, List, length, Ok, Err, Some, None, map, string_bytes, IsTrue, IsSome, IfOk, IfErr};
 ghost use Rattle.std.specs.Io.KnownBytes.{Keeps};
-ghost use Rattle.wasm_core.specs.Emission.{too_large};
+ghost use Rattle.cli_support.specs.Emission.{too_large};
 ghost use Rattle.cli_support.specs.Count.{Rose};
 ghost use Rattle.cli_support.specs.Listing.{listing};
 ghost use Rattle.cli_support.specs.Taking.{IsWhole, TakesAtMost, TakesMoreThan};
@@ -11,11 +11,10 @@ ghost use Rattle.glue_run.specs.Outcome.{Cause};
 ghost use Rattle.glue_run.specs.Running.{AreRead, IsDone, IsPartly, EndsIn};
 
 use cli_support::{
-    Bindgen, Fault, JsonLowering, Output, PlannedFile, SetFault, Sink, Source, Stop, WriteFault,
-    read_whole, write_files,
+    Bindgen, EmitFault, Fault, JsonLowering, Output, PlannedFile, SetFault, Sink, Source, Stop,
+    WriteFault, read_whole, write_files,
 };
 use std::alloc::{AllocError, Global};
-use wasm_core::EmitFault;
 
 /// The most bytes that are read.
 pub const LIMIT: usize = 268_435_456;

@@ -6,12 +6,15 @@ use Rattle.cli_support.proofs.bindgen.Bindgen.debug_info_url.Statement.{statemen
 use Rattle.cli_support.proofs.bindgen.Bindgen.debug_info_url.Code as code
 use Rattle.cli_support.proofs.bindgen.Bindgen.hold_debug_info_url.Met as hold
 use Rattle.cli_support.proofs.held.release_kept.Met as release
-use Rattle.cli_support.proofs.TextSetters.{text_met}
+use Rattle.cli_support.proofs.Parameters.{want_of_memory, allocator, text}
+use Rattle.cli_support.proofs.Setters.{pair_met}
 
 pub debug_info_url_spec : {M : Type 1} → statement M
 debug_info_url_spec 𝓤 𝓛 𝓜 𝓡 wired =
-    text_met 𝓛 𝓜 𝓡 f.Key.name g.Key.name (λ κs a. (f.clauses 𝓛 𝓜.mem 𝓡.returns κs a).ensures tt) (λ κs a. (g.clauses 𝓛 𝓜.mem 𝓡.returns κs a).ensures tt)
-    (code.unfolded 𝓤 𝓛.H 𝓜 𝓡 wired)
-    (hold.met 𝓤 𝓛 𝓜 𝓡 (code.calls-cli_support::bindgen::Bindgen::hold_debug_info_url 𝓡.env wired))
-    (release.met 𝓤 𝓛 𝓜 𝓡 (code.calls-cli_support::held::release_kept 𝓡.env wired))
-    (λ κs a x. id⊢ 𝓤 _) (λ κs a e. id⊢ 𝓤 _)
+    pair_met 1 want_of_memory (allocator 2) text 𝓛 𝓜 𝓡 f.Key.name g.Key.name (λ κs a. (f.clauses 𝓛 𝓜.mem 𝓡.returns κs a).ensures tt)
+    (λ κs a. (g.clauses 𝓛 𝓜.mem 𝓡.returns κs a).ensures tt) (code.unfolded 𝓤 𝓛.H 𝓜 𝓡 wired) (record {
+      met = hold.met 𝓤 𝓛 𝓜 𝓡 (code.calls-cli_support::bindgen::Bindgen::hold_debug_info_url 𝓡.env wired);
+      released_met = release.met 𝓤 𝓛 𝓜 𝓡 (code.calls-cli_support::held::release_kept 𝓡.env wired);
+      same_ok = λ κs a x. id⊢ 𝓤 _;
+      same_err = λ κs a e. id⊢ 𝓤 _;
+    })
