@@ -1,22 +1,21 @@
 -- The tree of any steps is fit: names are identifiers, and its words are spaced.
-use Rattle.std.proofs.Common.{◌≡◌, ℕ, ◌≤◌, List, [], ◌∷◌, ◌++◌, length, map, refl, ap, sym, ◌∙◌, subst, Bool, true, false, append_assoc}
+use Rattle.std.proofs.Common.{◌≡◌, ℕ, ◌≤◌, List, [], ◌∷◌, length, map, refl, ap, ◌∙◌, Bool, true}
 use Rattle.std.proofs.lemmas.Bool.{and_parts}
-use Rattle.std.specs.Prelude.{Option, Some, None, ◌&&◌, codes}
+use Rattle.std.specs.Prelude.{◌&&◌, codes}
 use Rattle.std.specs.List.{list_all}
-use Rattle.glue_words.specs.declared.word.Word.{Word}
-use Rattle.glue_words.specs.declared.word.Word.TheVariants as w
 use Rattle.glue_words.specs.Ident.{is_ident}
 use Rattle.glue_words.proofs.Idents.{ascii_ident}
-use Rattle.glue_tree.specs.Term.{Outside, Apply, Terms, Line, Bind, Run, Lines, NoLines}
-use Rattle.glue_tree.specs.Spelling.{line_words, in_parens, parts_of, listed, const_start}
-use Rattle.glue_tree.specs.FixedWords.{close_paren, semicolon}
-use Rattle.glue_tree.proofs.Fit.{fit, all_fit, is_line, line_fit, lines_fit}
-use Rattle.glue_tree.proofs.Spacing.{line, line_is}
+use Rattle.glue_words.specs.Names.{wasm_name, wasm_in}
+use Rattle.glue_tree.specs.Term.{Lines, NoLines}
+use Rattle.glue_tree.proofs.Fit.{fit, all_fit, line_fit, lines_fit}
+use Rattle.glue_tree.proofs.Functions.{wasm_kind}
+use Rattle.glue_imports.specs.declared.part.Part.{Part}
 use Rattle.glue_steps.specs.declared.step.Step.{Step}
 use Rattle.glue_steps.specs.declared.step.Step.TheVariants.{CallImport}
-use Rattle.glue_binding.specs.Spelling.{Plain, Missing, Local, Unsigned, term_of, terms, path_words, import_call_words, import_line_words, Piece, Ahead, Cleanup, pieces_of, nested, tree_of, temporaries}
+use Rattle.glue_binding.specs.Spelling.{Plain, Missing, Local, Unsigned, term_of, terms, expression_words, Piece, Ahead, Cleanup, pieces_of, nested, tree_of, temporaries}
 use Rattle.glue_binding.proofs.Each.{Each}
-use Rattle.glue_binding.proofs.Paths.{line_with_path}
+use Rattle.glue_binding.proofs.Parts.{expression_found, parts_take}
+use Rattle.glue_binding.proofs.Standing.{IsNamed, parts_fit, run_stands, bound_stands}
 use Rattle.glue_binding.proofs.Rowwise.{IsRowwise, AllHave, pieces_have}
 
 and_true : (a b : Bool) → a ≡ true → b ≡ true → (a && b) ≡ true
@@ -24,16 +23,10 @@ and_true a b h k = ap (λ x. x && b) h ∙ k
 
 -- ---- fit
 
--- the names that a step brings along are right
+-- the parts that a step brings along may stand beside one another
 abbrev pub step_fit : Step → Bool
-step_fit (CallImport adapter n has_result global fields) = is_ident global
+step_fit (CallImport adapter n has_result parts) = parts_fit parts
 step_fit other = true
-
--- the local of an operand is an identifier
-abbrev IsNamed : Plain → Type 0
-IsNamed Missing = Unit {0}
-IsNamed (Local name) = is_ident name ≡ true
-IsNamed (Unsigned p) = IsNamed p
 
 abbrev IsName : List ℕ → Type 0
 IsName name = is_ident name ≡ true
@@ -47,28 +40,9 @@ terms_fit : (ps : List Plain) → Each IsNamed ps → all_fit (terms ps) ≡ tru
 terms_fit [] h = refl
 terms_fit (p ∷ ps) h = and_true _ _ (plain_fit p h.0) (terms_fit ps h.1)
 
--- the call of a host's function by its name alone
-abbrev named_call : Option (List ℕ) → (global : List ℕ) → Terms → Line
-named_call None global es = Run (Apply (Outside global) es)
-named_call (Some bound) global es = Bind bound (Apply (Outside global) es)
-
--- with fields it stands where it stands without
-call_fit : (front : List Word) (global : List ℕ) (fields : List (List ℕ)) (es : Terms)
-    → is_line (front ++ w.Host global false ∷ (in_parens (parts_of es) ++ semicolon ∷ [])) ≡ true
-    → is_line (front ++ import_call_words global fields es) ≡ true
-call_fit front global fields es h =
-    subst (λ (words : List Word). is_line (front ++ w.Host global false ∷ words) ≡ true)
-    (sym (append_assoc (path_words fields) (in_parens (parts_of es)) (semicolon ∷ [])))
-    (line_with_path front ((listed (parts_of es) ++ close_paren ∷ []) ++ semicolon ∷ []) global fields h)
-
-import_fit : (bound : Option (List ℕ)) (global : List ℕ) (fields : List (List ℕ)) (es : Terms)
-    → line_fit (named_call bound global es) ≡ true → is_line (import_line_words bound global fields es) ≡ true
-import_fit None global fields es h =
-    let named = named_call None global es in
-    call_fit [] global fields es (line_is (line_words named) (line named h))
-import_fit (Some bound) global fields es h =
-    let named = named_call (Some bound) global es in
-    call_fit (const_start bound) global fields es (line_is (line_words named) (line named h))
+-- no export is taken in an import's expression
+no_export : (parts : List Part) (args : List Plain) → wasm_in (expression_words parts args) ≡ []
+no_export parts args = expression_found wasm_name wasm_kind (λ n. refl) args parts ∙ parts_take parts
 
 fits : IsRowwise (λ l. line_fit l ≡ true) IsNamed IsName (λ s. step_fit s ≡ true)
 fits = record {
@@ -78,10 +52,8 @@ fits = record {
   ends = λ p h. plain_fit p h;
   export_runs = λ name n f args h. terms_fit args h;
   export_binds = λ name n f x d args h. and_true _ _ d (terms_fit args h);
-  import_runs = λ adapter n global fields f args h. import_fit None global fields (terms args)
-      (and_true _ _ f (terms_fit args h));
-  import_binds = λ adapter n global fields f x d args h. import_fit (Some x) global fields (terms args)
-      (and_true _ _ d (and_true _ _ f (terms_fit args h)));
+  import_runs = λ adapter n parts f args h. run_stands parts args h f (no_export parts args);
+  import_binds = λ adapter n parts f x d args h. bound_stands parts args h f (no_export parts args) x d;
   takes = λ f x d p h. and_true _ _ d (rw (ascii_ident (codes "takeObject") refl) (terms_fit (p ∷ []) (h, tt)));
   borrows = λ f x d p h. and_true _ _ d (rw (ascii_ident (codes "addBorrowedObject") refl)
       (terms_fit (p ∷ []) (h, tt)));

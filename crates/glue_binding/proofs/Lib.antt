@@ -5,8 +5,11 @@ mod Functions
 pub mod Linked
 pub mod Outer
 pub mod Outside
+pub mod Parts
 pub mod Paths
 mod Plain
 mod Rowwise
 mod Runs
 mod Stacks
+mod Written
+pub mod Standing

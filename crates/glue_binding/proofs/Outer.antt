@@ -8,15 +8,17 @@ use Rattle.glue_words.specs.declared.word.Word.{Word}
 use Rattle.glue_words.specs.declared.word.Word.TheVariants as w
 use Rattle.glue_words.specs.Names.{used_name, hosted_name, used_in, hosted_in}
 use Rattle.glue_tree.specs.Term.{Lines, NoLines}
-use Rattle.glue_tree.specs.Spelling.{function_words, in_parens, parts_of, listed}
+use Rattle.glue_tree.specs.Spelling.{function_words}
 use Rattle.glue_words.specs.Words.{space}
 use Rattle.glue_tree.specs.Leaves.{leaves, leaves_of, line_leaves, lines_leaves, function_leaves}
-use Rattle.glue_tree.proofs.Names.{IsKind, Has, function_names, listed_names}
+use Rattle.glue_tree.proofs.Names.{IsKind, Has, function_names}
 use Rattle.glue_tree.proofs.Functions.{used_kind, hosted_kind}
+use Rattle.glue_imports.specs.declared.part.Part.{Part}
+use Rattle.glue_binding.proofs.Parts.{expression_found}
 use Rattle.glue_steps.specs.Stack.{top, below, operands, without}
 use Rattle.glue_steps.specs.declared.step.Step.{Step}
 use Rattle.glue_steps.specs.declared.step.Step.TheVariants.{Parameter, Unchanged, CallExport, CallImport, ToUnsigned, TakeIndex, IndexFromBorrow, UnwrapResult}
-use Rattle.glue_binding.specs.Spelling.{Plain, Missing, Local, Unsigned, term_of, terms, first, import_words, import_call_words, Piece, Ahead, Cleanup, ending, row, pieces_of, nested, tree_of}
+use Rattle.glue_binding.specs.Spelling.{Plain, Missing, Local, Unsigned, term_of, terms, first, expression_words, Piece, Ahead, Cleanup, ending, row, pieces_of, nested, tree_of}
 use Rattle.glue_binding.specs.Outer.{outer_in, seed_words}
 
 -- operands have no names of a kind that locals have none of
@@ -62,8 +64,8 @@ row_many (Parameter i) p t p' t' n n' h = h
 row_many Unchanged p t p' t' n n' h = below_many t t' h
 row_many (CallExport name i true) p t p' t' n n' h = without_many i t t' h
 row_many (CallExport name i false) p t p' t' n n' h = without_many i t t' h
-row_many (CallImport adapter i true global fields) p t p' t' n n' h = without_many i t t' h
-row_many (CallImport adapter i false global fields) p t p' t' n n' h = without_many i t t' h
+row_many (CallImport adapter i true parts) p t p' t' n n' h = without_many i t t' h
+row_many (CallImport adapter i false parts) p t p' t' n n' h = without_many i t t' h
 row_many ToUnsigned p t p' t' n n' h = below_many t t' h
 row_many TakeIndex p t p' t' n n' h = below_many t t' h
 row_many IndexFromBorrow p t p' t' n n' h = below_many t t' h
@@ -98,16 +100,13 @@ module _ (kind : Word → Option (List ℕ)) (outer : IsOuter kind) where
   passed : (ps qs : List Plain) → Alike (leaves_of (terms ps)) (leaves_of (terms qs))
   passed ps qs = record { same = terms_none kind outer.local ps ∙ sym (terms_none kind outer.local qs) }
 
-  import_same : (global : List ℕ) (fields : List (List ℕ)) (ps qs : List Plain)
-      → Alike (import_call_words global fields (terms ps)) (import_call_words global fields (terms qs))
-  import_same global fields ps qs =
-      let left : Has kind outer.is (listed (parts_of (terms ps))) (leaves_of (terms ps)) = listed_names kind outer.is
-      (terms ps) in
-      let right : Has kind outer.is (listed (parts_of (terms qs))) (leaves_of (terms qs)) = listed_names kind outer.is
-      (terms qs) in
-      let parens : Alike (in_parens (parts_of (terms ps))) (in_parens (parts_of (terms qs))) = kept (w.Punct 2)
-      (beside (record { same = left.same ∙ (passed ps qs).same ∙ sym right.same }) (equal (w.Punct 3 ∷ []))) in
-      beside (beside (equal (import_words global fields)) parens) (equal (w.Punct 8 ∷ []))
+  import_same : (parts : List Part) (ps qs : List Plain)
+      → Alike (expression_words parts ps ++ w.Punct 8 ∷ []) (expression_words parts qs ++ w.Punct 8 ∷ [])
+  import_same parts ps qs =
+      let same : Alike (expression_words parts ps) (expression_words parts qs) = record {
+        same = expression_found kind outer.is outer.local ps parts ∙ sym (expression_found kind outer.is outer.local qs parts);
+      } in
+      beside same (equal (w.Punct 8 ∷ []))
 
   -- `helper(p)`
   helper_same : (key : List ℕ) (p q : Plain) → Alike (w.Refer key false ∷ leaves_of (terms (p ∷ [])))
@@ -136,14 +135,14 @@ module _ (kind : Word → Option (List ℕ)) (outer : IsOuter kind) where
         (passed (operands Missing i t []) (operands Missing i t' []))),
     tt,
   )
-  row_same (CallImport adapter i true global fields) p t p' t' n n' = (
+  row_same (CallImport adapter i true parts) p t p' t' n n' = (
     kept (w.Key 8) (kept space (bind (first n) (first n')
-        (kept space (kept (w.Punct 14) (kept space (import_same global fields (operands Missing i t [])
+        (kept space (kept (w.Punct 14) (kept space (import_same parts (operands Missing i t [])
         (operands Missing i t' []))))))),
     tt,
   )
-  row_same (CallImport adapter i false global fields) p t p' t' n n' =
-      (import_same global fields (operands Missing i t []) (operands Missing i t' []), tt)
+  row_same (CallImport adapter i false parts) p t p' t' n n' =
+      (import_same parts (operands Missing i t []) (operands Missing i t' []), tt)
   row_same ToUnsigned p t p' t' n n' = tt
   row_same TakeIndex p t p' t' n n' = (
     bind (first n) (first n')

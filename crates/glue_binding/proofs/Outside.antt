@@ -3,7 +3,7 @@
 use Rattle.std.proofs.Common.{◌≡◌, ℕ, ◌≤◌, List, [], ◌∷◌, ◌++◌, length, map, refl, ap, sym, ◌∙◌, subst, true, false, arith}
 use Rattle.std.proofs.lemmas.List.{append-nil}
 use Rattle.std.proofs.lemmas.List.Elements.{filter_map-append}
-use Rattle.std.specs.Prelude.{Option, codes}
+use Rattle.std.specs.Prelude.{Option, Bool, ◌&&◌, pos, codes}
 use Rattle.std.specs.List.{filter_map, flat_map}
 use Rattle.values.specs.Lists.{IsIn}
 use Rattle.values.proofs.Members.{in_left, in_right}
@@ -13,25 +13,28 @@ use Rattle.glue_words.specs.Names.{local_bound_name, local_name, local_bound_in,
 use Rattle.glue_words.specs.Linking.{AreAmong}
 use Rattle.glue_words.proofs.Among.{among_both, among_parts, among_itself}
 use Rattle.glue_tree.specs.Term.{Lines, NoLines}
-use Rattle.glue_tree.specs.Spelling.{in_parens, parts_of, listed, const_start, function_words}
-use Rattle.glue_tree.specs.FixedWords.{close_paren, semicolon, const_word}
+use Rattle.glue_tree.specs.Spelling.{comma_unless, is_none, const_start, function_words}
+use Rattle.glue_tree.specs.FixedWords.{semicolon, const_word}
+use Rattle.glue_words.specs.Functions.{parenthesised}
+use Rattle.glue_imports.specs.declared.part.Part.{Part}
+use Rattle.glue_imports.specs.declared.part.Part.TheVariants as part
 use Rattle.glue_words.specs.Words.{space}
 use Rattle.glue_tree.specs.Leaves.{leaves, leaves_of, line_leaves, lines_leaves, function_leaves}
-use Rattle.glue_tree.proofs.Names.{IsKind, Has, listed_names, function_names}
+use Rattle.glue_tree.proofs.Names.{IsKind, Has, function_names}
 use Rattle.glue_tree.proofs.Functions.{local_kind, local_bound_kind}
-use Rattle.glue_steps.specs.Stack.{top, below, operands}
+use Rattle.glue_steps.specs.Stack.{top, below, item_at, operands}
 use Rattle.glue_steps.specs.declared.step.Step.{Step}
 use Rattle.glue_steps.specs.declared.step.Step.TheVariants.{Parameter, Unchanged, CallExport, CallImport, ToUnsigned, TakeIndex, IndexFromBorrow, UnwrapResult}
-use Rattle.glue_binding.specs.Spelling.{Plain, Missing, Local, Unsigned, term_of, terms, import_words, import_call_words, Piece, Ahead, Cleanup, ending, pieces_of, nested, tree_of, counted, wanted_from, temporaries}
-use Rattle.glue_binding.proofs.Each.{Each, each_by}
+use Rattle.glue_binding.specs.Spelling.{Plain, Missing, Local, Unsigned, term_of, terms, plain_words, guarded_words, argument_words, arguments_words, part_words, expression_words, Piece, Ahead, Cleanup, ending, pieces_of, nested, tree_of, counted, wanted_from, temporaries}
+use Rattle.glue_binding.proofs.Each.{Each, each_by, each_item, each_below}
 use Rattle.glue_binding.proofs.Rowwise.{IsRowwise, AllHave, pieces_have}
-use Rattle.glue_binding.proofs.Paths.{path_tells}
+use Rattle.glue_binding.proofs.Parts.{outer_part, outer_parts, expression_found, parts_bind, parts_use}
 use Rattle.glue_binding.proofs.Outer.{IsOuter, plain_none, terms_none}
 
 -- the words from outside that the text of a step holds
 abbrev pub outside_words : Step → List Word
 outside_words (CallExport name n has_result) = w.Refer (codes "wasm") false ∷ w.Wasm name ∷ []
-outside_words (CallImport adapter n has_result global fields) = import_words global fields
+outside_words (CallImport adapter n has_result parts) = outer_parts parts
 outside_words TakeIndex = w.Refer (codes "takeObject") false ∷ []
 outside_words IndexFromBorrow =
     w.Refer (codes "addBorrowedObject") false ∷ w.Refer (codes "heap") false ∷ w.Refer (codes "stack_pointer") false
@@ -97,18 +100,55 @@ module _ (kind : Word → Option (List ℕ)) (is : IsKind kind) where
         let word : Holds (const_word ∷ []) = record { among = rw (is.key 8) tt } in
         merge word (merge gap (merge d.declared (merge gap (merge (mark 14) gap))))
 
-    -- `(args)`
-    passed_hold : (ps : List Plain) → Each OfPlain ps → Holds (in_parens (parts_of (terms ps)))
-    passed_hold ps h =
-        let names : Has kind is (listed (parts_of (terms ps))) (leaves_of (terms ps)) = listed_names kind is (terms ps) in
-        let inside : Holds (listed (parts_of (terms ps))) = record {
-          among = subst (λ (ns : List (List ℕ)). AreAmong ns ys) (sym names.same) (terms_hold ps h).among;
-        } in
-        merge (mark 2) (merge inside (mark 3))
+    parens_hold : {words : List Word} → Holds words → Holds (parenthesised words)
+    parens_hold h = merge (mark 2) (merge h (mark 3))
 
-    call_holds : (global : List ℕ) (fields : List (List ℕ)) (ps : List Plain) → Holds (import_words global fields)
-        → Each OfPlain ps → Holds (import_call_words global fields (terms ps))
-    call_holds global fields ps f h = merge (merge f (passed_hold ps h)) (mark 8)
+    -- operands of an import, in parentheses or not, and as arguments
+    operand_holds : (p : Plain) → OfPlain p → Holds (plain_words p)
+    operand_holds Missing h = record { among = rw (is.key 27) tt }
+    operand_holds (Local name) h = h
+    operand_holds (Unsigned p) h =
+        let zero : Holds (w.Num (pos 0) ∷ []) = record { among = rw (is.num (pos 0)) tt } in
+        merge (operand_holds p h) (merge gap (merge (mark 38) (merge gap zero)))
+
+    guarded_holds : (p : Plain) → OfPlain p → Holds (guarded_words p)
+    guarded_holds Missing h = operand_holds Missing h
+    guarded_holds (Local name) h = operand_holds (Local name) h
+    guarded_holds (Unsigned p) h = parens_hold (operand_holds (Unsigned p) h)
+
+    argument_holds : (spread : Bool) (p : Plain) → OfPlain p → Holds (argument_words spread p)
+    argument_holds true p h = merge (mark 12) (parens_hold (operand_holds p h))
+    argument_holds false p h = operand_holds p h
+
+    comma_holds : (first : Bool) → Holds (comma_unless first)
+    comma_holds true = none
+    comma_holds false = merge (mark 7) gap
+
+    arguments_hold : (first spread : Bool) (ps : List Plain) → Each OfPlain ps → Holds (arguments_words first spread ps)
+    arguments_hold first spread [] h = none
+    arguments_hold first spread (p ∷ ps) h = merge (comma_holds first)
+        (merge (argument_holds (spread && is_none ps) p h.0) (arguments_hold false spread ps h.1))
+
+    part_holds : (args : List Plain) → Each OfPlain args → (p : Part) → Holds (outer_part p) → Holds (part_words args p)
+    part_holds args h (part.Host name fields) f = f
+    part_holds args h part.Exports f = f
+    part_holds args h (part.Property name) f = f
+    part_holds args h (part.Literal text) f = record { among = rw (is.text text) tt }
+    part_holds args h (part.Punct place) f = mark place
+    part_holds args h (part.Key place) f = record { among = rw (is.key place) tt }
+    part_holds args h part.Space f = gap
+    part_holds args h (part.Operand n) f = guarded_holds (item_at Missing args n) (each_item OfPlain Missing tt args n h)
+    part_holds args h (part.Whole n) f = operand_holds (item_at Missing args n) (each_item OfPlain Missing tt args n h)
+    part_holds args h (part.Arguments spread) f = parens_hold (arguments_hold true spread args h)
+    part_holds args h (part.OtherArguments spread) f =
+        parens_hold (arguments_hold true spread (below args) (each_below OfPlain Missing tt args h))
+
+    expression_holds : (parts : List Part) (args : List Plain) → Holds (outer_parts parts) → Each OfPlain args
+        → Holds (expression_words parts args)
+    expression_holds [] args f h = none
+    expression_holds (p ∷ parts) args f h =
+        let both = split (outer_part p) (outer_parts parts) f in
+        merge (part_holds args h p both.0) (expression_holds parts args both.1 h)
 
     held : IsRowwise (λ l. Holds (line_leaves l)) OfPlain OfName (λ s. Holds (outside_words s))
     held = record {
@@ -118,9 +158,9 @@ module _ (kind : Word → Option (List ℕ)) (is : IsKind kind) where
       ends = λ p h. plain_holds p h;
       export_runs = λ name n f args h. merge f (terms_hold args h);
       export_binds = λ name n f x d args h. merge d.declared (merge f (terms_hold args h));
-      import_runs = λ adapter n global fields f args h. call_holds global fields args f h;
-      import_binds = λ adapter n global fields f x d args h. merge (start_holds x d)
-          (call_holds global fields args f h);
+      import_runs = λ adapter n parts f args h. merge (expression_holds parts args f h) (mark 8);
+      import_binds = λ adapter n parts f x d args h. merge (start_holds x d)
+          (merge (expression_holds parts args f h) (mark 8));
       takes = λ f x d p h. merge d.declared (merge f (terms_hold (p ∷ []) (h, tt)));
       borrows = λ f x d p h. merge d.declared (merge (split (w.Refer (codes "addBorrowedObject") false ∷ []) _ f).0
           (terms_hold (p ∷ []) (h, tt)));
@@ -182,7 +222,7 @@ outside_among kind outer steps params temps le =
 -- ---- locals
 
 outside_local : (s : Step) → local_in (outside_words s) ≡ []
-outside_local (CallImport adapter n has_result global fields) = (path_tells fields).locals
+outside_local (CallImport adapter n has_result parts) = parts_use parts
 outside_local other = refl
 
 steps_local : (steps : List Step) → local_in (outside_of steps) ≡ []
@@ -231,16 +271,10 @@ terms_declare ps = terms_none local_bound_name (λ n. refl) ps
 none_declared : (xs ys : List Word) → local_bound_in xs ≡ [] → local_bound_in ys ≡ [] → local_bound_in (xs ++ ys) ≡ []
 none_declared xs ys h k = two_declared xs ys ∙ ap (λ (ns : List (List ℕ)). ns ++ local_bound_in ys) h ∙ k
 
--- the call of an import declares nothing but the local of its answer
-call_declares : (global : List ℕ) (fields : List (List ℕ)) (ps : List Plain)
-    → local_bound_in (import_call_words global fields (terms ps)) ≡ []
-call_declares global fields ps =
-    let args = listed (parts_of (terms ps)) in
-    let names : Has local_bound_name local_bound_kind args (leaves_of (terms ps)) =
-    listed_names local_bound_name local_bound_kind (terms ps) in
-    none_declared (import_words global fields ++ in_parens (parts_of (terms ps))) (semicolon ∷ [])
-    (none_declared (import_words global fields) (in_parens (parts_of (terms ps))) (path_tells fields).declares
-    (none_declared args (close_paren ∷ []) (names.same ∙ terms_declare ps) refl)) refl
+-- the expression of an import declares nothing
+expression_declares : (parts : List Part) (args : List Plain) → local_bound_in (expression_words parts args ++ semicolon ∷ []) ≡ []
+expression_declares parts args = none_declared (expression_words parts args) (semicolon ∷ [])
+    (expression_found local_bound_name local_bound_kind (λ n. refl) args parts ∙ parts_bind parts) refl
 
 -- after words that declare nothing
 after_none : (xs : List Word) (ns ms : List (List ℕ)) → local_bound_in xs ≡ [] → ns ≡ ms → local_bound_in xs ++ ns ≡ ms
@@ -264,14 +298,13 @@ pieces_declare (CallExport name n true ∷ steps) params stack (x ∷ names) cou
 pieces_declare (CallExport name n false ∷ steps) params stack names count e =
     after_none (leaves_of (terms (operands Missing n stack []))) _ names (terms_declare (operands Missing n stack []))
     (pieces_declare steps params _ names count e)
-pieces_declare (CallImport adapter n true global fields ∷ steps) params stack [] count e = absurd (omega (arith, e))
-pieces_declare (CallImport adapter n true global fields ∷ steps) params stack (x ∷ names) count e =
-    ap (λ (ns : List (List ℕ)). x ∷ ns) (after_none (import_call_words global fields
-    (terms (operands Missing n stack []))) _ names (call_declares global fields (operands Missing n stack []))
-    (pieces_declare steps params _ names count (omega (arith, e))))
-pieces_declare (CallImport adapter n false global fields ∷ steps) params stack names count e =
-    after_none (import_call_words global fields (terms (operands Missing n stack []))) _ names
-    (call_declares global fields (operands Missing n stack [])) (pieces_declare steps params _ names count e)
+pieces_declare (CallImport adapter n true parts ∷ steps) params stack [] count e = absurd (omega (arith, e))
+pieces_declare (CallImport adapter n true parts ∷ steps) params stack (x ∷ names) count e =
+    ap (λ (ns : List (List ℕ)). x ∷ ns) (after_none (expression_words parts (operands Missing n stack []) ++ semicolon ∷ []) _ names
+    (expression_declares parts (operands Missing n stack [])) (pieces_declare steps params _ names count (omega (arith, e))))
+pieces_declare (CallImport adapter n false parts ∷ steps) params stack names count e =
+    after_none (expression_words parts (operands Missing n stack []) ++ semicolon ∷ []) _ names
+    (expression_declares parts (operands Missing n stack [])) (pieces_declare steps params _ names count e)
 pieces_declare (ToUnsigned ∷ steps) params stack names count e = pieces_declare steps params _ names count e
 pieces_declare (TakeIndex ∷ steps) params stack [] count e = absurd (omega (arith, e))
 pieces_declare (TakeIndex ∷ steps) params stack (x ∷ names) count e =

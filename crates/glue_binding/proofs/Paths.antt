@@ -1,6 +1,6 @@
 -- The words of the fields that lead to a host's function: how they stand, and the names that they tell.
 use Rattle.std.proofs.Common.{◌≡◌, ℕ, List, [], ◌∷◌, ◌++◌, refl, ap, sym, ◌∙◌, subst, Bool, true, false, cond}
-use Rattle.std.proofs.lemmas.Bool.{and_parts}
+use Rattle.std.proofs.lemmas.List.{append-nil}
 use Rattle.std.proofs.lemmas.List.Folds.{list_all-append}
 use Rattle.std.proofs.lemmas.List.Elements.{filter_map-append}
 use Rattle.std.specs.Prelude.{Option, Some, None, ◌&&◌, ◌==◌, filter}
@@ -11,13 +11,12 @@ use Rattle.glue_words.specs.Ident.{is_ident}
 use Rattle.glue_words.specs.Limits.{is_computed}
 use Rattle.glue_words.specs.Tables.{punct_text}
 use Rattle.glue_words.specs.Names.{bound_name, used_name, hosted_name, local_name, local_bound_name, wasm_name, spliced_key, bound_in, used_in, hosted_in, local_in, local_bound_in, wasm_in, spliced_in}
-use Rattle.glue_words.specs.Spacing.{joins, first_word, each_next, begins_apart}
-use Rattle.glue_words.specs.Words.{line_feed}
+use Rattle.glue_words.specs.Spacing.{joins, first_word, each_next}
 use Rattle.glue_words.proofs.Idents.{ident_prop}
-use Rattle.glue_words.proofs.Spaced.{first_word-append, each_next-append, each_next_both, all_both}
+use Rattle.glue_words.proofs.Spaced.{first_word-append, each_next_both, all_both}
 use Rattle.glue_scope.specs.Properties.{segment_words, property_parts}
-use Rattle.glue_tree.specs.FixedWords.{open_paren, open_bracket, close_bracket, dot}
-use Rattle.glue_tree.proofs.Fit.{is_good, spaced, is_line}
+use Rattle.glue_tree.specs.FixedWords.{open_bracket, close_bracket, dot}
+use Rattle.glue_tree.proofs.Fit.{is_good, spaced}
 use Rattle.glue_tree.proofs.Functions.{bound_kind, used_kind, hosted_kind, local_kind, local_bound_kind, wasm_kind}
 use Rattle.glue_tree.proofs.Names.{IsKind}
 use Rattle.glue_binding.specs.Spelling.{path_words}
@@ -132,15 +131,11 @@ path_tells fields = record {
 -- ---- spacing
 
 -- what may follow a host's name, and each access of a property
-record MayFollow (next : Option Word) : Type 0 where
-  host : (name : List ℕ) → spaced (w.Host name false) next ≡ true
-  named : (name : List ℕ) → spaced (w.Prop name) next ≡ true
-  quoted : spaced close_bracket next ≡ true
-  spliced : (key : List ℕ) → spaced (w.Splice key) next ≡ true
-
-paren_follows : MayFollow (Some open_paren)
-unfolding joins punct_text
-paren_follows = record { host = λ name. refl; named = λ name. refl; quoted = refl; spliced = λ key. refl }
+pub record MayFollow (next : Option Word) : Type 0 where
+  pub host : (name : List ℕ) → spaced (w.Host name false) next ≡ true
+  pub named : (name : List ℕ) → spaced (w.Prop name) next ≡ true
+  pub quoted : spaced close_bracket next ≡ true
+  pub spliced : (key : List ℕ) → spaced (w.Splice key) next ≡ true
 
 bracket_follows : MayFollow (Some open_bracket)
 unfolding joins punct_text
@@ -154,10 +149,10 @@ key_follows : (key : List ℕ) → MayFollow (Some (w.Splice key))
 key_follows key = record { host = λ name. refl; named = λ name. refl; quoted = refl; spliced = λ other. refl }
 
 -- words that stand between a host's name and what may follow it
-record StandsBetween (words : List Word) : Type 0 where
-  good : list_all is_good words ≡ true
-  front : (next : Option Word) → MayFollow next → MayFollow (first_word words next)
-  each : (next : Option Word) → MayFollow next → each_next spaced words next ≡ true
+pub record StandsBetween (words : List Word) : Type 0 where
+  pub good : list_all is_good words ≡ true
+  pub front : (next : Option Word) → MayFollow next → MayFollow (first_word words next)
+  pub each : (next : Option Word) → MayFollow next → each_next spaced words next ≡ true
 
 standing : IsPathwise (λ words keys. StandsBetween words)
 standing = record {
@@ -184,34 +179,9 @@ standing = record {
   };
 }
 
-apart_alike : (front xs ys : List Word) (word : Word) → begins_apart (front ++ word ∷ xs) ≡ true
-    → begins_apart (front ++ word ∷ ys) ≡ true
-apart_alike [] xs ys word h = h
-apart_alike (first ∷ front) xs ys word h = h
+-- the words of fields stand so, and those of one property
+pub path_stands : (fields : List (List ℕ)) → StandsBetween (path_words fields)
+path_stands fields = path_has (λ words keys. StandsBetween words) standing fields
 
--- a line that calls a host's function by its name stands with fields behind the name
-pub line_with_path : (front rest : List Word) (global : List ℕ) (fields : List (List ℕ))
-    → is_line (front ++ w.Host global false ∷ open_paren ∷ rest) ≡ true
-    → is_line (front ++ w.Host global false ∷ (path_words fields ++ open_paren ∷ rest)) ≡ true
-line_with_path front rest global fields h =
-    let name = w.Host global false in
-    let behind = open_paren ∷ rest in
-    let path = path_words fields in
-    let between : StandsBetween path = path_has (λ words keys. StandsBetween words) standing fields in
-    let line = and_parts (list_all is_good (front ++ name ∷ behind)) _ h in
-    let good = and_parts (list_all is_good front) _ (sym (list_all-append is_good front (name ∷ behind)) ∙ line.0) in
-    let good_name = and_parts (is_good name) (list_all is_good behind) good.1 in
-    let stands = and_parts (each_next spaced (front ++ name ∷ behind) (Some line_feed)) _ line.1 in
-    let each = and_parts (each_next spaced front (Some name)) _
-    (sym (each_next-append spaced front (name ∷ behind) (Some line_feed)) ∙ stands.0) in
-    let each_name = and_parts (spaced name (Some open_paren)) (each_next spaced behind (Some line_feed)) each.1 in
-    let follows : MayFollow (first_word (path ++ behind) (Some line_feed)) = subst MayFollow
-    (sym (first_word-append path behind (Some line_feed))) (between.front (Some open_paren) paren_follows) in
-    and_true _ _
-    (all_both is_good front (name ∷ (path ++ behind)) good.0
-    (and_true _ _ good_name.0 (all_both is_good path behind between.good good_name.1)))
-    (and_true _ _
-    (each_next_both spaced front (name ∷ (path ++ behind)) (Some line_feed) each.0
-    (and_true _ _ (follows.host global)
-    (each_next_both spaced path behind (Some line_feed) (between.each (Some open_paren) paren_follows) each_name.1)))
-    (apart_alike front behind (path ++ behind) name stands.1))
+pub property_stands : (name : List ℕ) → StandsBetween (property_parts name)
+property_stands name = subst StandsBetween (append-nil (property_parts name)) (path_stands (name ∷ []))

@@ -2,6 +2,7 @@
 use Rattle.std.proofs.Common.{ℕ, ◌≤◌, List, [], ◌∷◌, ◌++◌, length, Some, None, true, false, arith}
 use Rattle.std.specs.Prelude.{codes}
 use Rattle.glue_tree.specs.Term.{Line, Bind, Run, Leave}
+use Rattle.glue_imports.specs.declared.part.Part.{Part}
 use Rattle.glue_steps.specs.Stack.{top, below, operands}
 use Rattle.glue_steps.specs.declared.step.Step.{Step}
 use Rattle.glue_steps.specs.declared.step.Step.TheVariants.{Parameter, Unchanged, CallExport, CallImport, ToUnsigned, TakeIndex, IndexFromBorrow, UnwrapResult}
@@ -18,12 +19,12 @@ pub record IsRowwise (D : Line → Type 0) (S : Plain → Type 0) (N : List ℕ 
       → D (Run (export_call name args))
   pub export_binds : (name : List ℕ) (n : ℕ) → F (CallExport name n true) → (x : List ℕ) → N x → (args : List Plain)
       → Each S args → D (Bind x (export_call name args))
-  pub import_runs : (adapter n : ℕ) (global : List ℕ) (fields : List (List ℕ))
-      → F (CallImport adapter n false global fields) → (args : List Plain) → Each S args
-      → D (import_call adapter None global fields args)
-  pub import_binds : (adapter n : ℕ) (global : List ℕ) (fields : List (List ℕ))
-      → F (CallImport adapter n true global fields) → (x : List ℕ) → N x → (args : List Plain) → Each S args
-      → D (import_call adapter (Some x) global fields args)
+  pub import_runs : (adapter n : ℕ) (parts : List Part)
+      → F (CallImport adapter n false parts) → (args : List Plain) → Each S args
+      → D (import_call adapter None parts args)
+  pub import_binds : (adapter n : ℕ) (parts : List Part)
+      → F (CallImport adapter n true parts) → (x : List ℕ) → N x → (args : List Plain) → Each S args
+      → D (import_call adapter (Some x) parts args)
   pub takes : F TakeIndex → (x : List ℕ) → N x → (p : Plain) → S p → D (Bind x (helper_call (codes "takeObject") p))
   pub borrows : F IndexFromBorrow → (x : List ℕ) → N x → (p : Plain) → S p
       → D (Bind x (helper_call (codes "addBorrowedObject") p))
@@ -44,9 +45,9 @@ row_enough Unchanged params stack names count rest le = le
 row_enough (CallExport name n true) params stack [] count rest le = absurd (omega (arith, le))
 row_enough (CallExport name n true) params stack (x ∷ names) count rest le = omega (arith, le)
 row_enough (CallExport name n false) params stack names count rest le = le
-row_enough (CallImport adapter n true global fields) params stack [] count rest le = absurd (omega (arith, le))
-row_enough (CallImport adapter n true global fields) params stack (x ∷ names) count rest le = omega (arith, le)
-row_enough (CallImport adapter n false global fields) params stack names count rest le = le
+row_enough (CallImport adapter n true parts) params stack [] count rest le = absurd (omega (arith, le))
+row_enough (CallImport adapter n true parts) params stack (x ∷ names) count rest le = omega (arith, le)
+row_enough (CallImport adapter n false parts) params stack names count rest le = le
 row_enough ToUnsigned params stack names count rest le = le
 row_enough TakeIndex params stack [] count rest le = absurd (omega (arith, le))
 row_enough TakeIndex params stack (x ∷ names) count rest le = omega (arith, le)
@@ -100,19 +101,19 @@ module _ {D : Line → Type 0} {S : Plain → Type 0} {N : List ℕ → Type 0} 
     stack_has = each_without S Missing is.missing n stack t;
     names_have = m;
   }
-  row_has (CallImport adapter n true global fields) params stack [] count rest f le p t m = absurd (omega (arith, le))
-  row_has (CallImport adapter n true global fields) params stack (x ∷ names) count rest f le p t m = record {
+  row_has (CallImport adapter n true parts) params stack [] count rest f le p t m = absurd (omega (arith, le))
+  row_has (CallImport adapter n true parts) params stack (x ∷ names) count rest f le p t m = record {
     pieces_have = (
-      is.import_binds adapter n global fields f x m.0 (operands Missing n stack [])
+      is.import_binds adapter n parts f x m.0 (operands Missing n stack [])
           (each_operands S Missing is.missing n stack [] t tt),
       tt,
     );
     stack_has = (is.local x m.0, each_without S Missing is.missing n stack t);
     names_have = m.1;
   }
-  row_has (CallImport adapter n false global fields) params stack names count rest f le p t m = record {
+  row_has (CallImport adapter n false parts) params stack names count rest f le p t m = record {
     pieces_have = (
-      is.import_runs adapter n global fields f (operands Missing n stack [])
+      is.import_runs adapter n parts f (operands Missing n stack [])
           (each_operands S Missing is.missing n stack [] t tt),
       tt,
     );

@@ -295,9 +295,9 @@ module _ (thing_of : List ℕ → Thing) where
       (λ v trace answers.
       same steps params (without n stack) names env count k (fresh_without n f) le trace answers
       ∙ ap (λ s. means steps (map (plain_value env) params) s [] trace answers) (without_is env n stack)))
-  same (CallImport adapter n true global fields ∷ steps) params stack [] env count k f le trace answers = absurd
+  same (CallImport adapter n true parts ∷ steps) params stack [] env count k f le trace answers = absurd
       (omega (arith, le))
-  same (CallImport adapter n true global fields ∷ steps) params stack (x ∷ names) env count k f le trace answers =
+  same (CallImport adapter n true parts ∷ steps) params stack (x ∷ names) env count k f le trace answers =
       rw (values_are (operands Missing n stack []) env trace answers, operands_are env n stack [])
       (one_step (step (CallsAdapter adapter (operands Null n (map (plain_value env) stack) [])) trace answers) _ _ _
       (λ v trace answers.
@@ -305,7 +305,7 @@ module _ (thing_of : List ℕ → Thing) where
       (omega (arith, le)) trace answers
       ∙ bound steps params (without n stack) x v env _ (without_is env n stack) (f.from_params x (inl refl))
       ((fresh_without n f).from_stack x (inl refl)) trace answers))
-  same (CallImport adapter n false global fields ∷ steps) params stack names env count k f le trace answers =
+  same (CallImport adapter n false parts ∷ steps) params stack names env count k f le trace answers =
       rw (values_are (operands Missing n stack []) env trace answers, operands_are env n stack [])
       (one_step (step (CallsAdapter adapter (operands Null n (map (plain_value env) stack) [])) trace answers) _ _ _
       (λ v trace answers.

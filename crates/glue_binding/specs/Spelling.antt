@@ -1,9 +1,15 @@
 -- The statements that the steps of an adapter are spelled by.
-use Rattle.std.specs.Prelude.{ℕ, ◌+◌, pos, Bool, true, false, List, [], ◌∷◌, ◌++◌, map, Option, Some, None, codes}
+use Rattle.std.specs.Prelude.{ℕ, ◌+◌, pos, Bool, true, false, ◌&&◌, List, [], ◌∷◌, ◌++◌, map, Option, Some, None, codes}
 use Rattle.std.specs.List.{flat_map}
 use Rattle.glue_words.specs.declared.word.Word.{Word}
 use Rattle.glue_words.specs.declared.word.Word.TheVariants as w
 use Rattle.glue_words.specs.Ident.{numbered}
+use Rattle.glue_words.specs.Words.{space}
+use Rattle.glue_words.specs.Functions.{parenthesised}
+use Rattle.glue_words.specs.declared.punct.TheConstants as punct
+use Rattle.glue_words.specs.declared.key.TheConstants as key
+use Rattle.glue_imports.specs.declared.part.Part.{Part}
+use Rattle.glue_imports.specs.declared.part.Part.TheVariants as part
 use Rattle.glue_scope.specs.Properties.{property_parts}
 use Rattle.values.specs.Value.{Value, Null, unsigned}
 use Rattle.glue_tree.specs.TreeMeaning.{Locals, value_in}
@@ -12,7 +18,7 @@ use Rattle.glue_tree.specs.declared.tree.UnaryOperator.TheVariants as unary
 use Rattle.glue_tree.specs.declared.tree.BinaryOperator.TheVariants as binary
 use Rattle.glue_tree.specs.Term.{Term, Lit, Const, Var, Name, Outside, Export, Index, Apply, One, Two, Terms, Line, Bind, Put, Run, When, Always, Fail, Leave, Inner, Lines, NoLines, AndLine}
 use Rattle.glue_tree.specs.Plainly.{terms_of}
-use Rattle.glue_tree.specs.Spelling.{in_parens, parts_of, const_start}
+use Rattle.glue_tree.specs.Spelling.{const_start, comma_unless, is_none}
 use Rattle.glue_tree.specs.FixedWords.{semicolon}
 use Rattle.glue_steps.specs.Stack.{top, below, item_at, operands, without}
 use Rattle.glue_steps.specs.declared.step.Step.{Step}
@@ -64,25 +70,72 @@ helper_call key p = Apply (Name key) (terms (p ∷ []))
 abbrev pub path_words : (fields : List (List ℕ)) → List Word
 path_words fields = flat_map property_parts fields
 
--- the host's name, and the properties that lead from it to a function
-abbrev pub import_words : (global : List ℕ) → (fields : List (List ℕ)) → List Word
-import_words global fields = w.Host global false ∷ path_words fields
+-- ` >>> 0`
+abbrev pub shift_words : List Word
+shift_words = space ∷ w.Punct punct.SHIFT_RIGHT_UNSIGNED ∷ space ∷ w.Num (pos 0) ∷ []
 
--- the call of that function: `(args);` behind these words
-abbrev pub import_call_words : (global : List ℕ) → (fields : List (List ℕ)) → (args : Terms) → List Word
-import_call_words global fields args = (import_words global fields ++ in_parens (parts_of args)) ++ semicolon ∷ []
+-- the words of an operand: `null`, a local, `x >>> 0`
+abbrev pub plain_words : Plain → List Word
+plain_words Missing = w.Key key.NULL ∷ []
+plain_words (Local name) = w.Local name ∷ []
+plain_words (Unsigned p) = plain_words p ++ shift_words
 
--- the same, or `const bound = ` before it
-abbrev pub import_line_words : (bound : Option (List ℕ)) → (global : List ℕ) → (fields : List (List ℕ)) → (args : Terms)
-    → List Word
-import_line_words None global fields args = import_call_words global fields args
-import_line_words (Some bound) global fields args = const_start bound ++ import_call_words global fields args
+-- the same, in parentheses where it holds an operator
+abbrev pub guarded_words : Plain → List Word
+guarded_words (Unsigned p) = parenthesised (plain_words (Unsigned p))
+guarded_words other = plain_words other
+
+-- `a`, or `...(a)`
+abbrev pub argument_words : (spread : Bool) → Plain → List Word
+argument_words true p = w.Punct punct.SPREAD ∷ parenthesised (plain_words p)
+argument_words false p = plain_words p
+
+-- arguments one after the other, with `, ` before each but the first; the last one may be spread
+abbrev pub arguments_words : (first spread : Bool) → List Plain → List Word
+arguments_words first spread [] = []
+arguments_words first spread (p ∷ ps) =
+    comma_unless first ++ (argument_words (spread && is_none ps) p ++ arguments_words false spread ps)
+
+-- a word, or words where there is none
+abbrev pub word_or : Option Word → List Word → List Word
+word_or None words = words
+word_or (Some word) words = word ∷ []
+
+-- the word of a part that is one word, whatever the operands are
+abbrev pub fixed_word : Part → Option Word
+fixed_word part.Exports = Some (w.Refer (codes "wasm") false)
+fixed_word (part.Literal text) = Some (w.Text text)
+fixed_word (part.Punct place) = Some (w.Punct place)
+fixed_word (part.Key place) = Some (w.Key place)
+fixed_word part.Space = Some space
+fixed_word other = None
+
+-- the words of a part that goes by operands, or names a value of the host
+abbrev pub varied_words : List Plain → Part → List Word
+varied_words args (part.Host name fields) = w.Host name false ∷ path_words fields
+varied_words args (part.Property name) = property_parts name
+varied_words args (part.Operand n) = guarded_words (item_at Missing args n)
+varied_words args (part.Whole n) = plain_words (item_at Missing args n)
+varied_words args (part.Arguments spread) = parenthesised (arguments_words true spread args)
+varied_words args (part.OtherArguments spread) = parenthesised (arguments_words true spread (below args))
+varied_words args other = []
+
+-- the words of a part of an import's expression, for these operands
+abbrev pub part_words : List Plain → Part → List Word
+part_words args p = word_or (fixed_word p) (varied_words args p)
+
+-- the words of an import's expression
+abbrev pub expression_words : (parts : List Part) → (args : List Plain) → List Word
+expression_words parts args = flat_map (part_words args) parts
+
+-- the statement of an import's expression: its answer is bound to a local, if there is one
+abbrev pub import_line_words : (bound : Option (List ℕ)) → (parts : List Part) → (args : List Plain) → List Word
+import_line_words None parts args = expression_words parts args ++ semicolon ∷ []
+import_line_words (Some bound) parts args = const_start bound ++ (expression_words parts args ++ semicolon ∷ [])
 
 -- the call of an import, its answer bound to a local if there is one
-abbrev pub import_call : (adapter : ℕ) → (bound : Option (List ℕ)) → (global : List ℕ) → (fields : List (List ℕ))
-    → (args : List Plain) → Line
-import_call adapter bound global fields args = Inner adapter (terms args) bound
-    (import_line_words bound global fields (terms args))
+abbrev pub import_call : (adapter : ℕ) → (bound : Option (List ℕ)) → (parts : List Part) → (args : List Plain) → Line
+import_call adapter bound parts args = Inner adapter (terms args) bound (import_line_words bound parts args)
 
 -- `heap[stack_pointer++] = undefined;`
 abbrev pub gives_back_line : Line
@@ -118,11 +171,11 @@ row (CallExport name n true) params stack names =
     (Local (first names) ∷ without n stack) (later names)
 row (CallExport name n false) params stack names =
     made (Ahead (Run (export_call name (operands Missing n stack []))) ∷ []) (without n stack) names
-row (CallImport adapter n true global fields) params stack names =
-    made (Ahead (import_call adapter (Some (first names)) global fields (operands Missing n stack [])) ∷ [])
+row (CallImport adapter n true parts) params stack names =
+    made (Ahead (import_call adapter (Some (first names)) parts (operands Missing n stack [])) ∷ [])
     (Local (first names) ∷ without n stack) (later names)
-row (CallImport adapter n false global fields) params stack names =
-    made (Ahead (import_call adapter None global fields (operands Missing n stack [])) ∷ []) (without n stack) names
+row (CallImport adapter n false parts) params stack names =
+    made (Ahead (import_call adapter None parts (operands Missing n stack [])) ∷ []) (without n stack) names
 row ToUnsigned params stack names = made [] (Unsigned (top Missing stack) ∷ below stack) names
 row TakeIndex params stack names =
     made (Ahead (Bind (first names) (helper_call (codes "takeObject") (top Missing stack))) ∷ [])
@@ -170,7 +223,7 @@ result_of false = []
 -- the temporaries that a step wants: `ret` for a call, else `v` and how many steps before it have such a one
 abbrev pub wanted_by : Step → (count : ℕ) → List (List ℕ)
 wanted_by (CallExport name n has_result) count = result_of has_result
-wanted_by (CallImport adapter n has_result global fields) count = result_of has_result
+wanted_by (CallImport adapter n has_result parts) count = result_of has_result
 wanted_by TakeIndex count = numbered (codes "v") count ∷ []
 wanted_by IndexFromBorrow count = numbered (codes "v") count ∷ []
 wanted_by other count = []

@@ -10,9 +10,10 @@ use crate::body::Body;
 use crate::import::import_line;
 use crate::operand::{Operand, to_exprs};
 use crate::stack::pop_operands;
+use glue_imports::Part;
 use glue_tree::{Expr, Stmt};
 use std::alloc::{AllocError, Global};
-use values::{Boxed, Duplicate, Seq, Text};
+use values::{Boxed, Duplicate, Text};
 
 // `wasm.name(args)`
 fn export_call(alloc: Global, name: &Text, args: &[Operand]) -> Result<Expr, AllocError>
@@ -42,23 +43,22 @@ pub fn call_export(
     }
 }
 
-// The call of an import with these arguments, its answer bound to a local if there is one.
+// The call of an import with these operands, its answer bound to a local if there is one.
 fn embed(
     alloc: Global,
     body: &mut Body,
     adapter: u32,
     bound: Option<Text>,
-    global: &Text,
-    fields: &[Text],
-    args: Seq<Expr>,
+    parts: &[Part],
+    operands: &[Operand],
 ) -> Result<(), AllocError>
     ensures pieces { OnOk result (plain_pieces body.new.pieces ≡ plain_pieces body.old.pieces
-        ++ s.Ahead (t.Inner adapter (plain_exprs args) bound
-        (s.import_line_words bound global.now fields.now (plain_exprs args))) ∷ []) }
+        ++ s.Ahead (s.import_call adapter bound parts.now (map plain_operand operands.now)) ∷ []) }
     ensures stack { body.new.stack ≡ body.old.stack }
     ensures names { body.new.coming ≡ body.old.coming }
 {
-    let words = import_line(alloc, &bound, global, fields, args.as_slice())?;
+    let args = to_exprs(alloc, operands)?;
+    let words = import_line(alloc, &bound, parts, operands)?;
     body.ahead(Stmt::Embedded(adapter, args, bound, words))
 }
 
@@ -69,20 +69,16 @@ pub fn call_import(
     adapter: u32,
     params: usize,
     has_result: bool,
-    global: &Text,
-    fields: &[Text],
+    parts: &[Part],
 ) -> Result<(), AllocError>
-    ensures after { OnOk result (IsAfter (row_of (CallImport adapter params has_result global.now fields.now) []
-        body.old) body.old
-        body.new) }
+    ensures after { OnOk result (IsAfter (row_of (CallImport adapter params has_result parts.now) [] body.old) body.old body.new) }
 {
     let operands = pop_operands(alloc, &mut body.stack, params)?;
-    let args = to_exprs(alloc, &operands)?;
     if has_result {
         let bound = body.temporary(alloc)?;
-        embed(alloc, body, adapter, Some(bound), global, fields, args)?;
+        embed(alloc, body, adapter, Some(bound), parts, &operands)?;
         Ok(())
     } else {
-        embed(alloc, body, adapter, None, global, fields, args)
+        embed(alloc, body, adapter, None, parts, &operands)
     }
 }

@@ -6,6 +6,7 @@
 //! statements of `glue_tree` and on the scopes of `glue_scope`.
 #![tactic(auto)]
 
+mod arguments;
 mod binding;
 mod body;
 mod calls;

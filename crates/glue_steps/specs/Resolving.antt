@@ -10,15 +10,14 @@ use Rattle.wasm_core.specs.Contents.{Contents}
 use Rattle.glue_shared.specs.declared.adapter.Adapter.{Adapter}
 use Rattle.glue_shared.specs.declared.adapter.AdapterKind.{AdapterKind}
 use Rattle.glue_shared.specs.declared.adapter.AdapterKind.TheVariants as kinds
-use Rattle.glue_shared.specs.declared.adapter.AdapterJsImportKind.TheVariants as calls
+use Rattle.glue_shared.specs.declared.adapter.AdapterJsImportKind.{AdapterJsImportKind}
 use Rattle.glue_shared.specs.declared.adapter.Instruction.{Instruction}
 use Rattle.glue_shared.specs.declared.adapter.Instruction.TheVariants as instr
 use Rattle.glue_shared.specs.declared.import.AuxImport.{AuxImport}
-use Rattle.glue_shared.specs.declared.import.AuxImport.TheVariants as imports
-use Rattle.glue_shared.specs.declared.import.AuxValue.TheVariants as values
-use Rattle.glue_shared.specs.declared.import.JsImportName.{JsImportName}
-use Rattle.glue_shared.specs.declared.import.JsImportName.TheVariants as names
 use Rattle.glue_shared.specs.declared.description.Lowered.{Lowered}
+use Rattle.glue_shared.specs.Names.{has_number}
+use Rattle.glue_imports.specs.declared.part.Part.{Part}
+use Rattle.glue_imports.specs.Expressions.{expression}
 use Rattle.glue_steps.specs.declared.step.Step.{Step}
 use Rattle.glue_steps.specs.declared.step.Step.TheVariants as steps
 
@@ -53,22 +52,25 @@ call_of m name (items.Tag tag) = None
 abbrev pub export_step : Contents → ℕ → Option Step
 export_step m id = option_and_then (λ (e : Export). call_of m e.name e.item) (entry_at m.exports id)
 
--- the call of a function that the host names
-abbrev pub host_step : ℕ → Adapter → JsImportName → List (List ℕ) → Option Step
-host_step id a (names.Global name) fields = Some (steps.CallImport id (length a.args) (is_some_item a.results) name fields)
-host_step id a other fields = None
+-- the call of an import adapter of these parts
+abbrev pub parts_step : ℕ → Adapter → List Part → Step
+parts_step id a parts = steps.CallImport id (length a.args) (is_some_item a.results) parts
 
-abbrev pub import_step_of : ℕ → Adapter → AuxImport → Option Step
-import_step_of id a (imports.Value (values.Bare js)) = host_step id a js.name js.fields
-import_step_of id a other = None
+-- the last argument of the import adapter is spread
+abbrev pub is_spread : Lowered → ℕ → Bool
+is_spread l id = has_number id l.aux.imports_with_variadic
+
+-- the call of an import adapter that is called in this way, by what it is described as
+abbrev pub import_step_of : Lowered → ℕ → Adapter → AdapterJsImportKind → AuxImport → Option Step
+import_step_of l id a call what = option_map (parts_step id a) (expression call (is_spread l id) (is_some_item a.results) what)
 
 -- what the description says of an import adapter
 abbrev pub described_import : List (ℕ × AuxImport) → ℕ → Option AuxImport
 described_import entries id = option_map (λ (e : ℕ × AuxImport). e.1) (find (λ (e : ℕ × AuxImport). e.0 == id) entries)
 
 abbrev pub called_import : Lowered → ℕ → Adapter → AdapterKind → Option Step
-called_import l id a (kinds.Import calls.Normal) = option_and_then (import_step_of id a) (described_import l.aux.imports id)
-called_import l id a other = None
+called_import l id a (kinds.Import call) = option_and_then (import_step_of l id a call) (described_import l.aux.imports id)
+called_import l id a (kinds.Local code) = None
 
 abbrev pub import_step : Lowered → ℕ → Option Step
 import_step l id = option_and_then (λ (a : Adapter). called_import l id a a.kind) (look_up nat_cmp l.wit.adapters id)

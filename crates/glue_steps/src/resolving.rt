@@ -5,10 +5,8 @@ ghost use Rattle.glue_steps.specs.Resolving as spec;
 
 use crate::indexed::Indexed;
 use crate::step::Step;
-use glue_shared::{
-    Adapter, AdapterId, AdapterJsImportKind, AdapterKind, AuxImport, AuxValue, Instruction,
-    JsImport, JsImportName,
-};
+use glue_imports::{Part, expression};
+use glue_shared::{Adapter, AdapterId, AdapterJsImportKind, AdapterKind, AuxImport, Instruction};
 use std::alloc::{AllocError, Global};
 use values::{Duplicate, Seq, Text};
 use wasm_core::{Export, ExportId, ExportItem, FuncId, FuncType, Module};
@@ -55,43 +53,37 @@ fn export_step(alloc: Global, module: &Module, id: ExportId) -> Result<Option<St
     }
 }
 
-// The call of a function that the host names.
-fn host_step(
-    alloc: Global,
-    id: AdapterId,
-    adapter: &Adapter,
-    js: &JsImport,
-) -> Result<Option<Step>, AllocError>
-    ensures step { IfOk result (λ step. step ≡ spec.host_step id adapter.now js.now.name js.now.fields) }
+// The call of an import adapter of these parts.
+fn parts_step(id: AdapterId, adapter: &Adapter, parts: Seq<Part>) -> Step
+    ensures step { result ≡ spec.parts_step id adapter.now parts }
 {
-    match &js.name {
-        JsImportName::Global { name } => Ok(Some(Step::CallImport {
-            adapter: id.0,
-            params: adapter.args.len(),
-            has_result: !adapter.results.is_empty(),
-            global: name.copy(alloc)?,
-            fields: js.fields.copy(alloc)?,
-        })),
-        _ => Ok(None),
+    Step::CallImport {
+        adapter: id.0,
+        params: adapter.args.len(),
+        has_result: !adapter.results.is_empty(),
+        parts,
     }
 }
 
-// The call of what an import adapter is described as.
+// The call of what an import adapter is described as, where its expression is built.
 fn described_step(
     alloc: Global,
+    indexed: &Indexed<'_>,
     id: AdapterId,
     adapter: &Adapter,
+    call: AdapterJsImportKind,
     import: &AuxImport,
 ) -> Result<Option<Step>, AllocError>
-    ensures step { IfOk result (λ step. step ≡ spec.import_step_of id adapter.now import.now) }
+    ensures step { IfOk result (λ step. step ≡ spec.import_step_of indexed.now id adapter.now call import.now) }
 {
-    match import {
-        AuxImport::Value(AuxValue::Bare(js)) => host_step(alloc, id, adapter, js),
-        _ => Ok(None),
+    let has_result = !adapter.results.is_empty();
+    match expression(alloc, call, indexed.is_spread(id), has_result, import)? {
+        None => Ok(None),
+        Some(parts) => Ok(Some(parts_step(id, adapter, parts))),
     }
 }
 
-// The call of an import adapter of this kind.
+// The call of an import adapter.
 fn called_import(
     alloc: Global,
     indexed: &Indexed<'_>,
@@ -101,9 +93,9 @@ fn called_import(
     ensures step { IfOk result (λ step. step ≡ spec.called_import indexed.now id adapter.now adapter.now.kind) }
 {
     match adapter.kind {
-        AdapterKind::Import(AdapterJsImportKind::Normal) => match indexed.described_import(id) {
+        AdapterKind::Import(call) => match indexed.described_import(id) {
             None => Ok(None),
-            Some(import) => described_step(alloc, id, adapter, import),
+            Some(import) => described_step(alloc, indexed, id, adapter, call, import),
         },
         _ => Ok(None),
     }

@@ -1,4 +1,5 @@
 //! The steps of an adapter.
+use glue_imports::Part;
 use values::{Seq, Text};
 
 /// A step of an adapter, with what its ids name.
@@ -17,7 +18,7 @@ pub enum Step {
         /// Whether it has a result, which is pushed.
         has_result: bool,
     },
-    /// Calls an import adapter, which calls a function that the host gives.
+    /// Calls an import adapter, which evaluates what its import is described as.
     CallImport {
         /// The adapter's id.
         adapter: u32,
@@ -25,10 +26,8 @@ pub enum Step {
         params: usize,
         /// Whether it has a result, which is pushed.
         has_result: bool,
-        /// The host's name.
-        global: Text,
-        /// The properties that lead from the name to the function.
-        fields: Seq<Text>,
+        /// The parts of the import's expression.
+        parts: Seq<Part>,
     },
     /// Reads the newest operand, a 32-bit integer from WebAssembly, as unsigned.
     ToUnsigned,

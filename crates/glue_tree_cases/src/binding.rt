@@ -1,10 +1,11 @@
 use crate::compare::assert_told;
 use glue_binding::bind;
+use glue_imports::Part;
 use glue_inputs::{printed, texts};
 use glue_scope::IdentScope;
 use glue_steps::Step;
 use std::alloc::{AllocError, Global};
-use values::Text;
+use values::{Seq, Text};
 
 /// Appends a step that passes on what is there, behind each of so many parameters.
 fn push_parameters(steps: &mut Vec<Step>, count: u32) -> Result<(), AllocError> {
@@ -138,12 +139,13 @@ const ITERATOR: Import = Import {
 
 fn import_call(alloc: Global, import: &Import) -> Result<Step, AllocError> {
     let fields = texts(alloc, import.fields)?;
+    let value = Part::Host(Text::from_str(alloc, import.global)?, fields);
+    let parts = vec![in alloc; value, Part::Arguments(false)]?;
     Ok(Step::CallImport {
         adapter: import.adapter,
         params: import.params as usize,
         has_result: import.has_result,
-        global: Text::from_str(alloc, import.global)?,
-        fields,
+        parts: Seq::from_vec(parts),
     })
 }
 

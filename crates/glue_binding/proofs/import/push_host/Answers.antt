@@ -2,9 +2,9 @@ use Rattle.std.proofs.Common.{false, ◌++◌, ◌∷◌, [], take, ap, ◌∙�
 use Rattle.std.proofs.lemmas.List.{take_all}
 use Rattle.glue_words.specs.declared.word.Word.TheVariants.{Host}
 use Rattle.glue_scope.specs.Properties.{property_parts}
-use Rattle.glue_binding.specs.Spelling.{path_words, import_words}
+use Rattle.glue_binding.specs.Spelling.{path_words}
 use Rattle.glue_binding.proofs.Stacks.{appended}
-use Rattle.glue_binding.proofs.import.push_import.Goals as goal
+use Rattle.glue_binding.proofs.import.push_host.Goals as goal
 
 pub loop-field-preserved : goal.loop-field-preserved
 loop-field-preserved c =
@@ -21,7 +21,7 @@ returns c =
       words = c.loop-field.invariant
           ∙ ap (λ l. l ++ passed) c.in_ok-push.ensures.ok
           ∙ append_assoc before (Host c.in_ok-copy.field-0 false ∷ []) passed
-          ∙ ap (λ fs. before ++ import_words c.in_ok-copy.field-0 fs)
+          ∙ ap (λ fs. before ++ (Host c.in_ok-copy.field-0 false ∷ path_words fs))
           (take_all c.loop-field.field-index fields c.loop-field-test.false)
-          ∙ ap (λ global. before ++ import_words global fields) c.in_ok-copy.ensures.equal;
+          ∙ ap (λ name. before ++ (Host name false ∷ path_words fields)) c.in_ok-copy.ensures.equal;
     }

@@ -1,0 +1,143 @@
+-- The names in the words of an import's expression: those of its parts, and those of the operands.
+use Rattle.std.proofs.Common.{◌≡◌, ℕ, pos, List, [], ◌∷◌, ◌++◌, refl, ap, sym, ◌∙◌, subst, Bool, true, false}
+use Rattle.std.proofs.lemmas.List.{append-nil}
+use Rattle.std.proofs.lemmas.List.Elements.{filter_map-append}
+use Rattle.std.specs.Prelude.{Option, None, codes, filter, ◌&&◌}
+use Rattle.std.specs.List.{filter_map, flat_map}
+use Rattle.glue_words.specs.declared.word.Word.{Word}
+use Rattle.glue_words.specs.declared.word.Word.TheVariants as w
+use Rattle.glue_words.specs.Limits.{is_computed}
+use Rattle.glue_words.specs.Names.{bound_name, bound_in, local_bound_name, local_name, wasm_name, local_bound_in, local_in, wasm_in}
+use Rattle.glue_words.specs.Functions.{parenthesised}
+use Rattle.glue_tree.specs.Spelling.{comma_unless, is_none}
+use Rattle.glue_tree.specs.FixedWords.{close_paren}
+use Rattle.glue_tree.proofs.Names.{IsKind}
+use Rattle.glue_scope.specs.Properties.{property_parts}
+use Rattle.glue_steps.specs.Stack.{below, item_at}
+use Rattle.glue_imports.specs.declared.part.Part.{Part}
+use Rattle.glue_imports.specs.declared.part.Part.TheVariants as part
+use Rattle.glue_binding.specs.Spelling.{Plain, Missing, Local, Unsigned, path_words, shift_words, plain_words, guarded_words, argument_words, arguments_words, part_words, expression_words}
+use Rattle.glue_binding.proofs.Paths.{TellsKeys, path_tells}
+
+-- the words from outside that a part brings along
+abbrev pub outer_part : Part → List Word
+outer_part (part.Host name fields) = w.Host name false ∷ path_words fields
+outer_part part.Exports = w.Refer (codes "wasm") false ∷ []
+outer_part (part.Property name) = property_parts name
+outer_part other = []
+
+-- those of parts
+abbrev pub outer_parts : List Part → List Word
+outer_parts parts = flat_map outer_part parts
+
+-- ---- names of a kind that locals have none of
+
+module _ (kind : Word → Option (List ℕ)) (is : IsKind kind) (local : (name : List ℕ) → kind (w.Local name) ≡ None) where
+  abbrev found : List Word → List (List ℕ)
+  found words = filter_map kind words
+
+  both_none : (xs ys : List Word) → found xs ≡ [] → found ys ≡ [] → found (xs ++ ys) ≡ []
+  both_none xs ys h k = filter_map-append kind xs ys ∙ ap (λ (ns : List (List ℕ)). ns ++ found ys) h ∙ k
+
+  shift_none : found shift_words ≡ []
+  shift_none = rw (is.gap (codes " "), is.punct 38, is.num (pos 0)) refl
+
+  operand_none : (p : Plain) → found (plain_words p) ≡ []
+  operand_none Missing = rw (is.key 27) refl
+  operand_none (Local name) = rw (local name) refl
+  operand_none (Unsigned p) = both_none (plain_words p) shift_words (operand_none p) shift_none
+
+  parens_none : (words : List Word) → found words ≡ [] → found (parenthesised words) ≡ []
+  parens_none words h = rw (is.punct 2) (both_none words (close_paren ∷ []) h (rw (is.punct 3) refl))
+
+  guarded_none : (p : Plain) → found (guarded_words p) ≡ []
+  guarded_none Missing = operand_none Missing
+  guarded_none (Local name) = operand_none (Local name)
+  guarded_none (Unsigned p) = parens_none (plain_words (Unsigned p)) (operand_none (Unsigned p))
+
+  argument_none : (spread : Bool) (p : Plain) → found (argument_words spread p) ≡ []
+  argument_none true p = rw (is.punct 12) (parens_none (plain_words p) (operand_none p))
+  argument_none false p = operand_none p
+
+  comma_none : (first : Bool) → found (comma_unless first) ≡ []
+  comma_none true = refl
+  comma_none false = rw (is.punct 7, is.gap (codes " ")) refl
+
+  arguments_none : (first spread : Bool) (ps : List Plain) → found (arguments_words first spread ps) ≡ []
+  arguments_none first spread [] = refl
+  arguments_none first spread (p ∷ ps) =
+      let last = spread && is_none ps in
+      both_none (comma_unless first) (argument_words last p ++ arguments_words false spread ps) (comma_none first)
+      (both_none (argument_words last p) (arguments_words false spread ps) (argument_none last p) (arguments_none false spread ps))
+
+  part_found : (args : List Plain) (p : Part) → found (part_words args p) ≡ found (outer_part p)
+  part_found args (part.Host name fields) = refl
+  part_found args part.Exports = refl
+  part_found args (part.Property name) = refl
+  part_found args (part.Literal text) = rw (is.text text) refl
+  part_found args (part.Punct place) = rw (is.punct place) refl
+  part_found args (part.Key place) = rw (is.key place) refl
+  part_found args part.Space = rw (is.gap (codes " ")) refl
+  part_found args (part.Operand n) = guarded_none (item_at Missing args n)
+  part_found args (part.Whole n) = operand_none (item_at Missing args n)
+  part_found args (part.Arguments spread) = parens_none (arguments_words true spread args) (arguments_none true spread args)
+  part_found args (part.OtherArguments spread) =
+      parens_none (arguments_words true spread (below args)) (arguments_none true spread (below args))
+
+  -- the words have the names that the parts bring along
+  pub expression_found : (args : List Plain) (parts : List Part) → found (expression_words parts args) ≡ found (outer_parts parts)
+  expression_found args [] = refl
+  expression_found args (p ∷ parts) =
+      filter_map-append kind (part_words args p) (expression_words parts args)
+      ∙ ap (λ (ns : List (List ℕ)). ns ++ found (expression_words parts args)) (part_found args p)
+      ∙ ap (λ (ns : List (List ℕ)). found (outer_part p) ++ ns) (expression_found args parts)
+      ∙ sym (filter_map-append kind (outer_part p) (outer_parts parts))
+
+-- ---- what parts bring along
+
+-- the access of a property tells nothing but a computed key
+pub property_tells : (name : List ℕ) → TellsKeys (property_parts name) (filter is_computed (name ∷ []))
+property_tells name =
+    subst (λ (words : List Word). TellsKeys words (filter is_computed (name ∷ []))) (append-nil (property_parts name)) (path_tells (name ∷ []))
+
+-- no names of a kind that neither parts nor properties have
+module _ (kind : Word → Option (List ℕ)) (none : (p : Part) → filter_map kind (outer_part p) ≡ []) where
+  parts_none : (parts : List Part) → filter_map kind (outer_parts parts) ≡ []
+  parts_none [] = refl
+  parts_none (p ∷ parts) =
+      filter_map-append kind (outer_part p) (outer_parts parts)
+      ∙ ap (λ (ns : List (List ℕ)). ns ++ filter_map kind (outer_parts parts)) (none p)
+      ∙ parts_none parts
+
+part_binds : (p : Part) → local_bound_in (outer_part p) ≡ []
+part_binds (part.Host name fields) = (path_tells fields).declares
+part_binds (part.Property name) = (property_tells name).declares
+part_binds other = refl
+
+part_uses : (p : Part) → local_in (outer_part p) ≡ []
+part_uses (part.Host name fields) = (path_tells fields).locals
+part_uses (part.Property name) = (property_tells name).locals
+part_uses other = refl
+
+part_takes : (p : Part) → wasm_in (outer_part p) ≡ []
+part_takes (part.Host name fields) = (path_tells fields).takes
+part_takes (part.Property name) = (property_tells name).takes
+part_takes other = refl
+
+part_declares : (p : Part) → bound_in (outer_part p) ≡ []
+part_declares (part.Host name fields) = (path_tells fields).binds
+part_declares (part.Property name) = (property_tells name).binds
+part_declares other = refl
+
+-- they declare no names, declare and use no locals, and take no exports
+pub parts_declare : (parts : List Part) → bound_in (outer_parts parts) ≡ []
+parts_declare = parts_none bound_name part_declares
+
+pub parts_bind : (parts : List Part) → local_bound_in (outer_parts parts) ≡ []
+parts_bind = parts_none local_bound_name part_binds
+
+pub parts_use : (parts : List Part) → local_in (outer_parts parts) ≡ []
+parts_use = parts_none local_name part_uses
+
+pub parts_take : (parts : List Part) → wasm_in (outer_parts parts) ≡ []
+parts_take = parts_none wasm_name part_takes

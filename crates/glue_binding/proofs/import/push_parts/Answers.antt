@@ -1,0 +1,13 @@
+use Rattle.std.proofs.Common.{◌++◌, map, ap, ◌∙◌}
+use Rattle.glue_binding.specs.Body.{plain_operand}
+use Rattle.glue_binding.specs.Spelling.{part_words}
+use Rattle.glue_binding.proofs.Stacks.{appended}
+use Rattle.glue_binding.proofs.import.push_parts.Goals as goal
+
+pub loop-part-preserved : goal.loop-part-preserved
+loop-part-preserved c =
+    let args = map plain_operand c.args.operands.now in
+    c.in_ok-push_part.ensures.words
+    ∙ ap (λ l. l ++ part_words args c.part-item.result) c.loop-part.invariant
+    ∙ appended (part_words args) c.args.parts.now c.loop-part.part-index c.part-item.result _
+    c.loop-part-test.true c.part-item.is
