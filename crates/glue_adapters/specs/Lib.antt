@@ -1,4 +1,5 @@
 pub mod Adapters
+pub mod Called
 pub mod Pairs
 pub mod Stack
 pub use Rattle.glue_steps.specs.Exported

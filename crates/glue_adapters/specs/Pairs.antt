@@ -28,6 +28,7 @@ use Rattle.glue_faults.specs.declared.fault.Fault.{Fault}
 use Rattle.glue_faults.specs.declared.fault.Fault.TheVariants as faults
 use Rattle.glue_faults.specs.First.{first_some, first_after}
 use Rattle.glue_adapters.specs.Adapters.{adapter_at, has_code, is_local, is_import, fits_outward, fits_inward}
+use Rattle.glue_adapters.specs.Called.{fits_import}
 use Rattle.glue_adapters.specs.Stack.{export_type}
 
 -- ---- the lists in which adapters stand
@@ -124,9 +125,9 @@ is_bad_export l pairs callbacks before e = is_repeated_export l pairs callbacks 
 
 -- ---- imports
 
--- the adapter is no call of an import
-unfoldable pub is_bad_entry : Lowered → ℕ × AuxImport → Bool
-is_bad_entry l entry = not (is_import (adapter_at l entry.0))
+-- no adapter calls the import as it asks for, where the last arguments of these adapters are spread
+unfoldable pub is_bad_entry : Lowered → List ℕ → ℕ × AuxImport → Bool
+is_bad_entry l spread entry = not (fits_import (has_number entry.0 spread) entry.1 (adapter_at l entry.0))
 
 -- ---- adapters in lists of ids
 
@@ -158,7 +159,7 @@ bad_exported l = option_map (λ e. e.adapter) (first_after (is_bad_export l (pai
 
 -- of the imports
 unfoldable pub bad_described : Lowered → Option ℕ
-bad_described l = option_map (λ entry. entry.0) (find (is_bad_entry l) l.aux.imports)
+bad_described l = option_map (λ entry. entry.0) (find (is_bad_entry l l.aux.imports_with_variadic) l.aux.imports)
 
 -- of the adapters whose throws are caught, and of those whose last argument is spread
 unfoldable pub bad_listed : Lowered → Option ℕ

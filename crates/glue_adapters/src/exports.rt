@@ -9,8 +9,7 @@ use crate::adapters::{has_code, is_import, is_local};
 use crate::stack::export_type;
 use glue_faults::IdSet;
 use glue_shared::{
-    Adapter, AdapterId, AuxExport, AuxExportKind, AuxExportedMethodKind, AuxImport,
-    AuxReceiverKind, Lowered,
+    Adapter, AdapterId, AuxExport, AuxExportKind, AuxExportedMethodKind, AuxReceiverKind, Lowered,
 };
 use std::alloc::{AllocError, Global};
 use values::{Seq, Text};
@@ -125,28 +124,6 @@ pub(crate) fn bad_callback(lowered: &Lowered, pairs: &IdSet) -> Option<AdapterId
         .iter()
         .find(|pair| is_bad_callback(lowered, pairs, pair))
         .map(|pair| pair.1)
-}
-
-// Whether the adapter of an entry is no call of an import.
-#[tactic(auto, unfolding(crate::specs::Pairs::is_bad_entry))]
-fn is_bad_entry(lowered: &Lowered, entry: &(AdapterId, AuxImport)) -> bool
-    ensures test { result ≡ spec.is_bad_entry lowered.now entry.now }
-{
-    !is_import(lowered, entry.0)
-}
-
-/// The adapter of the first entry whose adapter is no call of an import.
-#[tactic(auto, unfolding(crate::specs::Pairs::bad_described))]
-pub fn bad_entry(lowered: &Lowered) -> Option<AdapterId>
-    ensures bad { result ≡ spec.bad_described lowered.now }
-{
-    lowered
-        .aux
-        .imports
-        .as_slice()
-        .iter()
-        .find(|entry| is_bad_entry(lowered, entry))
-        .map(|entry| entry.0)
 }
 
 #[tactic(auto, unfolding(crate::specs::Pairs::lacks_code))]

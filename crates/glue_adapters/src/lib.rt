@@ -1,7 +1,7 @@
 //! What the adapters of a description have to be, and which of its imports have to be defined.
 //!
 //! `unsupported`, `bad_adapter` and `unbound_import` each answer the first fault of one kind, or none. Promised: exactly what
-//! `specs/Adapters.antt` and `specs/Pairs.antt` say, and nothing but want of memory fails. The kinds of values on an adapter's stack
+//! `specs/Adapters.antt`, `specs/Called.antt` and `specs/Pairs.antt` say, and nothing but want of memory fails. The kinds of values on an adapter's stack
 //! are tested by a table of what each instruction pops and pushes (`effect` in `specs/Stack.antt`); a further instruction is a line of
 //! the table and an arm of `instruction_effect`. Lists are compared by sets of numbers, so that the time is that of the lists' lengths.
 //!
@@ -9,6 +9,7 @@
 #![tactic(auto)]
 
 mod adapters;
+mod called;
 mod exports;
 mod kind;
 mod pairs;
@@ -16,7 +17,8 @@ mod stack;
 mod unbound;
 
 pub use adapters::unsupported;
-pub use exports::{bad_entry, bad_export};
+pub use called::bad_entry;
+pub use exports::bad_export;
 pub use kind::Kind;
 pub use pairs::bad_pair;
 pub use unbound::{bad_adapter, is_placeholder, unbound_import};

@@ -5,7 +5,8 @@ ghost use Rattle.glue_steps.specs.Resolving.{entry_at};
 ghost use Rattle.glue_adapters.specs.Pairs as spec;
 
 use crate::adapters::bad_code;
-use crate::exports::{bad_callback, bad_entry, bad_export, first_not_import, first_not_local};
+use crate::called::bad_entry;
+use crate::exports::{bad_callback, bad_export, first_not_import, first_not_local};
 use crate::pairs::bad_pair;
 use glue_faults::{Fault, IdSet};
 use glue_shared::{AdapterId, AuxImport, Lowered, Settings, own_imports};
@@ -126,7 +127,7 @@ fn bad_id(alloc: Global, lowered: &Lowered) -> Result<Option<AdapterId>, AllocEr
     if exported.is_some() {
         return Ok(exported);
     }
-    let described = bad_entry(lowered);
+    let described = bad_entry(alloc, lowered)?;
     if described.is_some() {
         return Ok(described);
     }

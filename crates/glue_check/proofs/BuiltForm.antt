@@ -20,12 +20,13 @@ use Rattle.glue_shared.specs.declared.settings.Target.TheVariants as targets
 use Rattle.glue_shared.specs.Names.{is_one_of, host_names, fixed_names}
 use Rattle.glue_adapters.specs.Resolving.{is_some_item}
 use Rattle.glue_faults.proofs.First.{where_true-none, list_any-none, neither}
-use Rattle.glue_adapters.specs.Adapters.{adapter_at, code_of}
+use Rattle.glue_adapters.specs.Adapters.{code_of}
 use Rattle.glue_adapters.specs.Pairs.{is_placeholder}
 use Rattle.glue_check.specs.declared.files.FileFlags.{FileFlags}
 use Rattle.glue_check.specs.declared.verdict.Condition.TheVariants as conditions
 use Rattle.glue_check.specs.Answers.{answer}
 use Rattle.glue_check.specs.Unbuilt as spec
+use Rattle.glue_imports.specs.Expressions.{has_expression}
 use Rattle.glue_check.specs.Unbuilt.{is_unbuilt_entry, is_unbuilt_export, is_unbuilt_adapter}
 use Rattle.glue_check.specs.Verdict.{unbuilt}
 use Rattle.glue_check.proofs.Conditions.{none_unbuilt}
@@ -95,31 +96,24 @@ pub record IsPlaceholder (i : Import) : Type 0 where
 -- the imports of the module and of the description, and the settings on them
 pub record AreBuiltImports (s : Settings) (l : Lowered) : Type 0 where
   pub placeholders : (i : Import) → IsIn (Some i) l.«module».imports → IsPlaceholder i
-  pub globals : (e : ℕ × AuxImport) → IsIn e l.aux.imports → is_some (spec.global_of e.1) ≡ true
-  pub functions : (e : ℕ × AuxImport) → IsIn e l.aux.imports → spec.is_special_call (adapter_at l e.0) ≡ false
-  pub none_spread : l.aux.imports_with_variadic ≡ []
+  pub expressions : (e : ℕ × AuxImport) → IsIn e l.aux.imports → has_expression e.1 ≡ true
   pub kept : s.omit_imports ≡ false
   pub joined : s.split_linked_modules ≡ false
 
 pub imports_built : (f : FileFlags) (s : Settings) (l : Lowered) → unbuilt f s l ≡ None → AreBuiltImports s l
 unfolding answer is_unbuilt_entry
 imports_built f s l h =
-    let forms = list_any spec.is_other_import l.«module».imports || list_any (is_unbuilt_entry l) l.aux.imports in
-    let lists = is_some_item l.aux.imports_with_variadic || is_some_item l.aux.static_slots in
+    let forms = list_any spec.is_other_import l.«module».imports || list_any is_unbuilt_entry l.aux.imports in
     let asked = s.omit_imports || s.split_linked_modules in
-    let all = neither forms (lists || asked) (where_true-none (forms || (lists || asked)) _ (none_unbuilt conditions.UnbuiltImports f s l (search rules) h)) in
-    let both = neither (list_any spec.is_other_import l.«module».imports) (list_any (is_unbuilt_entry l) l.aux.imports) all.0 in
-    let rest = neither lists asked all.1 in
-    let empty = neither (is_some_item l.aux.imports_with_variadic) (is_some_item l.aux.static_slots) rest.0 in
-    let set = neither s.omit_imports s.split_linked_modules rest.1 in
-    let form : (e : ℕ × AuxImport) → IsIn e l.aux.imports → (not (is_some (spec.global_of e.1)) ≡ false) × (spec.is_special_call (adapter_at l e.0) ≡ false) =
-    λ e i. neither (not (is_some (spec.global_of e.1))) (spec.is_special_call (adapter_at l e.0)) (list_any-none (is_unbuilt_entry l) l.aux.imports e both.1 i) in record {
+    let slots = is_some_item l.aux.static_slots in
+    let all = neither forms (slots || asked) (where_true-none (forms || (slots || asked)) _ (none_unbuilt conditions.UnbuiltImports f s l (search rules) h)) in
+    let both = neither (list_any spec.is_other_import l.«module».imports) (list_any is_unbuilt_entry l.aux.imports) all.0 in
+    let rest = neither slots asked all.1 in
+    let set = neither s.omit_imports s.split_linked_modules rest.1 in record {
       placeholders = λ i k.
           let p = and_parts (is_placeholder (Some i)) (spec.is_function i.kind) (not_false _ (list_any-none spec.is_other_import l.«module».imports (Some i) both.0 k)) in
           record { ours = p.0; function = p.1 };
-      globals = λ e i. not_false (is_some (spec.global_of e.1)) (form e i).0;
-      functions = λ e i. (form e i).1;
-      none_spread = nothing l.aux.imports_with_variadic empty.0;
+      expressions = λ e i. not_false (has_expression e.1) (list_any-none is_unbuilt_entry l.aux.imports e both.1 i);
       kept = set.0;
       joined = set.1;
     }

@@ -1,18 +1,21 @@
 -- A described global is a name of the outside.
-use Rattle.std.proofs.Common.{◌≡◌, ℕ, List, [], ◌∷◌, ◌++◌, map, Some, refl, ap, inl, inr, subst}
+use Rattle.std.proofs.Common.{◌≡◌, ℕ, List, [], ◌∷◌, ◌++◌, map, Option, Some, None, true, false, true≢false, ◌⊎◌, refl, sym, ap, inl, inr, subst}
 use Rattle.std.specs.List.{flat_map}
-use Rattle.values.specs.Lists.{IsIn}
+use Rattle.std.specs.Prelude.{is_some, option_map, option_and_then}
+use Rattle.values.specs.Lists.{IsIn, IsAway}
 use Rattle.values.proofs.Members.{in_left, in_right}
 use Rattle.glue_shared.specs.declared.import.AuxImport.{AuxImport}
 use Rattle.glue_shared.specs.declared.import.AuxImport.TheVariants as what
 use Rattle.glue_shared.specs.declared.import.AuxValue.TheVariants as value
+use Rattle.glue_shared.specs.declared.import.JsImport.{JsImport}
 use Rattle.glue_shared.specs.declared.import.JsImportName.{JsImportName}
 use Rattle.glue_shared.specs.declared.import.JsImportName.TheVariants as js
 use Rattle.glue_shared.specs.declared.description.Lowered.{Lowered}
 use Rattle.glue_shared.specs.declared.settings.Settings.{Settings}
 use Rattle.glue_shared.specs.declared.names.TheConstants.{HOSTS}
 use Rattle.glue_shared.specs.Names.{names_of, js_import, described_names, described_hosts, target_hosts, inspect_names, host_names}
-use Rattle.glue_check.specs.Unbuilt.{global_of, global_name}
+use Rattle.glue_imports.specs.Expressions.{global_name, has_expression}
+use Rattle.glue_check.specs.Unbuilt.{global_of}
 
 pub in_flat : {A B : Type 0} (f : A → List B) (xs : List A) (x : A) (y : B) → IsIn x xs → IsIn y (f x) → IsIn y (flat_map f xs)
 in_flat f [] x y i k = absurd i
@@ -28,8 +31,11 @@ global_is (js.VendorPrefixed g prefixes) name h = cc
 
 -- an import of a global names it, and nothing else
 pub global_named : (w : AuxImport) (name : List ℕ) → global_of w ≡ Some name → names_of (js_import w) ≡ js.Global name ∷ []
-global_named (what.Value (value.Bare j)) name h = ap (λ n. n ∷ []) (global_is j.name name h)
-global_named other name h = cc
+global_named w name h = by (js_import w) h
+  where
+    by : (j : Option JsImport) → option_and_then (λ (j : JsImport). global_name j.name) j ≡ Some name → names_of j ≡ js.Global name ∷ []
+    by None h = cc
+    by (Some j) h = ap (λ n. n ∷ []) (global_is j.name name h)
 
 -- it is a name of the outside
 
@@ -41,3 +47,41 @@ global_host s l e i name h =
     in_right name (map (λ w. w.now) HOSTS) (target_hosts s.target ++ (described ++ inspect_names s l.aux))
     (in_right name (target_hosts s.target) (described ++ inspect_names s l.aux)
     (in_left name described (inspect_names s l.aux) (in_flat (described_hosts s.omit_imports) (described_names l.aux) (js.Global name) name here (inl refl))))
+
+-- an import names no value, or a global, or a property of one
+abbrev NamesGlobal : AuxImport → Type 0
+NamesGlobal w = (names_of (js_import w) ≡ []) ⊎ ((name : List ℕ) × (global_of w ≡ Some name))
+
+mapped_some : {A B : Type 0} (f : A → B) (o : Option A) → is_some (option_map f o) ≡ true → (x : A) × (o ≡ Some x)
+mapped_some f None h = absurd (true≢false (sym h))
+mapped_some f (Some x) h = (x, refl)
+
+-- each with an expression does
+named_global : (w : AuxImport) → has_expression w ≡ true → NamesGlobal w
+named_global (what.Value (value.Bare j)) h = inr (mapped_some _ (global_name j.name) h)
+named_global (what.Value other) h = absurd (true≢false (sym h))
+named_global (what.ValueWithThis j name) h = inr (mapped_some _ (global_name j.name) h)
+named_global (what.Instanceof j) h = absurd (true≢false (sym h))
+named_global (what.Static j true) h = absurd (true≢false (sym h))
+named_global (what.Static j false) h = inr (mapped_some _ (global_name j.name) h)
+named_global (what.StructuralClassGetter j name) h = inr (mapped_some _ (global_name j.name) h)
+named_global (what.StructuralClassSetter j name) h = inr (mapped_some _ (global_name j.name) h)
+named_global (what.IndexingGetterOfClass j) h = inr (mapped_some _ (global_name j.name) h)
+named_global (what.IndexingSetterOfClass j) h = inr (mapped_some _ (global_name j.name) h)
+named_global (what.IndexingDeleterOfClass j) h = inr (mapped_some _ (global_name j.name) h)
+named_global other h = inl refl
+
+-- an import names no value, or a global that is none of these names
+abbrev pub NamesAway : List (List ℕ) → AuxImport → Type 0
+NamesAway names w = (names_of (js_import w) ≡ []) ⊎ ((name : List ℕ) × (global_of w ≡ Some name) × IsAway name names)
+
+-- where each global that it names is none of them
+pub named_away : (names : List (List ℕ)) (w : AuxImport) → has_expression w ≡ true
+    → ((name : List ℕ) → global_of w ≡ Some name → IsAway name names) → NamesAway names w
+named_away names w e h = elim (named_global w e) [ inl none ↦ inl none | inr g ↦ inr (g.0, g.1, h g.0 g.1) ]
+
+-- and of others, where these are away from them
+pub away_too : (names others : List (List ℕ)) (w : AuxImport) → NamesAway names w
+    → ((name : List ℕ) → IsAway name names → IsAway name others) → NamesAway others w
+away_too names others w (inl none) h = inl none
+away_too names others w (inr g) h = inr (g.0, g.1, h g.0 g.2)

@@ -5,6 +5,7 @@ pub mod ExportNames
 pub mod FaultKinds
 pub mod Globals
 mod OwnNames
+mod Operands
 pub mod OwnPairs
 pub mod Passed
 pub mod PublicNames

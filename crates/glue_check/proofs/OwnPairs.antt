@@ -24,7 +24,8 @@ use Rattle.glue_shared.specs.Names.{is_from_module, is_none, is_whole_name, entr
 use Rattle.glue_adapters.specs.Resolving.{entry_at}
 use Rattle.glue_adapters.specs.Pairs.{implemented, is_id, is_fixed_kind, is_fixed_import}
 use Rattle.glue_check.specs.declared.files.FileFlags.{FileFlags}
-use Rattle.glue_check.specs.Unbuilt.{global_of, global_name, is_function}
+use Rattle.glue_imports.specs.Expressions.{global_name, has_expression}
+use Rattle.glue_check.specs.Unbuilt.{is_function}
 use Rattle.glue_check.specs.Verdict.{unbuilt, verdict}
 use Rattle.glue_check.proofs.BuiltForm.{imports_built, no_rethrow}
 use Rattle.glue_check.proofs.Passed.{pairs_fit, distinct_places, imports_bound}
@@ -78,24 +79,29 @@ module _ (own : ℕ → Import → Bool) where
     | inr later ↦ next from place x is (stood (from + 1) is place later)
   ]
 
--- ---- no import is handed on, since each is described as a global
+-- ---- no import is handed on, since each that names a value names a global
 
 last_false : (a b : Bool) → b ≡ false → (a && b) ≡ false
 last_false true b h = h
 last_false false b h = refl
 
-whole_no : (w : AuxImport) → is_some (global_of w) ≡ true → is_whole_name (Some w) ≡ false
-whole_no (what.Value (value.Bare j)) h = name_no j.name h
-  where
-    name_no : (n : JsImportName) → is_some (global_name n) ≡ true → (is_from_module n && is_none j.fields) ≡ false
-    name_no (js.Global g) h = refl
-    name_no (js.Module from g) h = absurd (true≢false (sym h))
-    name_no (js.LocalModule from g) h = absurd (true≢false (sym h))
-    name_no (js.InlineJs from index g) h = absurd (true≢false (sym h))
-    name_no (js.VendorPrefixed g prefixes) h = absurd (true≢false (sym h))
-whole_no other h = absurd (true≢false (sym h))
+name_no : (n : JsImportName) (fields : List (List ℕ)) → is_some (global_name n) ≡ true → (is_from_module n && is_none fields) ≡ false
+name_no (js.Global g) fields h = refl
+name_no (js.Module from g) fields h = absurd (true≢false (sym h))
+name_no (js.LocalModule from g) fields h = absurd (true≢false (sym h))
+name_no (js.InlineJs from index g) fields h = absurd (true≢false (sym h))
+name_no (js.VendorPrefixed g prefixes) fields h = absurd (true≢false (sym h))
 
-entry_no : (id : ℕ) (entries : List (ℕ × AuxImport)) → ((e : ℕ × AuxImport) → IsIn e entries → is_some (global_of e.1) ≡ true) → is_whole_name (entry_of id entries) ≡ false
+-- the value that an import with an expression names is that of a global
+mapped : {A B : Type 0} (f : A → B) (o : Option A) → is_some (option_map f o) ≡ true → is_some o ≡ true
+mapped f None h = absurd (true≢false (sym h))
+mapped f (Some x) h = refl
+
+whole_no : (w : AuxImport) → has_expression w ≡ true → is_whole_name (Some w) ≡ false
+whole_no (what.Value (value.Bare j)) h = name_no j.name j.fields (mapped _ (global_name j.name) h)
+whole_no other h = refl
+
+entry_no : (id : ℕ) (entries : List (ℕ × AuxImport)) → ((e : ℕ × AuxImport) → IsIn e entries → has_expression e.1 ≡ true) → is_whole_name (entry_of id entries) ≡ false
 entry_no id [] h = refl
 entry_no id (e ∷ entries) h =
     chosen (e.0 == id) (find (λ (x : ℕ × AuxImport). x.0 == id) entries) (whole_no e.1 (h e (inl refl))) (entry_no id entries (λ x i. h x (inr i)))
@@ -110,7 +116,7 @@ module _ (f : FileFlags) (s : Settings) (l : Lowered) (built : unbuilt f s l ≡
   callee_no None = refl
   callee_no (Some callee) =
       last_false (is_normal_call (look_up nat_cmp l.wit.adapters callee)) (not (has_number callee l.aux.imports_with_variadic) && is_whole_name (entry_of callee l.aux.imports))
-      (last_false (not (has_number callee l.aux.imports_with_variadic)) (is_whole_name (entry_of callee l.aux.imports)) (entry_no callee l.aux.imports (imports_built f s l built).globals))
+      (last_false (not (has_number callee l.aux.imports_with_variadic)) (is_whole_name (entry_of callee l.aux.imports)) (entry_no callee l.aux.imports (imports_built f s l built).expressions))
 
   direct_no : (adapter : ℕ) → is_direct s l.wit l.aux adapter ≡ false
   direct_no adapter =

@@ -76,7 +76,7 @@ pub record AreFit (l : Lowered) : Type 0 where
   pub coded : (e : ℕ × Adapter) → IsIn e l.wit.adapters → is_bad_code l (pairs.paired l) e ≡ false
   pub paired : first_after (is_bad_pair l (pairs.described l)) [] l.wit.implements ≡ None
   pub exported : first_after (is_bad_export l (pairs.paired l) (pairs.called_back l)) [] l.aux.exports ≡ None
-  pub entries : (e : ℕ × AuxImport) → IsIn e l.aux.imports → pairs.is_bad_entry l e ≡ false
+  pub entries : (e : ℕ × AuxImport) → IsIn e l.aux.imports → pairs.is_bad_entry l l.aux.imports_with_variadic e ≡ false
 
 pub fit_adapters : (s : Settings) (l : Lowered) → verdict s l ≡ None → AreFit l
 unfolding answer bad_id bad_local bad_paired bad_exported bad_described
@@ -86,11 +86,11 @@ fit_adapters s l h =
     let code = find (is_bad_code l (pairs.paired l)) l.wit.adapters in
     let pair = first_after (is_bad_pair l (pairs.described l)) [] l.wit.implements in
     let export = first_after (is_bad_export l (pairs.paired l) (pairs.called_back l)) [] l.aux.exports in
-    let entry = find (pairs.is_bad_entry l) l.aux.imports in record {
+    let entry = find (pairs.is_bad_entry l l.aux.imports_with_variadic) l.aux.imports in record {
       coded = λ e i. find-none (is_bad_code l (pairs.paired l)) l.wit.adapters e (option_map-none (λ (e : ℕ × Adapter). e.0) code (some-none answers (bad_local l) none (inl refl))) i;
       paired = option_map-none (λ (p : ImportId × ℕ). p.1) pair (some-none answers (bad_paired l) none (inr (inl refl)));
       exported = option_map-none (λ (e : AuxExport). e.adapter) export (some-none answers (bad_exported l) none (inr (inr (inr (inl refl)))));
-      entries = λ e i. find-none (pairs.is_bad_entry l) l.aux.imports e (option_map-none (λ (e : ℕ × AuxImport). e.0) entry (some-none answers (bad_described l) none (inr (inr (inr (inr (inl refl))))))) i;
+      entries = λ e i. find-none (pairs.is_bad_entry l l.aux.imports_with_variadic) l.aux.imports e (option_map-none (λ (e : ℕ × AuxImport). e.0) entry (some-none answers (bad_described l) none (inr (inr (inr (inr (inl refl))))))) i;
     }
 
 -- ---- exports

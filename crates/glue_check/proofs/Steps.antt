@@ -1,6 +1,6 @@
 -- Each adapter that becomes a function has steps, and what each step names is there: where the places of instructions on the stack are
 -- checked and all is built.
-use Rattle.std.proofs.Common.{◌≡◌, ℕ, zero, suc, ◌==◌, List, [], ◌∷◌, map, arith, true, false, Option, Some, None, true≢false, refl, sym, inl, inr}
+use Rattle.std.proofs.Common.{◌≡◌, ℕ, zero, suc, ◌==◌, List, [], ◌∷◌, map, arith, true, false, Option, Some, None, true≢false, refl, sym, ◌∙◌, Bool, inl, inr}
 use Rattle.std.specs.Prelude.{option_and_then, IsSomeAnd}
 use Rattle.std.specs.List.{AllByRecursion, list_any, list_all, filter_map, find}
 use Rattle.std.specs.Option.{is_some}
@@ -11,44 +11,47 @@ use Rattle.wasm_core.specs.ids.ImportId.{ImportId}
 use Rattle.wasm_core.specs.entries.Export.{Export}
 use Rattle.glue_words.specs.Ident.{is_ident}
 use Rattle.glue_shared.specs.declared.adapter.Adapter.{Adapter}
+use Rattle.glue_shared.specs.declared.adapter.AdapterJsImportKind.{AdapterJsImportKind}
 use Rattle.glue_shared.specs.declared.adapter.Instruction.{Instruction}
 use Rattle.glue_shared.specs.declared.adapter.Instruction.TheVariants as instr
 use Rattle.glue_shared.specs.declared.aux.AuxExport.{AuxExport}
 use Rattle.glue_shared.specs.declared.import.AuxImport.{AuxImport}
-use Rattle.glue_shared.specs.declared.import.{AuxImport.TheVariants.Value, AuxValue.TheVariants.Bare}
 use Rattle.glue_shared.specs.declared.description.Lowered.{Lowered}
 use Rattle.glue_shared.specs.declared.settings.Settings.{Settings}
 use Rattle.glue_shared.specs.Names.{has_number, host_names}
 use Rattle.glue_adapters.specs.step.Step.{Step}
 use Rattle.glue_adapters.specs.step.Step.TheVariants.{CallExport, CallImport, TakeIndex, IndexFromBorrow, UnwrapResult}
-use Rattle.glue_adapters.specs.Resolving.{entry_at, export_step, import_step, step_of, steps_of, adapter_steps}
+use Rattle.glue_adapters.specs.Resolving.{entry_at, is_some_item, export_step, is_spread, import_step_of, import_step, step_of, steps_of, adapter_steps}
 use Rattle.glue_adapters.specs.Exported.{export_name, export_names}
 use Rattle.glue_adapters.specs.declared.kind.Kind.{Kind}
 use Rattle.glue_adapters.specs.Adapters.{adapter_at, code_of, has_code, is_import, is_import_call, is_described_call, fits_outward, fits_inward}
 use Rattle.glue_adapters.specs.Pairs.{described}
 use Rattle.glue_adapters.specs.Stack.{js_kinds, export_type, call_effect, effect, stack_after, leaves, is_well_stacked}
 use Rattle.glue_check.specs.declared.files.FileFlags.{FileFlags}
-use Rattle.glue_check.specs.Unbuilt.{global_of, is_special_call, is_unbuilt_instruction}
+use Rattle.glue_imports.specs.declared.part.Part.{Part}
+use Rattle.glue_imports.specs.Expressions.{expression}
+use Rattle.glue_imports.proofs.Any.{any_call}
+use Rattle.glue_check.specs.Unbuilt.{global_of, is_unbuilt_instruction}
 use Rattle.glue_check.specs.Verdict.{unbuilt, verdict}
 use Rattle.glue_check.proofs.BuiltForm.{AreBuiltImports, imports_built, adapters_built}
 use Rattle.glue_check.proofs.Globals.{global_host}
 use Rattle.glue_check.proofs.Passed.{exports_fit, pairs_fit, looked_up, global_ident}
 
--- the properties that lead from the described name to what is called
-abbrev pub fields_of : AuxImport → List (List ℕ)
-fields_of (Value (Bare js)) = js.fields
-fields_of other = []
-
--- these are the properties of a described import
-pub record IsPath (l : Lowered) (fields : List (List ℕ)) : Type 0 where
+-- parts of the expression of a described import, whose global is an identifier and a name of the outside
+pub record AreDescribed (s : Settings) (l : Lowered) (parts : List Part) : Type 0 where
   pub entry : ℕ × AuxImport
   pub among : IsIn entry l.aux.imports
-  pub is : fields_of entry.1 ≡ fields
+  pub call : AdapterJsImportKind
+  pub spread : Bool
+  pub bound : Bool
+  pub is : expression call spread bound entry.1 ≡ Some parts
+  pub ident : (name : List ℕ) → global_of entry.1 ≡ Some name → is_ident name ≡ true
+  pub host : (name : List ℕ) → global_of entry.1 ≡ Some name → IsIn name (host_names s l.aux)
 
--- what a step names is there: an export of the module, or a global of the outside with the properties of a described import
+-- what a step names is there: an export of the module, or the expression of a described import
 abbrev pub IsThere : Settings → Lowered → Step → Type 0
 IsThere s l (CallExport name n has_result) = IsIn name (export_names l.«module»)
-IsThere s l (CallImport adapter n has_result global fields) = (is_ident global ≡ true) × IsIn global (host_names s l.aux) × IsPath l fields
+IsThere s l (CallImport adapter n has_result parts) = AreDescribed s l parts
 IsThere s l TakeIndex = ⊥
 IsThere s l IndexFromBorrow = ⊥
 IsThere s l UnwrapResult = ⊥
@@ -82,20 +85,32 @@ module _ (s : Settings) (l : Lowered) where
   called_export : (id : ℕ) → is_some (option_and_then call_effect (export_type l.«module» id)) ≡ true → IsSomeAnd (export_step l.«module» id) (IsThere s l)
   called_export id h = let named = export_named l.«module».exports id in grind arith
 
-  -- a global with its properties that a step may call
-  abbrev IsHosted : ℕ × AuxImport → Type 0
-  IsHosted e = IsSomeAnd (global_of e.1) (λ name. (is_ident name ≡ true) × IsIn name (host_names s l.aux) × IsPath l (fields_of e.1))
+  -- an entry gives a step, however its adapter calls it
+  abbrev HasStep : ℕ → ℕ × AuxImport → Type 0
+  HasStep id e = (a : Adapter) (call : AdapterJsImportKind) → IsSomeAnd (import_step_of l id a call e.1) (IsThere s l)
 
-  -- a call of a described import adapter is that of a global
+  entry_step : AreBuiltImports s l → verdict s l ≡ None → (id : ℕ) (e : ℕ × AuxImport) → IsIn e l.aux.imports → HasStep id e
+  entry_step built passed id e i a call =
+      let spread = is_spread l id in
+      let bound = is_some_item a.results in
+      let g = some_of (expression call spread bound e.1) (any_call call spread bound e.1 ∙ built.expressions e i) in
+      rw g.1 (record {
+        entry = e;
+        among = i;
+        call = call;
+        spread = spread;
+        bound = bound;
+        is = g.1;
+        ident = λ name h. global_ident s l passed e i name h;
+        host = λ name h. global_host s l e i name h;
+      })
+
+  -- a call of a described import adapter is a step
   called_adapter : AreBuiltImports s l → verdict s l ≡ None → (id : ℕ) → is_described_call l (described l) (instr.CallAdapter id) ≡ true
       → IsSomeAnd (import_step l id) (IsThere s l)
   called_adapter built passed id h =
       let p = and_parts (is_import (adapter_at l id)) (has_number id (described l)) h in
-      let e = first_has (λ e. IsHosted e × (is_special_call (adapter_at l id) ≡ false)) id l.aux.imports p.1 (λ e i own.
-      let g = some_of (global_of e.1) (built.globals e i) in (
-        rw g.1 (global_ident s l passed e i g.0 g.1, global_host s l e i g.0 g.1, record { entry = e; among = i; is = refl }),
-        rw own at (built.functions e i),
-      )) in grind arith
+      let e = first_has (HasStep id) id l.aux.imports p.1 (λ e i own. entry_step built passed id e i) in grind arith
 
   -- an instruction that is built, with an effect and an import that is described, is a step
   called : AreBuiltImports s l → verdict s l ≡ None → (params : List Kind) (i : Instruction)

@@ -1,5 +1,5 @@
 -- What isn't built yet: each kind of it by a name.
-use Rattle.std.specs.Prelude.{ℕ, nat_eq, Bool, true, false, not, ◌&&◌, ◌||◌, is_some, List, codes, Option, Some, None}
+use Rattle.std.specs.Prelude.{ℕ, nat_eq, Bool, true, false, not, ◌&&◌, ◌||◌, is_some, List, codes, Option, Some, None, option_and_then}
 use Rattle.std.specs.List.{list_any, list_all, starts_with}
 use Rattle.wasm_core.specs.declared.types.Func.{Func}
 use Rattle.wasm_core.specs.declared.types.Import.{Import}
@@ -7,9 +7,6 @@ use Rattle.wasm_core.specs.declared.types.ImportKind.{ImportKind}
 use Rattle.wasm_core.specs.declared.types.ImportKind.TheVariants as import_kinds
 use Rattle.glue_words.specs.Ident.{is_ident}
 use Rattle.glue_shared.specs.declared.adapter.Adapter.{Adapter}
-use Rattle.glue_shared.specs.declared.adapter.AdapterKind.{AdapterKind}
-use Rattle.glue_shared.specs.declared.adapter.AdapterKind.TheVariants as kinds
-use Rattle.glue_shared.specs.declared.adapter.AdapterJsImportKind.TheVariants as calls
 use Rattle.glue_shared.specs.declared.adapter.AdapterType.{AdapterType}
 use Rattle.glue_shared.specs.declared.adapter.AdapterType.TheVariants as types
 use Rattle.glue_shared.specs.declared.adapter.Instruction.{Instruction}
@@ -18,20 +15,18 @@ use Rattle.glue_shared.specs.declared.aux.AuxExport.{AuxExport}
 use Rattle.glue_shared.specs.declared.aux.AuxExportKind.{AuxExportKind}
 use Rattle.glue_shared.specs.declared.aux.AuxExportKind.TheVariants as export_kinds
 use Rattle.glue_shared.specs.declared.import.AuxImport.{AuxImport}
-use Rattle.glue_shared.specs.declared.import.AuxImport.TheVariants as imports
-use Rattle.glue_shared.specs.declared.import.AuxValue.TheVariants as values
-use Rattle.glue_shared.specs.declared.import.JsImportName.{JsImportName}
-use Rattle.glue_shared.specs.declared.import.JsImportName.TheVariants as names
+use Rattle.glue_shared.specs.declared.import.JsImport.{JsImport}
 use Rattle.glue_shared.specs.declared.description.Lowered.{Lowered}
 use Rattle.glue_shared.specs.declared.settings.Settings.{Settings}
 use Rattle.glue_shared.specs.declared.settings.Target.{Target}
 use Rattle.glue_shared.specs.declared.settings.Target.TheVariants as targets
-use Rattle.glue_shared.specs.Names.{is_one_of, host_names, fixed_names}
+use Rattle.glue_shared.specs.Names.{is_one_of, js_import, host_names, fixed_names}
+use Rattle.glue_imports.specs.Expressions.{global_name, has_expression}
 use Rattle.glue_adapters.specs.Resolving.{is_some_item}
 use Rattle.glue_faults.specs.declared.fault.Fault.{Fault}
 use Rattle.glue_faults.specs.declared.fault.Fault.TheVariants as faults
 use Rattle.glue_faults.specs.First.{where_true}
-use Rattle.glue_adapters.specs.Adapters.{adapter_at, code_of}
+use Rattle.glue_adapters.specs.Adapters.{code_of}
 use Rattle.glue_adapters.specs.Pairs.{is_placeholder}
 use Rattle.glue_check.specs.declared.files.FileFlags.{FileFlags}
 
@@ -56,36 +51,19 @@ abbrev pub is_other_import : Option Import → Bool
 is_other_import None = false
 is_other_import (Some i) = not (is_placeholder (Some i) && is_function i.kind)
 
--- the global that an import is described as
-abbrev pub global_name : JsImportName → Option (List ℕ)
-global_name (names.Global name) = Some name
-global_name other = None
-
+-- the global whose value, or a property of which, an import names
 abbrev pub global_of : AuxImport → Option (List ℕ)
-global_of (imports.Value (values.Bare js)) = global_name js.name
-global_of other = None
+global_of what = option_and_then (λ (js : JsImport). global_name js.name) (js_import what)
 
--- a call of an import as a method or as a constructor
-abbrev pub is_special_kind : AdapterKind → Bool
-is_special_kind (kinds.Local code) = false
-is_special_kind (kinds.Import calls.Normal) = false
-is_special_kind (kinds.Import calls.Method) = true
-is_special_kind (kinds.Import calls.Constructor) = true
-
--- an adapter is called as a method or as a constructor
-abbrev pub is_special_call : Option Adapter → Bool
-is_special_call None = false
-is_special_call (Some a) = is_special_kind a.kind
-
--- an import that is described as something else than a global that is called
-unfoldable pub is_unbuilt_entry : Lowered → ℕ × AuxImport → Bool
-is_unbuilt_entry l entry = not (is_some (global_of entry.1)) || is_special_call (adapter_at l entry.0)
+-- an import whose expression isn't built
+unfoldable pub is_unbuilt_entry : ℕ × AuxImport → Bool
+is_unbuilt_entry entry = not (has_expression entry.1)
 
 -- imports of another form, or settings that change them
 abbrev pub unbuilt_imports : Settings → Lowered → Option Fault
 unbuilt_imports settings l = where_true (
-    (list_any is_other_import l.«module».imports || list_any (is_unbuilt_entry l) l.aux.imports)
-    || ((is_some_item l.aux.imports_with_variadic || is_some_item l.aux.static_slots) || (settings.omit_imports || settings.split_linked_modules))
+    (list_any is_other_import l.«module».imports || list_any is_unbuilt_entry l.aux.imports)
+    || (is_some_item l.aux.static_slots || (settings.omit_imports || settings.split_linked_modules))
     ) (faults.NotBuilt (codes "imports"))
 
 -- ---- exports

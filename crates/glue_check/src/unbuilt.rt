@@ -11,10 +11,11 @@ use crate::files::FileFlags;
 use crate::taken::{with_fixed, with_hosts};
 use glue_adapters::is_placeholder;
 use glue_faults::{Fault, not_built};
+use glue_imports::{global_name, has_expression};
 use glue_scope::{IdentScope, Names};
 use glue_shared::{
-    Adapter, AdapterId, AdapterJsImportKind, AdapterKind, AdapterType, AuxExport, AuxExportKind,
-    AuxImport, AuxValue, Instruction, JsImportName, Lowered, Settings, Target,
+    Adapter, AdapterId, AdapterKind, AdapterType, AuxExport, AuxExportKind, AuxImport, Instruction,
+    Lowered, Settings, Target, js_import,
 };
 use glue_words::is_valid_ident;
 use std::alloc::{AllocError, Global};
@@ -53,45 +54,19 @@ fn is_other_import(import: &Option<Import>) -> bool
     }
 }
 
-fn global_name(name: &JsImportName) -> Option<&Text>
-    ensures name { option_copied result ≡ spec.global_name name.now }
-{
-    match name {
-        JsImportName::Global { name } => Some(name),
-        _ => None,
-    }
-}
-
-/// The global that an import is described as.
+/// The global whose value, or a property of which, an import names.
 pub(crate) fn global_of(import: &AuxImport) -> Option<&Text>
     ensures name { option_copied result ≡ spec.global_of import.now }
 {
-    match import {
-        AuxImport::Value(AuxValue::Bare(js)) => global_name(&js.name),
-        _ => None,
-    }
+    global_name(&js_import(import)?.name)
 }
 
-// Whether an adapter is called as a method or as a constructor.
-fn is_special_call(adapter: Option<&Adapter>) -> bool
-    ensures test { result ≡ spec.is_special_call (option_copied adapter.entry) }
-{
-    match adapter {
-        None => false,
-        Some(adapter) => match adapter.kind {
-            AdapterKind::Import(AdapterJsImportKind::Method)
-            | AdapterKind::Import(AdapterJsImportKind::Constructor) => true,
-            AdapterKind::Import(AdapterJsImportKind::Normal) | AdapterKind::Local(_) => false,
-        },
-    }
-}
-
-// Whether an import is described as something else than a global that is called.
+// Whether the expression of an import isn't built.
 #[tactic(auto, unfolding(crate::specs::Unbuilt::is_unbuilt_entry))]
-fn is_unbuilt_entry(lowered: &Lowered, entry: &(AdapterId, AuxImport)) -> bool
-    ensures test { result ≡ spec.is_unbuilt_entry lowered.now entry.now }
+fn is_unbuilt_entry(entry: &(AdapterId, AuxImport)) -> bool
+    ensures test { result ≡ spec.is_unbuilt_entry entry.now }
 {
-    global_of(&entry.1).is_none() || is_special_call(lowered.wit.adapters.get(&entry.0))
+    !has_expression(&entry.1)
 }
 
 // Whether an import isn't one of those that are built.
@@ -102,14 +77,14 @@ fn has_other_import(imports: &[Option<Import>]) -> bool
 }
 
 fn has_unbuilt_entry(lowered: &Lowered) -> bool
-    ensures test { result ≡ list_any (spec.is_unbuilt_entry lowered.now) lowered.now.aux.imports }
+    ensures test { result ≡ list_any spec.is_unbuilt_entry lowered.now.aux.imports }
 {
     lowered
         .aux
         .imports
         .as_slice()
         .iter()
-        .any(|entry| is_unbuilt_entry(lowered, entry))
+        .any(|entry| is_unbuilt_entry(entry))
 }
 
 /// That imports of this form aren't built. Want of memory is the only error.
@@ -122,7 +97,6 @@ pub(crate) fn unbuilt_imports(
 {
     let asked = has_other_import(lowered.module.imports())
         || has_unbuilt_entry(lowered)
-        || !lowered.aux.imports_with_variadic.is_empty()
         || !lowered.aux.static_slots.is_empty()
         || settings.omit_imports
         || settings.split_linked_modules;

@@ -1,0 +1,92 @@
+//! How an import is called: in which way, with a spread argument, and with a result.
+use crate::checking::{Case, assert_cases};
+use crate::described::Edit;
+use crate::modules::ADD;
+use std::alloc::AllocError;
+
+/// What the import is described as.
+const GETTER: Edit = (
+    r#"["Bare",{"global":"console","fields":["log"]}]"#,
+    r#"["StructuralGetter","x"]"#,
+);
+
+const METHOD: Edit = (
+    r#"["Bare",{"global":"console","fields":["log"]}]"#,
+    r#"["StructuralMethod","x"]"#,
+);
+
+const WITH_THIS: Edit = (
+    r#"["Bare",{"global":"console","fields":["log"]}]"#,
+    r#"["ValueWithThis",{"global":"g"},"x"]"#,
+);
+
+/// How it is called.
+const AS_METHOD: Edit = ("normal", "method");
+
+const AS_CONSTRUCTOR: Edit = ("normal", "constructor");
+
+/// The last argument of the import adapter is spread, or of the one that stands for the import.
+const SPREAD: Edit = (r#""version":1"#, r#""version":1,"variadic":[2]"#);
+
+const SPREAD_CODE: Edit = (r#""version":1"#, r#""version":1,"variadic":[1]"#);
+
+/// An import adapter more, with nothing to spread.
+const SPREAD_NOTHING: Edit = (
+    r#""import":"normal"}],"#,
+    r#""import":"normal"},{"id":3,"import":"normal"}],"variadic":[3],"#,
+);
+
+/// The same of one that takes and gives an integer.
+const GIVING: Edit = (
+    r#""import":"normal"}],"#,
+    r#""import":"normal"},{"id":3,"args":["s32"],"results":["s32"],"import":"normal"}],"#,
+);
+
+/// What it is described as.
+const VALUE: Edit = (
+    r#""fields":["log"]}]}"#,
+    r#""fields":["log"]}]},{"adapter":3,"what":["Bare",{"global":"g"}]}"#,
+);
+
+const THROW: Edit = (
+    r#""fields":["log"]}]}"#,
+    r#""fields":["log"]}]},{"adapter":3,"what":["Intrinsic","Throw"]}"#,
+);
+
+const RETHROW: Edit = (
+    r#""fields":["log"]}]}"#,
+    r#""fields":["log"]}]},{"adapter":3,"what":["Intrinsic","Rethrow"]}"#,
+);
+
+const NEGATED: Edit = (
+    r#""fields":["log"]}]}"#,
+    r#""fields":["log"]}]},{"adapter":3,"what":["Intrinsic","Neg"]}"#,
+);
+
+const CASES: &[Case] = &[
+    // In which way.
+    (ADD, &[AS_METHOD], ""),
+    (ADD, &[AS_CONSTRUCTOR], ""),
+    (ADD, &[GETTER], ""),
+    (ADD, &[GETTER, AS_METHOD], "BadAdapter 2"),
+    (ADD, &[GETTER, AS_CONSTRUCTOR], "BadAdapter 2"),
+    (ADD, &[WITH_THIS, AS_METHOD], "BadAdapter 2"),
+    // With a spread argument.
+    (ADD, &[SPREAD], ""),
+    (ADD, &[WITH_THIS, SPREAD], ""),
+    (ADD, &[GETTER, SPREAD], "BadAdapter 2"),
+    (ADD, &[METHOD], ""),
+    (ADD, &[METHOD, SPREAD], "BadAdapter 2"),
+    (ADD, &[SPREAD_CODE], "BadAdapter 1"),
+    (ADD, &[SPREAD_NOTHING, VALUE], "BadAdapter 3"),
+    (ADD, &[GIVING, VALUE], ""),
+    // With a result.
+    (ADD, &[GIVING, NEGATED], ""),
+    (ADD, &[GIVING, THROW], "BadAdapter 3"),
+    (ADD, &[GIVING, RETHROW], "BadAdapter 3"),
+];
+
+#[test]
+fn an_import_is_called_as_its_kind_allows(rt: HostRuntime) -> Result<(), AllocError> {
+    assert_cases(&rt, rt.alloc(), CASES)
+}
