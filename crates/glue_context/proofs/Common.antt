@@ -12,7 +12,7 @@ pub use Rattle.glue_check.specs.Unbuilt.{global_of}
 unfoldable pub use Rattle.glue_check.specs.Verdict.{unbuilt, verdict}
 pub use Rattle.glue_check.specs.declared.files.FileFlags.{FileFlags}
 pub use Rattle.glue_check.proofs.BuiltForm.{IsBuiltExport}
-pub use Rattle.glue_check.proofs.Steps.{HasSteps, IsPath, IsThere, fields_of, some_of}
+pub use Rattle.glue_check.proofs.Steps.{HasSteps, AreDescribed, IsThere, some_of}
 pub use Rattle.glue_steps.specs.Exported.{export_name, export_names}
 pub use Rattle.glue_context.specs.Defined.{IsDefined, defined_by, defined_places}
 pub use Rattle.glue_context.specs.Edits.{AreFit, with_added, with_moved}

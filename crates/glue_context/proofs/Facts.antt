@@ -1,7 +1,7 @@
 -- What is known of a description whose items are made, however it was checked, and that the check gives it.
 use Rattle.glue_context.proofs.Common.{◌≡◌, true, arith, list_all, is_bindable, is_definable, ℕ, List, [], map, false, None, Some, IsIn, IsAway, AreDistinct, ImportId, AuxExport, AuxImport, Settings, Deno, Lowered, fixed_names, own_imports, IsBuiltExport, HasSteps, global_of, FileFlags, unbuilt, verdict}
 use Rattle.glue_check.proofs.{BuiltForm.target_built, BuiltForm.settings_built, BuiltForm.imports_built, BuiltForm.exports_built, BuiltForm.only_functions}
-use Rattle.glue_check.proofs.{ExportNames.distinct_functions, ExportNames.names_of, OwnPairs.own_pairs, Passed.global_apart, Passed.pairs_fit, Steps.export_steps, Steps.pair_steps, Steps.some_of}
+use Rattle.glue_check.proofs.{ExportNames.distinct_functions, ExportNames.names_of, OwnPairs.own_pairs, Passed.global_apart, Passed.pairs_fit, Steps.export_steps, Steps.pair_steps, Globals.NamesAway, Globals.named_away}
 use Rattle.glue_context.proofs.Lists.{all_by}
 
 -- the places of imports that adapters implement
@@ -19,11 +19,11 @@ pub record Facts (s : Settings) (l : Lowered) : Type 0 where
   -- the imports of pairs are the own ones
   pub paired : (place : ℕ) → IsIn place (own_imports s l.«module» l.wit l.aux) → IsIn place (places_of l.wit.implements)
   pub own : (place : ℕ) → IsIn place (places_of l.wit.implements) → IsIn place (own_imports s l.«module» l.wit l.aux)
-  -- nothing but functions is published, and globals alone are imported, which the file doesn't bind itself
+  -- nothing but functions is published, and values of globals alone are imported, which the file doesn't bind itself
   pub structs : l.aux.structs ≡ []
   pub enums : l.aux.enums ≡ []
   pub reexports : l.aux.reexports ≡ []
-  pub globals : (e : ℕ × AuxImport) → IsIn e l.aux.imports → (name : List ℕ) × (global_of e.1 ≡ Some name) × IsAway name (fixed_names s l.«module»)
+  pub globals : (e : ℕ × AuxImport) → IsIn e l.aux.imports → NamesAway (fixed_names s l.«module») e.1
   -- each export is a function that may be declared, and its adapter and that of each pair has steps
   pub exports : (e : AuxExport) → IsIn e l.aux.exports → IsBuiltExport s l e
   pub export_steps : (e : AuxExport) → IsIn e l.aux.exports → HasSteps s l e.adapter
@@ -46,7 +46,7 @@ built f s l whole passed =
       structs = only.structs;
       enums = only.enums;
       reexports = only.reexports;
-      globals = λ e k. let g = some_of (global_of e.1) (imports.globals e k) in (g.0, g.1, global_apart s l passed e k g.0 g.1);
+      globals = λ e k. named_away (fixed_names s l.«module») e.1 (imports.expressions e k) (global_apart s l passed e k);
       exports = exports_built f s l whole;
       export_steps = export_steps f s l whole passed;
       pair_steps = pair_steps f s l whole passed;

@@ -1,5 +1,6 @@
 -- What the check of a description gives of its exports and imports: their items belong into the file, and what they declare and publish.
-use Rattle.glue_context.proofs.Common.{◌≡◌, ℕ, List, [], ◌∷◌, ◌++◌, Bool, true, false, refl, ◌∙◌, subst, arith, rules, AllByRecursion, codes, list_all, list_any, filter_map-append, AreAmong, IsIn, in_left, ImportId, Item, bound_name, bound_in, used_in, hosted_in, wasm_in, spliced_in, is_export_key, Context, Belongs, IsFrame, is_exported, published_by, Step, AuxExport, AuxImport, Settings, Lowered, host_names, export_names, IsDeclareItem, IsDefineItem, IsFunctionOf, declaration_front, declaration_back, definition_front, definition_back, IsBuiltExport, IsThere, IsPath, HasSteps, fields_of}
+use Rattle.glue_context.proofs.Common.{◌≡◌, ℕ, List, [], ◌∷◌, ◌++◌, Bool, true, false, refl, ◌∙◌, subst, arith, rules, AllByRecursion, codes, list_all, list_any, filter_map-append, AreAmong, IsIn, in_left, ImportId, Item, bound_name, bound_in, used_in, hosted_in, wasm_in, spliced_in, is_export_key, Context, Belongs, IsFrame, is_exported, published_by, Step, AuxExport, AuxImport, Settings, Lowered, host_names, export_names, IsDeclareItem, IsDefineItem, IsFunctionOf, declaration_front, declaration_back, definition_front, definition_back, IsBuiltExport, IsThere, AreDescribed, HasSteps, HOSTS, map}
+use Rattle.std.proofs.Common.{append_assoc, ap}
 use Rattle.std.specs.Prelude.{filter}
 use Rattle.std.proofs.lemmas.{List.Folds.list_any-append, List.Folds.list_all-append}
 use Rattle.glue_words.specs.declared.item.Thing.TheVariants as thing
@@ -7,13 +8,19 @@ use Rattle.glue_words.specs.declared.word.Word.{Word}
 use Rattle.glue_words.specs.Limits.{is_computed}
 use Rattle.glue_words.specs.Spacing.{joins}
 use Rattle.glue_words.specs.Tables.{punct_text}
-use Rattle.glue_words.proofs.Among.{apart_none, among_both, among_by, among_in, among_itself, among_left}
+use Rattle.glue_words.proofs.Among.{apart_none, among_both, among_by, among_left}
 use Rattle.glue_tree.proofs.Fit.{is_inner}
 use Rattle.glue_targets.proofs.FixedTexts.{call_takes}
 use Rattle.glue_binding.specs.Spelling.{path_words}
 use Rattle.glue_binding.proofs.Fits.{step_fit}
-use Rattle.glue_binding.proofs.Outside.{outside_of}
-use Rattle.glue_binding.proofs.Paths.{path_tells}
+use Rattle.glue_binding.proofs.Outside.{outside_words, outside_of}
+use Rattle.glue_steps.specs.declared.step.Step.TheVariants.{CallImport}
+use Rattle.glue_binding.proofs.Parts.{outer_parts, property_tells, parts_declare}
+use Rattle.glue_binding.proofs.Paths.{TellsKeys, path_tells}
+use Rattle.glue_scope.specs.Properties.{property_parts}
+use Rattle.glue_imports.specs.declared.part.Part.{Part}
+use Rattle.glue_imports.specs.declared.part.Part.TheVariants as part
+use Rattle.glue_context.proofs.Expressions.{HasPart, expression_fit, expression_has}
 use Rattle.glue_binding.proofs.Linked.{StandsBeside, bound_local, bound_resolved, bound_keyed, bound_alone, bound_exported, bound_inner, bound_binds}
 use Rattle.glue_check.proofs.Globals.{in_flat}
 use Rattle.glue_context.specs.Edits.{has_start}
@@ -22,9 +29,16 @@ use Rattle.glue_context.specs.Keys.{described_keys, import_properties, imported_
 -- ---- what steps bring along
 
 -- no step declares a name of the file
+step_binds : (step : Step) → bound_in (outside_words step) ≡ []
+step_binds (CallImport adapter n has_result parts) = parts_declare parts
+step_binds other = refl
+
 binds_none : (steps : List Step) → bound_in (outside_of steps) ≡ []
 binds_none [] = refl
-binds_none (step ∷ steps) = let rest = binds_none steps in grind (arith, filter_map-append, path_tells)
+binds_none (step ∷ steps) =
+    filter_map-append bound_name (outside_words step) (outside_of steps)
+    ∙ ap (λ (ns : List (List ℕ)). ns ++ bound_in (outside_of steps)) (step_binds step)
+    ∙ binds_none steps
 
 -- a file has the names that words use
 abbrev HasNames : Context → List Word → Type 0
@@ -32,10 +46,21 @@ HasNames c words =
     AreAmong (used_in words) c.declared × AreAmong (hosted_in words) c.hosts × AreAmong (wasm_in words) c.exports
     × AreAmong (spliced_in words) c.keys × (list_all is_computed (spliced_in words) ≡ true)
 
--- the words of fields use nothing but their computed keys
-has_path : (c : Context) (fields : List (List ℕ)) (words : List Word) → AreAmong (filter is_computed fields) c.keys → HasNames c words → HasNames c (path_words fields ++ words)
-has_path c fields words keys h =
-    let k = path_tells fields in grind (arith, filter_map-append, list_all-append, among_both)
+-- the words of fields, and of a property, use nothing but their computed keys
+has_keys : (c : Context) (found words : List Word) (keys : List (List ℕ)) → TellsKeys found keys → AreAmong keys c.keys → HasNames c words → HasNames c (found ++ words)
+has_keys c found words keys k among h = grind (arith, filter_map-append, list_all-append, among_both)
+
+-- a file has the names that parts of an expression use
+has_parts : (c : Context) (parts : List Part) (words : List Word) → AllByRecursion (HasPart c) parts → HasNames c words → HasNames c (outer_parts parts ++ words)
+has_parts c [] words k h = h
+has_parts c (part.Host name fields ∷ parts) words k h =
+    let rest = has_keys c (path_words fields) (outer_parts parts ++ words) (filter is_computed fields) (path_tells fields) k.0.1 (has_parts c parts words k.1 h) in
+    rw (append_assoc (path_words fields) (outer_parts parts) words) (rest.0, (k.0.0, rest.1), rest.2, rest.3, rest.4)
+has_parts c (part.Exports ∷ parts) words k h = let rest = has_parts c parts words k.1 h in ((k.0, rest.0), rest.1, rest.2, rest.3, rest.4)
+has_parts c (part.Property name ∷ parts) words k h =
+    rw (append_assoc (property_parts name) (outer_parts parts) words)
+    (has_keys c (property_parts name) (outer_parts parts ++ words) (filter is_computed (name ∷ [])) (property_tells name) k.0 (has_parts c parts words k.1 h))
+has_parts c (other ∷ parts) words k h = has_parts c parts words k.1 h
 
 -- what passes a test among items passes it among more items
 passes_in : {A : Type 0} (test : A → Bool) (x : A) (ys : List A) → test x ≡ true → IsIn x ys → IsIn x (filter test ys)
@@ -45,10 +70,6 @@ passes_in test x (y ∷ ys) q k = let rest = passes_in test x ys q in grind arit
 kept_in : {A : Type 0} (test : A → Bool) (xs ys : List A) → AreAmong xs ys → AreAmong (filter test xs) (filter test ys)
 kept_in test [] ys h = tt
 kept_in test (x ∷ xs) ys h = let rest = kept_in test xs ys h.1 in let here = passes_in test x ys in grind arith
-
--- the fields of a global are the properties that its import names
-fields_named : (what : AuxImport) → AreAmong (fields_of what) (import_properties what)
-fields_named what = grind (arith, among_itself)
 
 module _ (s : Settings) (l : Lowered) where
   -- the names of a file of the description, with these declared
@@ -60,32 +81,51 @@ module _ (s : Settings) (l : Lowered) where
     declared = declared;
   }
 
-  -- the computed keys of a described path are described
-  path_described : (fields : List (List ℕ)) → IsPath l fields → AreAmong (filter is_computed fields) (described_keys l.aux)
-  path_described fields p =
-      let e = p.entry in
+  -- the computed keys of a described import are described
+  keys_described : (e : ℕ × AuxImport) → IsIn e l.aux.imports → AreAmong (filter is_computed (import_properties e.1)) (described_keys l.aux)
+  keys_described e i =
       let all = imported_properties l.aux in
       let rest = other_properties l.aux in
-      let named = among_by (fields_of e.1) all (λ x k. in_flat (λ (e : ℕ × AuxImport). import_properties e.1) l.aux.imports e x p.among
-      (among_in x (fields_of e.1) (import_properties e.1) (fields_named e.1) k)) in
-      kept_in is_computed fields (all ++ rest) (subst (λ fs. AreAmong fs (all ++ rest)) p.is (among_left (fields_of e.1) all rest named))
+      let named = among_by (import_properties e.1) all (λ x k. in_flat (λ (e : ℕ × AuxImport). import_properties e.1) l.aux.imports e x i k) in
+      kept_in is_computed (import_properties e.1) (all ++ rest) (among_left (import_properties e.1) all rest named)
+
+  -- names that expressions use beside those that are described
+  fixed_hosts : AreAmong (codes "undefined" ∷ codes "Error" ∷ codes "Uint8Array" ∷ []) (host_names s l.aux)
+  unfolding host_names
+  fixed_hosts =
+      let used = codes "undefined" ∷ codes "Error" ∷ codes "Uint8Array" ∷ [] in
+      let known : AreAmong used (map (λ w. w.now) HOSTS) = grind arith in
+      among_left used (map (λ w. w.now) HOSTS) _ known
 
   abbrev AreThere : List Step → Type 0
   AreThere = AllByRecursion (IsThere s l)
 
   -- where what each step names is there, a file that declares `wasm` has the names of the steps
   module _ (declared : List (List ℕ)) (wasm : IsIn (codes "wasm") declared) where
+    described_parts : (parts : List Part) → AreDescribed s l parts → AllByRecursion (HasPart (names_with declared)) parts
+    described_parts parts d = expression_has (names_with declared) d.call d.spread d.bound d.entry.1 parts (record {
+      host = d.host;
+      keys = keys_described d.entry d.among;
+      undefined = fixed_hosts.0;
+      error = fixed_hosts.1.0;
+      array = fixed_hosts.1.1.0;
+      exports = wasm;
+    }) d.is
+
     has_names : (steps : List Step) → AreThere steps → HasNames (names_with declared) (outside_of steps)
     has_names [] h = (tt, tt, tt, tt, refl)
     has_names (step ∷ steps) h =
         let k = has_names steps h.1 in
-        let path = λ (fields : List (List ℕ)) (p : IsPath l fields). has_path (names_with declared) fields (outside_of steps) (path_described fields p) k in
+        let parts = λ (parts : List Part) (d : AreDescribed s l parts). has_parts (names_with declared) parts (outside_of steps) (described_parts parts d) k in
         grind (arith, in_left)
 
   -- and their texts are spaced
   are_fit : (steps : List Step) → AreThere steps → list_all step_fit steps ≡ true
   are_fit [] h = refl
-  are_fit (step ∷ steps) h = let rest = are_fit steps h.1 in grind arith
+  are_fit (step ∷ steps) h =
+      let rest = are_fit steps h.1 in
+      let fit = λ (parts : List Part) (d : AreDescribed s l parts). expression_fit d.call d.spread d.bound d.entry.1 parts d.ident d.is in
+      grind arith
 
 -- ---- the item of a function, with words before and behind it
 

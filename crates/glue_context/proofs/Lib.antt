@@ -1,5 +1,6 @@
 mod Common
 mod Edited
+mod Expressions
 pub mod Facts
 mod Fits
 mod Lists

@@ -6,6 +6,7 @@ use Rattle.glue_words.specs.declared.item.Thing.TheVariants.{Adapter}
 use Rattle.glue_words.proofs.{Among.among_in, Among.among_itself, Among.among_right, Among.among_trans, Among.apart_both, Among.apart_by, Among.apart_joined, Among.apart_swap, Fitting.linked_by_words, Fitting.belongs_by_facts, Fitting.declared_are}
 use Rattle.glue_targets.proofs.FixedTexts as fixed
 use Rattle.glue_check.proofs.ExportNames.{names_of as public_names}
+use Rattle.glue_check.proofs.Globals.{NamesAway, away_too, global_named}
 use Rattle.glue_context.specs.Edits.{has_start}
 use Rattle.glue_context.specs.Keys.{described_keys}
 use Rattle.glue_context.proofs.{Facts.Facts, Facts.places_of, Facts.built, Fits.names_with, Fits.declare_belongs, Fits.declare_binds, Fits.declare_publishes, Fits.define_belongs, Fits.define_binds, Fits.define_exported, Lists.arranged_from, Lists.moved_from, Lists.distinct_moved, Lists.all_are, Lists.each_is, Lists.flat_none, Lists.each_any, Lists.each_item, Lists.given, Edited.moved_keeps, Edited.rewritten_exports}
@@ -54,11 +55,12 @@ import0_in zero = inl (ap (λ ds. codes "import" ++ ds) (sym (decimal_digit 0 (o
 import0_in (suc n) = inr (import0_in n)
 
 -- what described globals bring is away from names that they are away from
-described_apart : (ys : List (List ℕ)) (entries : List (ℕ × AuxImport))
-    → ((e : ℕ × AuxImport) → IsIn e entries → (name : List ℕ) × (global_of e.1 ≡ Some name) × IsAway name ys)
+described_apart : (ys : List (List ℕ)) (entries : List (ℕ × AuxImport)) → ((e : ℕ × AuxImport) → IsIn e entries → NamesAway ys e.1)
     → AreApart (flat_map (described_hosts false) (flat_map (λ (e : ℕ × AuxImport). names_of (js_import e.1)) entries)) ys
 described_apart ys [] h = tt
-described_apart ys (e ∷ entries) h = let rest = described_apart ys entries (λ x k. h x (inr k)) in let here = h e (inl refl) in grind arith
+described_apart ys (e ∷ entries) h =
+    let rest = described_apart ys entries (λ x k. h x (inr k)) in
+    elim (h e (inl refl)) [ inl none ↦ rw none rest | inr g ↦ rw (global_named e.1 g.0 g.1) (g.2, rest) ]
 
 module _ (s : Settings) (l : Lowered) (items : List Item) (b : Facts s l) (g : IsGlue s l items) where
   abbrev all : List Item
@@ -96,7 +98,7 @@ module _ (s : Settings) (l : Lowered) (items : List Item) (b : Facts s l) (g : I
       let public : (ys : List (List ℕ)) → ((e : AuxExport) → IsBuiltExport s l e → IsAway e.name ys) → AreApart names ys =
       λ ys away. apart_by names ys (each_is (λ y. IsAway y ys) names (All-map (λ y. IsAway y ys) (λ (e : AuxExport). e.name) g.exports
       (all_are (λ (e : AuxExport). IsAway e.name ys) g.exports (λ e k. away e (b.exports e (arranged_from g.by_name e k)))))) in
-      let globals = described_apart fixed_bound l.aux.imports (λ e k. let g = b.globals e k in (g.0, g.1, no_bound g.0 g.2)) in
+      let globals = described_apart fixed_bound l.aux.imports (λ e k. away_too (fixed_names s l.«module») fixed_bound e.1 (b.globals e k) no_bound) in
       let outside : AreApart fixed_bound c.hosts =
       rw hosts_are (apart_joined fixed_bound (map (λ w. w.now) HOSTS) _ fixed_apart.1 (apart_swap _ fixed_bound globals)) in
       let k = linked_by_words c all (sym bound)
