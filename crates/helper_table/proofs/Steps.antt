@@ -1,0 +1,92 @@
+-- Steps of loops over texts, words and names.
+use Rattle.std.proofs.Common.{◌≡◌, ℕ, ◌+◌, ◌<◌, ◌^◌, List, [], ◌∷◌, ◌++◌, length, take, get_or, map, refl, sym, ap, subst, ◌∙◌, arith, zero, suc}
+use Rattle.std.proofs.Common.{Result, Ok, Err, IfOk, inl, inr}
+use Rattle.std.specs.Prelude.{Option, Some, None, MatchOption, All}
+use Rattle.std.specs.List.{cons_option}
+use Rattle.std.specs.Fmt.{decimal}
+use Rattle.std.proofs.lemmas.List.{take_more}
+use Rattle.std.proofs.lemmas.List.Elements.{filter_map-append}
+use denote.Ref.{Bor}
+use Rattle.values.specs.Lists.{IsIn, IsAway}
+use Rattle.values.proofs.Members.{in_either}
+use Rattle.glue_words.specs.declared.word.Word.{Word}
+use Rattle.glue_words.specs.Names.{bound_name, bound_in}
+use Rattle.helper_set.proofs.Entries.{all_found}
+use Rattle.helper_table.specs.declared.parts.HelperParts.{HelperParts}
+use Rattle.helper_table.specs.Names.{printed}
+use Rattle.helper_table.specs.Made.{count}
+use Rattle.helper_table.specs.Closed.{keyed, needed_helpers}
+use Rattle.helper_table.specs.Laws.{read_printed}
+use Rattle.helper_table.specs.Prints.{cancel}
+
+-- the answer of a call, seen as another value
+pub onto : {A E : Type 0} (r : Result A E) (x y : A) → x ≡ y → IfOk r (λ v. v ≡ x) → IfOk r (λ v. v ≡ y)
+onto (Ok v) x y e h = h ∙ e
+onto (Err v) x y e h = tt
+
+-- the text at a place
+pub text_at : (texts : List (Bor (List ℕ))) (i : ℕ) (d : Bor (List ℕ)) → i < length texts → (get_or texts i d).now ≡ get_or (map (λ t. t.now) texts) i []
+text_at [] i d lt = absurd (omega (arith, lt))
+text_at (t ∷ texts) zero d lt = refl
+text_at (t ∷ texts) (suc i) d lt = text_at texts i d (omega (arith, lt))
+
+-- a number behind a stem
+abbrev IsNumber : (List ℕ → Type 0) → (ℕ → List ℕ) → Option ℕ → Type 0
+IsNumber Is text found = MatchOption found ((n : ℕ) → n < 2 ^ 32 → Is (text n) → ⊥) (λ n. (n < 2 ^ 32) × Is (text n))
+
+behind_case : (stem rest name : List ℕ) (found : Option ℕ) → name ≡ stem ++ rest → IsNumber (λ x. rest ≡ x) decimal found
+    → IsNumber (λ x. name ≡ x) (λ n. printed stem (Some n)) found
+behind_case stem rest name None is h = λ n small e. h n small (cancel stem rest (decimal n) (sym is ∙ e))
+behind_case stem rest name (Some n) is h = (h.0, is ∙ ap (λ (x : List ℕ). stem ++ x) h.1)
+
+pub behind_stem : {E : Type 0} (stem rest name : List ℕ) (r : Result (Option ℕ) E) → name ≡ stem ++ rest → IfOk r (IsNumber (λ x. rest ≡ x) decimal)
+    → IfOk r (IsNumber (λ x. name ≡ x) (λ n. printed stem (Some n)))
+behind_stem stem rest name (Ok found) is h = behind_case stem rest name found is h
+behind_stem stem rest name (Err e) is h = tt
+
+-- ---- words that declare a name
+
+here : (name : List ℕ) (o : Option (List ℕ)) (rest : List (List ℕ)) → o ≡ Some name → IsIn name (cons_option o rest)
+here name o rest e = subst (λ (p : Option (List ℕ)). IsIn name (cons_option p rest)) (sym e) (inl refl)
+
+later : (name : List ℕ) (o : Option (List ℕ)) (rest : List (List ℕ)) → IsIn name rest → IsIn name (cons_option o rest)
+later name None rest h = h
+later name (Some other) rest h = inr h
+
+pub declared_in : (words : List Word) (i : ℕ) (w : Word) (name : List ℕ) → i < length words → w ≡ get_or words i w → bound_name w ≡ Some name
+    → IsIn name (bound_in words)
+declared_in [] i w name lt is e = absurd (omega (arith, lt))
+declared_in (v ∷ words) zero w name lt is e = here name (bound_name v) (bound_in words) (ap bound_name (sym is) ∙ e)
+declared_in (v ∷ words) (suc i) w name lt is e = later name (bound_name v) (bound_in words) (declared_in words i w name (omega (arith, lt)) is e)
+
+only : (name : List ℕ) (o : Option (List ℕ)) → IsIn name (cons_option o []) → o ≡ Some name
+only name None h = absurd h
+only name (Some other) (inl same) = ap Some (sym same)
+only name (Some other) (inr none) = absurd none
+
+-- a word more that doesn't declare the name
+pub away_next : (words : List Word) (i : ℕ) (w : Word) (name : List ℕ) → i < length words → w ≡ get_or words i w → (bound_name w ≡ Some name → ⊥)
+    → IsAway name (bound_in (take i words)) → IsAway name (bound_in (take (i + 1) words))
+away_next words i w name lt is other away h =
+    let one : take (i + 1) words ≡ take i words ++ w ∷ [] = take_more words i w lt ∙ ap (λ v. take i words ++ v ∷ []) (sym is) in
+    let both : bound_in (take (i + 1) words) ≡ bound_in (take i words) ++ bound_in (w ∷ []) = ap bound_in one ∙ filter_map-append bound_name
+    (take i words) (w ∷ []) in
+    elim (in_either name (bound_in (take i words)) (bound_in (w ∷ [])) (subst (λ (ns : List (List ℕ)). IsIn name ns) both h)) [
+      | inl before ↦ away before
+      | inr now ↦ other (only name (bound_name w) now)
+    ]
+
+-- ---- needed keys
+
+-- one key more
+pub needed_next : (parts : HelperParts) (keys : List (List ℕ)) (i : ℕ) (key : List ℕ) (now next : List ℕ) → i < length keys → key ≡ get_or keys i key
+    → now ≡ needed_helpers parts (take i keys)
+    → next ≡ now ++ needed_helpers parts (key ∷ []) → next ≡ needed_helpers parts (take (i + 1) keys)
+needed_next parts keys i key now next lt is h k =
+    let one : take (i + 1) keys ≡ take i keys ++ key ∷ [] = take_more keys i key lt ∙ ap (λ (x : List ℕ). take i keys ++ x ∷ []) (sym is) in
+    k ∙ ap (λ (xs : List ℕ). xs ++ needed_helpers parts (key ∷ [])) h ∙ sym
+    (ap (needed_helpers parts) one ∙ filter_map-append (keyed parts) (take i keys) (key ∷ []))
+
+-- the helpers with these keys are there
+pub all_needed : (parts : HelperParts) (keys : List (List ℕ)) → All (λ node. node < count parts) (needed_helpers parts keys)
+all_needed parts keys = all_found (λ node. node < count parts) (keyed parts) (λ key i e. (read_printed parts key i e).0) keys
