@@ -1,0 +1,142 @@
+use crate::texts::{Case, INTRINSICS, PROPERTIES, VALUES};
+use glue_binding::bind;
+use glue_inputs::{CONFIG, printed, settings, texts, with_custom};
+use glue_lower::{JsonLowering, LowerFault, Lowering};
+use glue_scope::IdentScope;
+use glue_shared::{AdapterId, EncodeInto, Lowered, Target};
+use glue_steps::{Indexed, Step, adapter_steps};
+use std::alloc::{AllocError, Global};
+use std::process::Abort;
+use values::Seq;
+use wasm_core::Module;
+
+/// A module without anything.
+const EMPTY: &[u8] = b"\0asm\x01\0\0\0";
+
+/// Appends `["ArgGet",n],["WasmToInt32",..],` for each operand.
+fn push_operands(alloc: Global, code: &mut String, operands: &str) -> Result<(), AllocError> {
+    let mut place = 0u32;
+    for letter in operands.chars() {
+        let unsigned = letter == 'u';
+        let text = format!(in alloc; "[\"ArgGet\",{place}],[\"WasmToInt32\",{unsigned}],")?;
+        code.push_str(text.as_str())?;
+        place = place.wrapping_add(1);
+    }
+    Ok(())
+}
+
+/// The types of so many operands.
+fn types(alloc: Global, operands: &str) -> Result<String, AllocError> {
+    let mut text = String::new(alloc);
+    for _ in operands.chars() {
+        text.push_str(if text.is_empty() {
+            "\"s32\""
+        } else {
+            ",\"s32\""
+        })?;
+    }
+    Ok(text)
+}
+
+/// The way of calling that a case names first.
+fn way(call: &str) -> &str {
+    match call.split_once(' ') {
+        Some((way, _)) => way,
+        None => call,
+    }
+}
+
+/// The description of a case: an adapter that passes its operands on to an import adapter.
+fn described(alloc: Global, case: &Case) -> Result<String, AllocError> {
+    let (what, call, operands, _) = case;
+    let types = types(alloc, operands)?;
+    let mut code = String::new(alloc);
+    push_operands(alloc, &mut code, operands)?;
+    let results = if call.contains("bound") {
+        "\"s32\""
+    } else {
+        ""
+    };
+    let back = if call.contains("bound") {
+        ",[\"Int32ToWasm\"]"
+    } else {
+        ""
+    };
+    let spread = if call.contains("spread") { "1" } else { "" };
+    let way = way(call);
+    let local = format!(in alloc;
+        "{{\"id\":0,\"args\":[{types}],\"results\":[{results}],\"code\":[{code}[\"CallAdapter\",1]{back}]}}"
+    )?;
+    let import = format!(in alloc;
+        "{{\"id\":1,\"args\":[{types}],\"results\":[{results}],\"import\":\"{way}\"}}"
+    )?;
+    format!(in alloc;
+        "{{\"version\":1,\"adapters\":[{local},{import}],\"imports\":[{{\"adapter\":1,\"what\":{what}}}],\"variadic\":[{spread}]}}"
+    )
+}
+
+/// What is lowered from a module with that description.
+fn lowered(alloc: Global, case: &Case) -> Result<Lowered, LowerFault> {
+    let text = described(alloc, case)?;
+    let bytes = with_custom(alloc, EMPTY, "__wbg_glue", text.as_bytes())?;
+    let settings = settings(alloc, Target::Deno, EncodeInto::Always)?;
+    match Module::parse(alloc, bytes.as_slice(), &CONFIG) {
+        Ok(module) => JsonLowering::new().lower(alloc, &settings, module),
+        Err(_) => Err(LowerFault::OutOfMemory),
+    }
+}
+
+/// The steps of the adapter, none where they aren't built.
+fn steps(alloc: Global, lowered: &Lowered) -> Result<Seq<Step>, AllocError> {
+    let indexed = Indexed::new(alloc, lowered)?;
+    match adapter_steps(alloc, &indexed, AdapterId(0))? {
+        Some(steps) => Ok(steps),
+        None => Ok(Seq::new(alloc)),
+    }
+}
+
+/// The function of a case, printed.
+fn function(alloc: Global, case: &Case) -> Result<String, LowerFault> {
+    let lowered = lowered(alloc, case)?;
+    let steps = steps(alloc, &lowered)?;
+    let names = ["arg0", "arg1", "arg2"];
+    let count = case.2.len().min(names.len());
+    let wanted = texts(alloc, names.split_at(count).0)?;
+    let function = bind::<IdentScope>(alloc, steps.as_slice(), wanted.as_slice())?;
+    Ok(printed(alloc, function.words)?)
+}
+
+/// The statements of a function: what stands between its braces.
+fn statements(text: &str) -> &str {
+    match text.split_once("{\n") {
+        Some((_, behind)) => behind.strip_suffix("\n}").unwrap_or(behind),
+        None => text,
+    }
+}
+
+fn assert_texts<H: Abort>(rt: &H, alloc: Global, cases: &[Case]) -> Result<(), LowerFault> {
+    for case in cases {
+        let text = function(alloc, case)?;
+        assert!(rt;
+            statements(text.as_str()) == case.3,
+            "{text:?} in place of {:?}",
+            case.3
+        );
+    }
+    Ok(())
+}
+
+#[test]
+fn import_texts_of_values(rt: HostRuntime) -> Result<(), LowerFault> {
+    assert_texts(&rt, rt.alloc(), VALUES)
+}
+
+#[test]
+fn import_texts_of_properties(rt: HostRuntime) -> Result<(), LowerFault> {
+    assert_texts(&rt, rt.alloc(), PROPERTIES)
+}
+
+#[test]
+fn import_texts_of_intrinsics(rt: HostRuntime) -> Result<(), LowerFault> {
+    assert_texts(&rt, rt.alloc(), INTRINSICS)
+}

@@ -1,0 +1,588 @@
+//! What is described of an import, how it is called, its operands, and the statements that are expected.
+
+/// The JSON of what is described; how it is called, with `spread` where the last argument is spread and `bound` where there is a
+/// result; a letter for each operand, `i` for a parameter and `u` for one that is read as unsigned; and the statements.
+pub type Case = (&'static str, &'static str, &'static str, &'static str);
+
+/// Values of globals, called in each way, read, and texts.
+pub const VALUES: &[Case] = &[
+    (
+        r#"["Bare",{"global":"Thing"}]"#,
+        "normal bound",
+        "uu",
+        r#"const ret = Thing(arg0 >>> 0, arg1 >>> 0);
+return ret;"#,
+    ),
+    (
+        r#"["Bare",{"global":"Thing"}]"#,
+        "normal spread bound",
+        "uu",
+        r#"const ret = Thing(arg0 >>> 0, ...(arg1 >>> 0));
+return ret;"#,
+    ),
+    (
+        r#"["Bare",{"global":"Thing"}]"#,
+        "method bound",
+        "uu",
+        r#"const ret = Thing.call(arg0 >>> 0, arg1 >>> 0);
+return ret;"#,
+    ),
+    (
+        r#"["Bare",{"global":"Thing"}]"#,
+        "method spread bound",
+        "uu",
+        r#"const ret = Thing.call(arg0 >>> 0, ...(arg1 >>> 0));
+return ret;"#,
+    ),
+    (
+        r#"["Bare",{"global":"Thing"}]"#,
+        "constructor bound",
+        "uu",
+        r#"const ret = new Thing(arg0 >>> 0, arg1 >>> 0);
+return ret;"#,
+    ),
+    (
+        r#"["Bare",{"global":"Thing"}]"#,
+        "constructor spread bound",
+        "uu",
+        r#"const ret = new Thing(arg0 >>> 0, ...(arg1 >>> 0));
+return ret;"#,
+    ),
+    (
+        r#"["Bare",{"global":"Thing","fields":["a","b-c"]}]"#,
+        "normal bound",
+        "uu",
+        r#"const ret = Thing.a["b-c"](arg0 >>> 0, arg1 >>> 0);
+return ret;"#,
+    ),
+    (
+        r#"["Bare",{"global":"Thing","fields":["a","b-c"]}]"#,
+        "constructor bound",
+        "uu",
+        r#"const ret = new Thing.a["b-c"](arg0 >>> 0, arg1 >>> 0);
+return ret;"#,
+    ),
+    (
+        r#"["ValueWithThis",{"global":"Thing"},"go"]"#,
+        "normal bound",
+        "uu",
+        r#"const ret = Thing.go(arg0 >>> 0, arg1 >>> 0);
+return ret;"#,
+    ),
+    (
+        r#"["ValueWithThis",{"global":"Thing"},"go"]"#,
+        "normal spread bound",
+        "uu",
+        r#"const ret = Thing.go(arg0 >>> 0, ...(arg1 >>> 0));
+return ret;"#,
+    ),
+    (
+        r#"["ValueWithThis",{"global":"Thing","fields":["a","b-c"]},"do-it"]"#,
+        "normal bound",
+        "uu",
+        r#"const ret = Thing.a["b-c"]["do-it"](arg0 >>> 0, arg1 >>> 0);
+return ret;"#,
+    ),
+    (
+        r#"["Static",{"global":"Thing"},false]"#,
+        "normal bound",
+        "",
+        r#"const ret = Thing;
+return ret;"#,
+    ),
+    (
+        r#"["Static",{"global":"Thing","fields":["a","b-c"]},false]"#,
+        "normal bound",
+        "",
+        r#"const ret = Thing.a["b-c"];
+return ret;"#,
+    ),
+    (
+        r#"["String","say \"hi\""]"#,
+        "normal bound",
+        "",
+        r#"const ret = "say \"hi\"";
+return ret;"#,
+    ),
+    (
+        r#"["Bare",{"global":"Thing"}]"#,
+        "normal",
+        "i",
+        r#"Thing(arg0);"#,
+    ),
+    (
+        r#"["Bare",{"global":"Thing"}]"#,
+        "constructor",
+        "",
+        r#"new Thing();"#,
+    ),
+    (
+        r#"["String","say \"hi\""]"#,
+        "normal",
+        "",
+        r#""say \"hi\"";"#,
+    ),
+];
+
+/// Properties of operands and of values, and what stands in brackets.
+pub const PROPERTIES: &[Case] = &[
+    (
+        r#"["StructuralMethod","go"]"#,
+        "normal bound",
+        "uuu",
+        r#"const ret = (arg0 >>> 0).go(arg1 >>> 0, arg2 >>> 0);
+return ret;"#,
+    ),
+    (
+        r#"["StructuralMethod","go"]"#,
+        "normal spread bound",
+        "uu",
+        r#"const ret = (arg0 >>> 0).go(...(arg1 >>> 0));
+return ret;"#,
+    ),
+    (
+        r#"["StructuralGetter","go"]"#,
+        "normal bound",
+        "u",
+        r#"const ret = (arg0 >>> 0).go;
+return ret;"#,
+    ),
+    (
+        r#"["StructuralSetter","go"]"#,
+        "normal bound",
+        "uu",
+        r#"const ret = (arg0 >>> 0).go = arg1 >>> 0;
+return ret;"#,
+    ),
+    (
+        r#"["StructuralClassGetter",{"global":"Thing"},"go"]"#,
+        "normal bound",
+        "",
+        r#"const ret = Thing.go;
+return ret;"#,
+    ),
+    (
+        r#"["StructuralClassSetter",{"global":"Thing"},"go"]"#,
+        "normal bound",
+        "u",
+        r#"const ret = Thing.go = arg0 >>> 0;
+return ret;"#,
+    ),
+    (
+        r#"["StructuralGetter","do-it"]"#,
+        "normal bound",
+        "u",
+        r#"const ret = (arg0 >>> 0)["do-it"];
+return ret;"#,
+    ),
+    (
+        r#"["StructuralClassGetter",{"global":"Thing","fields":["a","b-c"]},"do-it"]"#,
+        "normal bound",
+        "",
+        r#"const ret = Thing.a["b-c"]["do-it"];
+return ret;"#,
+    ),
+    (
+        r#"["StructuralClassSetter",{"global":"Thing","fields":["a","b-c"]},"do-it"]"#,
+        "normal bound",
+        "u",
+        r#"const ret = Thing.a["b-c"]["do-it"] = arg0 >>> 0;
+return ret;"#,
+    ),
+    (
+        r#"["StructuralGetter","class"]"#,
+        "normal bound",
+        "u",
+        r#"const ret = (arg0 >>> 0)["class"];
+return ret;"#,
+    ),
+    (
+        r#"["StructuralGetter","prototype.set.call"]"#,
+        "normal bound",
+        "u",
+        r#"const ret = (arg0 >>> 0).prototype.set.call;
+return ret;"#,
+    ),
+    (
+        r#"["StructuralGetter","a.b-c"]"#,
+        "normal bound",
+        "u",
+        r#"const ret = (arg0 >>> 0).a["b-c"];
+return ret;"#,
+    ),
+    (
+        r#"["StructuralSetter","a.b-c"]"#,
+        "normal bound",
+        "uu",
+        r#"const ret = (arg0 >>> 0).a["b-c"] = arg1 >>> 0;
+return ret;"#,
+    ),
+    (
+        r#"["StructuralGetter","[Symbol.iterator]"]"#,
+        "normal bound",
+        "u",
+        r#"const ret = (arg0 >>> 0)[Symbol.iterator];
+return ret;"#,
+    ),
+    (
+        r#"["IndexingGetterOfClass",{"global":"Thing"}]"#,
+        "normal bound",
+        "u",
+        r#"const ret = Thing[(arg0 >>> 0)];
+return ret;"#,
+    ),
+    (
+        r#"["IndexingSetterOfClass",{"global":"Thing"}]"#,
+        "normal bound",
+        "uu",
+        r#"const ret = Thing[(arg0 >>> 0)] = arg1 >>> 0;
+return ret;"#,
+    ),
+    (
+        r#"["IndexingDeleterOfClass",{"global":"Thing"}]"#,
+        "normal bound",
+        "u",
+        r#"const ret = delete Thing[(arg0 >>> 0)];
+return ret;"#,
+    ),
+    (
+        r#"["IndexingGetterOfClass",{"global":"Thing","fields":["a","b-c"]}]"#,
+        "normal bound",
+        "u",
+        r#"const ret = Thing.a["b-c"][(arg0 >>> 0)];
+return ret;"#,
+    ),
+    (
+        r#"["IndexingSetterOfClass",{"global":"Thing","fields":["a","b-c"]}]"#,
+        "normal bound",
+        "uu",
+        r#"const ret = Thing.a["b-c"][(arg0 >>> 0)] = arg1 >>> 0;
+return ret;"#,
+    ),
+    (
+        r#"["IndexingDeleterOfClass",{"global":"Thing","fields":["a","b-c"]}]"#,
+        "normal bound",
+        "u",
+        r#"const ret = delete Thing.a["b-c"][(arg0 >>> 0)];
+return ret;"#,
+    ),
+    (
+        r#"["IndexingGetterOfObject"]"#,
+        "normal bound",
+        "uu",
+        r#"const ret = (arg0 >>> 0)[(arg1 >>> 0)];
+return ret;"#,
+    ),
+    (
+        r#"["IndexingSetterOfObject"]"#,
+        "normal bound",
+        "uuu",
+        r#"const ret = (arg0 >>> 0)[(arg1 >>> 0)] = arg2 >>> 0;
+return ret;"#,
+    ),
+    (
+        r#"["IndexingDeleterOfObject"]"#,
+        "normal bound",
+        "uu",
+        r#"const ret = delete (arg0 >>> 0)[(arg1 >>> 0)];
+return ret;"#,
+    ),
+    (
+        r#"["StructuralSetter","go"]"#,
+        "normal",
+        "ii",
+        r#"arg0.go = arg1;"#,
+    ),
+    (
+        r#"["IndexingGetterOfObject"]"#,
+        "normal",
+        "ii",
+        r#"arg0[arg1];"#,
+    ),
+    (
+        r#"["StructuralMethod","go"]"#,
+        "normal",
+        "i",
+        r#"arg0.go();"#,
+    ),
+];
+
+/// Operations.
+pub const INTRINSICS: &[Case] = &[
+    (
+        r#"["Intrinsic","JsvalEq"]"#,
+        "normal bound",
+        "uu",
+        r#"const ret = (arg0 >>> 0) === (arg1 >>> 0);
+return ret;"#,
+    ),
+    (
+        r#"["Intrinsic","JsvalLooseEq"]"#,
+        "normal bound",
+        "uu",
+        r#"const ret = (arg0 >>> 0) == (arg1 >>> 0);
+return ret;"#,
+    ),
+    (
+        r#"["Intrinsic","IsFunction"]"#,
+        "normal bound",
+        "u",
+        r#"const ret = typeof(arg0 >>> 0) === "function";
+return ret;"#,
+    ),
+    (
+        r#"["Intrinsic","IsUndefined"]"#,
+        "normal bound",
+        "u",
+        r#"const ret = (arg0 >>> 0) === undefined;
+return ret;"#,
+    ),
+    (
+        r#"["Intrinsic","IsNull"]"#,
+        "normal bound",
+        "u",
+        r#"const ret = (arg0 >>> 0) === null;
+return ret;"#,
+    ),
+    (
+        r#"["Intrinsic","IsNullOrUndefined"]"#,
+        "normal bound",
+        "u",
+        r#"const ret = (arg0 >>> 0) == null;
+return ret;"#,
+    ),
+    (
+        r#"["Intrinsic","IsSymbol"]"#,
+        "normal bound",
+        "u",
+        r#"const ret = typeof(arg0 >>> 0) === "symbol";
+return ret;"#,
+    ),
+    (
+        r#"["Intrinsic","IsString"]"#,
+        "normal bound",
+        "u",
+        r#"const ret = typeof(arg0 >>> 0) === "string";
+return ret;"#,
+    ),
+    (
+        r#"["Intrinsic","IsBigInt"]"#,
+        "normal bound",
+        "u",
+        r#"const ret = typeof(arg0 >>> 0) === "bigint";
+return ret;"#,
+    ),
+    (
+        r#"["Intrinsic","Typeof"]"#,
+        "normal bound",
+        "u",
+        r#"const ret = typeof (arg0 >>> 0);
+return ret;"#,
+    ),
+    (
+        r#"["Intrinsic","In"]"#,
+        "normal bound",
+        "uu",
+        r#"const ret = (arg0 >>> 0) in (arg1 >>> 0);
+return ret;"#,
+    ),
+    (
+        r#"["Intrinsic","IsFalsy"]"#,
+        "normal bound",
+        "u",
+        r#"const ret = !(arg0 >>> 0);
+return ret;"#,
+    ),
+    (
+        r#"["Intrinsic","Neg"]"#,
+        "normal bound",
+        "u",
+        r#"const ret = -(arg0 >>> 0);
+return ret;"#,
+    ),
+    (
+        r#"["Intrinsic","BitAnd"]"#,
+        "normal bound",
+        "uu",
+        r#"const ret = (arg0 >>> 0) & (arg1 >>> 0);
+return ret;"#,
+    ),
+    (
+        r#"["Intrinsic","BitOr"]"#,
+        "normal bound",
+        "uu",
+        r#"const ret = (arg0 >>> 0) | (arg1 >>> 0);
+return ret;"#,
+    ),
+    (
+        r#"["Intrinsic","BitXor"]"#,
+        "normal bound",
+        "uu",
+        r#"const ret = (arg0 >>> 0) ^ (arg1 >>> 0);
+return ret;"#,
+    ),
+    (
+        r#"["Intrinsic","BitNot"]"#,
+        "normal bound",
+        "u",
+        r#"const ret = ~(arg0 >>> 0);
+return ret;"#,
+    ),
+    (
+        r#"["Intrinsic","Shl"]"#,
+        "normal bound",
+        "uu",
+        r#"const ret = (arg0 >>> 0) << (arg1 >>> 0);
+return ret;"#,
+    ),
+    (
+        r#"["Intrinsic","Shr"]"#,
+        "normal bound",
+        "uu",
+        r#"const ret = (arg0 >>> 0) >> (arg1 >>> 0);
+return ret;"#,
+    ),
+    (
+        r#"["Intrinsic","UnsignedShr"]"#,
+        "normal bound",
+        "uu",
+        r#"const ret = (arg0 >>> 0) >>> (arg1 >>> 0);
+return ret;"#,
+    ),
+    (
+        r#"["Intrinsic","Add"]"#,
+        "normal bound",
+        "uu",
+        r#"const ret = (arg0 >>> 0) + (arg1 >>> 0);
+return ret;"#,
+    ),
+    (
+        r#"["Intrinsic","Sub"]"#,
+        "normal bound",
+        "uu",
+        r#"const ret = (arg0 >>> 0) - (arg1 >>> 0);
+return ret;"#,
+    ),
+    (
+        r#"["Intrinsic","Div"]"#,
+        "normal bound",
+        "uu",
+        r#"const ret = (arg0 >>> 0) / (arg1 >>> 0);
+return ret;"#,
+    ),
+    (
+        r#"["Intrinsic","Mul"]"#,
+        "normal bound",
+        "uu",
+        r#"const ret = (arg0 >>> 0) * (arg1 >>> 0);
+return ret;"#,
+    ),
+    (
+        r#"["Intrinsic","Rem"]"#,
+        "normal bound",
+        "uu",
+        r#"const ret = (arg0 >>> 0) % (arg1 >>> 0);
+return ret;"#,
+    ),
+    (
+        r#"["Intrinsic","Pow"]"#,
+        "normal bound",
+        "uu",
+        r#"const ret = (arg0 >>> 0) ** (arg1 >>> 0);
+return ret;"#,
+    ),
+    (
+        r#"["Intrinsic","LT"]"#,
+        "normal bound",
+        "uu",
+        r#"const ret = (arg0 >>> 0) < (arg1 >>> 0);
+return ret;"#,
+    ),
+    (
+        r#"["Intrinsic","LE"]"#,
+        "normal bound",
+        "uu",
+        r#"const ret = (arg0 >>> 0) <= (arg1 >>> 0);
+return ret;"#,
+    ),
+    (
+        r#"["Intrinsic","GE"]"#,
+        "normal bound",
+        "uu",
+        r#"const ret = (arg0 >>> 0) >= (arg1 >>> 0);
+return ret;"#,
+    ),
+    (
+        r#"["Intrinsic","GT"]"#,
+        "normal bound",
+        "uu",
+        r#"const ret = (arg0 >>> 0) > (arg1 >>> 0);
+return ret;"#,
+    ),
+    (
+        r#"["Intrinsic","ObjectCloneRef"]"#,
+        "normal bound",
+        "u",
+        r#"const ret = arg0 >>> 0;
+return ret;"#,
+    ),
+    (
+        r#"["Intrinsic","ObjectDropRef"]"#,
+        "normal bound",
+        "u",
+        r#"const ret = arg0 >>> 0;
+return ret;"#,
+    ),
+    (
+        r#"["Intrinsic","Throw"]"#,
+        "normal",
+        "u",
+        r#"throw new Error(arg0 >>> 0);"#,
+    ),
+    (
+        r#"["Intrinsic","Rethrow"]"#,
+        "normal",
+        "u",
+        r#"throw (arg0 >>> 0);"#,
+    ),
+    (
+        r#"["Intrinsic","Exports"]"#,
+        "normal bound",
+        "",
+        r#"const ret = wasm;
+return ret;"#,
+    ),
+    (
+        r#"["Intrinsic","CopyToTypedArray"]"#,
+        "normal bound",
+        "uu",
+        r#"const ret = new Uint8Array((arg1 >>> 0).buffer, (arg1 >>> 0).byteOffset, (arg1 >>> 0).byteLength).set(arg0 >>> 0);
+return ret;"#,
+    ),
+    (
+        r#"["Intrinsic","Reinit"]"#,
+        "normal bound",
+        "",
+        r#"const ret = undefined;
+return ret;"#,
+    ),
+    (
+        r#"["Intrinsic","ObjectDropRef"]"#,
+        "normal",
+        "u",
+        r#"(arg0 >>> 0);"#,
+    ),
+    (
+        r#"["Intrinsic","ObjectDropRef"]"#,
+        "normal",
+        "i",
+        r#"arg0;"#,
+    ),
+    (
+        r#"["Intrinsic","Add"]"#,
+        "normal bound",
+        "ii",
+        r#"const ret = arg0 + arg1;
+return ret;"#,
+    ),
+];

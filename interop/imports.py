@@ -1,0 +1,106 @@
+#!/usr/bin/env python3
+"""Compares the statements that imports become with texts that were typed from those of the original.
+
+imports.json has for each kind of import and each operation how it is called, whether each operand is read as signed (`i`)
+or unsigned (`u`), and the statements for Deno. All imports that are built are put into one module, whose glue file is made
+by the program; then each member's statements are compared. Imports that the program names as not built are counted.
+
+The program is the one that the environment variable GLUE names, or else the one that the script glue runs. Needs Python
+3.9. It is no part of the gate.
+"""
+
+import json
+import os
+import subprocess
+import sys
+from pathlib import Path
+
+HERE = Path(__file__).resolve().parent
+I32 = b"\x7f"
+
+
+def leb128(value):
+    """The shortest unsigned LEB128 form of a number (WebAssembly core specification, 5.2.2)."""
+    out = bytearray()
+    while value > 0x7F:
+        out.append(value & 0x7F | 0x80)
+        value >>= 7
+    out.append(value)
+    return bytes(out)
+
+
+def vector(items):
+    """A list (5.1.3)."""
+    return leb128(len(items)) + b"".join(items)
+
+
+def name(text):
+    return vector([bytes([byte]) for byte in text.encode()])
+
+
+def section(number, content):
+    return bytes([number]) + leb128(len(content)) + content
+
+
+def adapters(case, place):
+    """The adapter that stands for the import at a place, and the one that it calls."""
+    operands = [["WasmToInt32", letter == "u"] for letter in case["args"]]
+    code = [step for number, read in enumerate(operands) for step in (["ArgGet", number], read)]
+    code.append(["CallAdapter", 2 * place + 1])
+    types = ["s32"] * len(case["args"])
+    results = ["s32"] if case["result"] else []
+    if case["result"]:
+        code.append(["Int32ToWasm"])
+    return [
+        {"id": 2 * place, "args": types, "results": results, "code": code},
+        {"id": 2 * place + 1, "args": types, "results": results, "import": case["kind"]},
+    ]
+
+
+def module(cases):
+    """A module that imports a function for each case, and describes it."""
+    types = [b"\x60" + vector([I32] * len(case["args"])) + vector([I32] * case["result"]) for case in cases]
+    imports = [
+        name("__wbindgen_placeholder__") + name(f"f{place}") + b"\0" + leb128(place) for place in range(len(cases))
+    ]
+    description = {
+        "version": 1,
+        "adapters": [adapter for place, case in enumerate(cases) for adapter in adapters(case, place)],
+        "implements": [[place, 2 * place] for place in range(len(cases))],
+        "imports": [{"adapter": 2 * place + 1, "what": case["what"]} for place, case in enumerate(cases)],
+        "variadic": [2 * place + 1 for place, case in enumerate(cases) if case["variadic"]],
+    }
+    glue = name("__wbg_glue") + json.dumps(description).encode()
+    return b"\0asm\x01\0\0\0" + section(1, vector(types)) + section(2, vector(imports)) + section(0, glue)
+
+
+def listing(command, cases):
+    done = subprocess.run([*command, "--target", "deno"], input=module(cases), stdout=subprocess.PIPE)
+    return done.stdout.decode()
+
+
+def statements(text, place):
+    """The statements of the member of an import, without indentation."""
+    begin = text.index(f"        f{place}: function(")
+    inside = text[text.index("\n", begin) + 1 : text.index("\n        },", begin)]
+    return "\n".join(line.strip() for line in inside.split("\n"))
+
+
+def main():
+    command = [os.environ.get("GLUE", str(HERE.parent / "glue"))]
+    cases = json.loads((HERE / "imports.json").read_text(encoding="utf-8"))
+    told = [listing(command, [case]) for case in cases]
+    built = [case for case, text in zip(cases, told) if not text.startswith("fault")]
+    refused = [text for text in told if text.startswith("fault")]
+    if any(text != "fault NotBuilt\n" for text in refused):
+        sys.exit(f"refused in another way: {sorted(set(refused))}")
+    text = listing(command, built)
+    wrong = [case for place, case in enumerate(built) if statements(text, place) != case["text"]]
+    for case in wrong:
+        print(f"{case['name']}: {statements(text, built.index(case))!r} in place of {case['text']!r}")
+    print(f"{len(built) - len(wrong)} of {len(cases)} texts are the same, {len(refused)} aren't built, {len(wrong)} differ")
+    sys.exit(bool(wrong))
+
+
+if __name__ == "__main__":
+    main()
