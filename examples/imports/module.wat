@@ -1,0 +1,16 @@
+;; Calls imports of several kinds, with integers of 32 bits.
+(module
+  (import "__wbindgen_placeholder__" "get" (func $get (param i32) (result i32)))
+  (import "__wbindgen_placeholder__" "limit" (func $limit (result i32)))
+  (import "__wbindgen_placeholder__" "log" (func $log (param i32)))
+  (import "__wbindgen_placeholder__" "max" (func $max (param i32 i32) (result i32)))
+  (import "__wbindgen_placeholder__" "power" (func $power (param i32 i32) (result i32)))
+  (import "__wbindgen_placeholder__" "set" (func $set (param i32 i32)))
+  (import "__wbindgen_placeholder__" "tick" (func $tick (param i32)))
+
+  ;; Keeps the greater one of a number and the limit in slot 0, logs it, and makes an object of its square.
+  (func (export "keep") (param $number i32) (result i32)
+    (call $set (i32.const 0) (call $max (local.get $number) (call $limit)))
+    (call $log (call $get (i32.const 0)))
+    (call $tick (call $power (call $get (i32.const 0)) (i32.const 2)))
+    (call $get (i32.const 0))))
