@@ -1,6 +1,6 @@
 //! Tests of the statements that imports become, from a description on: `glue_lower` reads it, `glue_steps` finds the steps,
-//! `glue_imports` the expression, and `glue_binding` the function. The texts were typed from the texts of the original, by someone who
-//! had not seen those that are printed.
+//! `glue_imports` the expression, and `glue_binding` the function. The texts were typed from those of the original, apart from those that
+//! are printed.
 #![tactic(auto)]
 
 #[cfg(test)]
