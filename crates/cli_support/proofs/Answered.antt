@@ -15,6 +15,7 @@ use Rattle.glue_check.specs.FaultKinds.{is_of_check}
 use Rattle.glue_check.specs.declared.verdict.Checked.{Checked}
 use Rattle.glue_check.proofs.FaultKinds.{first_kind}
 use Rattle.glue_context.specs.Edits.{has_start}
+use Rattle.glue_context.specs.Foreign.{foreign_modules}
 use Rattle.glue_context.specs.Items.{IsGlue}
 use Rattle.glue_context.specs.Keys.{described_keys}
 use Rattle.glue_context.specs.Linked.{IsLinked}
@@ -50,7 +51,7 @@ made_of checked s hosts keys items written missing o of_settings of_hosts of_key
       glue = g;
       js = refl;
       «module» = w;
-      linked = subst (λ (m : Contents). IsLinked own (host_names own l.aux) (described_keys l.aux) m items (has_start l.«module»)) (sym w) k.linked;
+      linked = subst (λ (m : Contents). IsLinked own (host_names own l.aux) (described_keys l.aux) (foreign_modules own l) m items (has_start l.«module»)) (sym w) k.linked;
       defined = subst (λ (m : Contents). IsDefined own l m items) (sym w) k.defined;
       published = k.published;
     })

@@ -27,6 +27,7 @@ use Rattle.cli_support.specs.Configured.{Configured, Input, call_settings, file_
 use Rattle.cli_support.specs.declared.bindgen.Handed.{Handed}
 use Rattle.cli_support.specs.declared.bindgen.Handed.TheVariants as handed
 use Rattle.glue_context.specs.Edits.{has_start}
+use Rattle.glue_context.specs.Foreign.{foreign_modules}
 use Rattle.glue_context.specs.Items.{IsGlue}
 use Rattle.glue_context.specs.Rewritten.{rewritten}
 use Rattle.glue_context.specs.Linked.{IsLinked}
@@ -214,7 +215,7 @@ pub record IsMadeOf (settings : Settings) (l : Lowered) (o : Made) : Type 0 wher
   pub glue : IsGlue settings l o.items
   pub js : o.js ≡ printed o.items
   pub «module» : o.«module» ≡ rewritten settings l
-  pub linked : IsLinked settings (host_names settings l.aux) (described_keys l.aux) o.«module» o.items (has_start l.«module»)
+  pub linked : IsLinked settings (host_names settings l.aux) (described_keys l.aux) (foreign_modules settings l) o.«module» o.items (has_start l.«module»)
   pub defined : IsDefined settings l o.«module» o.items
   pub published : IsPublished settings l.aux (fixed_public settings l.«module» l.wit l.aux) o.items
 

@@ -1,5 +1,5 @@
 -- Items that have a property, in lists and in stacks.
-use Rattle.std.proofs.Common.{ℕ, zero, suc, List, [], ◌∷◌, ◌++◌, inl, inr, refl}
+use Rattle.std.proofs.Common.{ℕ, zero, suc, ◌<◌, List, [], ◌∷◌, ◌++◌, length, inl, inr, refl, arith}
 use Rattle.values.specs.Lists.{IsIn}
 use Rattle.glue_steps.specs.Stack.{top, below, item_at, operands, without}
 
@@ -20,6 +20,12 @@ module _ {A : Type 0} (P : A → Type 0) where
   pub each_by : (xs : List A) → ((x : A) → IsIn x xs → P x) → Each P xs
   each_by [] h = tt
   each_by (x ∷ xs) h = (h x (inl refl), each_by xs (λ y at. h y (inr at)))
+
+  -- the item at a place that is there
+  pub each_there : (default : A) (xs : List A) (n : ℕ) → n < length xs → Each P xs → P (item_at default xs n)
+  each_there default [] n lt h = absurd (omega (arith, lt))
+  each_there default (x ∷ xs) zero lt h = h.0
+  each_there default (x ∷ xs) (suc n) lt h = each_there default xs n (omega (arith, lt)) h.1
 
   -- where the default has it too, so has what a stack gives
   module _ (default : A) (d : P default) where

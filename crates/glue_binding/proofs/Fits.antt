@@ -11,22 +11,16 @@ use Rattle.glue_tree.proofs.Fit.{fit, all_fit, line_fit, lines_fit}
 use Rattle.glue_tree.proofs.Functions.{wasm_kind}
 use Rattle.glue_imports.specs.declared.part.Part.{Part}
 use Rattle.glue_steps.specs.declared.step.Step.{Step}
-use Rattle.glue_steps.specs.declared.step.Step.TheVariants.{CallImport}
-use Rattle.glue_binding.specs.Spelling.{Plain, Missing, Local, Unsigned, term_of, terms, expression_words, Piece, Ahead, Cleanup, pieces_of, nested, tree_of, temporaries}
+use Rattle.glue_binding.specs.Spelling.{Plain, Missing, Local, Unsigned, term_of, terms, parts_words, Piece, Ahead, Cleanup, pieces_of, nested, tree_of, temporaries}
 use Rattle.glue_binding.proofs.Each.{Each}
-use Rattle.glue_binding.proofs.Parts.{expression_found, parts_take}
-use Rattle.glue_binding.proofs.Standing.{IsNamed, parts_fit, run_stands, bound_stands}
+use Rattle.glue_binding.proofs.Parts.{parts_found, parts_take}
+use Rattle.glue_binding.proofs.Standing.{IsNamed, step_fit, fitting, steps_each, run_stands, bound_stands}
 use Rattle.glue_binding.proofs.Rowwise.{IsRowwise, AllHave, pieces_have}
 
 and_true : (a b : Bool) → a ≡ true → b ≡ true → (a && b) ≡ true
 and_true a b h k = ap (λ x. x && b) h ∙ k
 
 -- ---- fit
-
--- the parts that a step brings along may stand beside one another
-abbrev pub step_fit : Step → Bool
-step_fit (CallImport adapter n has_result parts) = parts_fit parts
-step_fit other = true
 
 abbrev IsName : List ℕ → Type 0
 IsName name = is_ident name ≡ true
@@ -40,9 +34,9 @@ terms_fit : (ps : List Plain) → Each IsNamed ps → all_fit (terms ps) ≡ tru
 terms_fit [] h = refl
 terms_fit (p ∷ ps) h = and_true _ _ (plain_fit p h.0) (terms_fit ps h.1)
 
--- no export is taken in an import's expression
-no_export : (parts : List Part) (args : List Plain) → wasm_in (expression_words parts args) ≡ []
-no_export parts args = expression_found wasm_name wasm_kind (λ n. refl) args parts ∙ parts_take parts
+-- no export is taken in an import's text
+no_export : (locals : List (List ℕ)) (args : List Plain) (parts : List Part) → wasm_in (parts_words parts locals args) ≡ []
+no_export locals args parts = parts_found wasm_name wasm_kind (λ n. refl) (λ n. refl) locals args parts ∙ parts_take parts
 
 fits : IsRowwise (λ l. line_fit l ≡ true) IsNamed IsName (λ s. step_fit s ≡ true)
 fits = record {
@@ -52,8 +46,8 @@ fits = record {
   ends = λ p h. plain_fit p h;
   export_runs = λ name n f args h. terms_fit args h;
   export_binds = λ name n f x d args h. and_true _ _ d (terms_fit args h);
-  import_runs = λ adapter n parts f args h. run_stands parts args h f (no_export parts args);
-  import_binds = λ adapter n parts f x d args h. bound_stands parts args h f (no_export parts args) x d;
+  import_runs = λ adapter n e f locals c l args h. run_stands e (fitting e f) locals c l args h (no_export locals args);
+  import_binds = λ adapter n e f locals c l x d args h. bound_stands e (fitting e f) locals c l args h (no_export locals args) x d;
   takes = λ f x d p h. and_true _ _ d (rw (ascii_ident (codes "takeObject") refl) (terms_fit (p ∷ []) (h, tt)));
   borrows = λ f x d p h. and_true _ _ d (rw (ascii_ident (codes "addBorrowedObject") refl)
       (terms_fit (p ∷ []) (h, tt)));
@@ -83,11 +77,6 @@ params_each : (names : List (List ℕ)) → list_all is_ident names ≡ true →
 params_each [] h = tt
 params_each (name ∷ names) h = let parts = and_parts (is_ident name) (list_all is_ident names) h in
     (parts.0, params_each names parts.1)
-
-steps_each : (steps : List Step) → list_all step_fit steps ≡ true → Each (λ s. step_fit s ≡ true) steps
-steps_each [] h = tt
-steps_each (s ∷ steps) h = let parts = and_parts (step_fit s) (list_all step_fit steps) h in
-    (parts.0, steps_each steps parts.1)
 
 -- the tree of any steps with identifiers as their names is fit
 pub tree_fit : (steps : List Step) (params temps : List (List ℕ)) → list_all step_fit steps ≡ true

@@ -1,3 +1,4 @@
+mod Coming
 mod Drawing
 mod Each
 pub mod Fits

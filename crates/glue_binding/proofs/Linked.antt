@@ -30,7 +30,8 @@ use Rattle.glue_binding.specs.Outer.{outer_in, outer_list, seed_words, outer_nam
 use Rattle.glue_binding.specs.Binding.{outer_scope, IsBoundFunction, AreOwn}
 use Rattle.glue_binding.proofs.Outer.{IsOuter, outer_is_seed}
 use Rattle.glue_binding.proofs.Outside.{outside_of, outside_among, locals_among, function_declares}
-use Rattle.glue_binding.proofs.Fits.{step_fit, tree_fit}
+use Rattle.glue_binding.proofs.Standing.{step_fit}
+use Rattle.glue_binding.proofs.Fits.{tree_fit}
 
 -- ---- kinds of names from outside
 
@@ -182,13 +183,6 @@ module _ (steps : List Step) (wanted : List (List ℕ)) (f : JsFunction) (b : Is
   outside kind outer = by_tree (λ words. AreAmong (filter_map kind words) (filter_map kind (outside_of steps)))
       (outside_among kind outer steps f.params b.temps enough)
 
-  declares : local_bound_in (function_words f.params (plain_stmts f.tree)) ≡ f.params ++ b.temps
-  declares = by_tree (λ words. local_bound_in words ≡ f.params ++ b.temps)
-      (function_declares steps f.params b.temps (bound_count steps wanted f b))
-
-  uses : AreAmong (local_in (function_words f.params (plain_stmts f.tree))) (f.params ++ b.temps)
-  uses = by_tree (λ words. AreAmong (local_in words) (f.params ++ b.temps)) (locals_among steps f.params b.temps enough)
-
   hides : AreApart (f.params ++ b.temps) (outer_in (function_words f.params (plain_stmts f.tree)))
   hides = by_tree (λ words. AreApart (f.params ++ b.temps) (outer_in words))
       (apart_outer steps f.params b.temps (f.params ++ b.temps) (own_names steps wanted f b).apart)
@@ -208,26 +202,6 @@ module _ (steps : List Step) (wanted : List (List ℕ)) (f : JsFunction) (b : Is
   -- and declare no name of the module's scope, where the steps bring none along
   pub bound_binds : bound_in (outside_of steps) ≡ [] → bound_in (function_words f.params (plain_stmts f.tree)) ≡ []
   bound_binds none = none_among (bound_in (function_words f.params (plain_stmts f.tree))) (subst (AreAmong (bound_in (function_words f.params (plain_stmts f.tree)))) none (outside bound_name bound_outer))
-
-  pub bound_local : StandsBeside (f.params ++ b.temps) front → StandsBeside (f.params ++ b.temps) back
-      → KeepsLocals (item_words front back f.params (plain_stmts f.tree))
-  bound_local h k =
-      let own = f.params ++ b.temps in
-      let words = function_words f.params (plain_stmts f.tree) in
-      let same = alone_names front words back local_bound_name h.undeclared k.undeclared ∙ declares in
-      let f-parts = apart_split own (used_in front) (hosted_in front) h.apart in
-      let i-parts = apart_split own (used_in words) (hosted_in words) hides in
-      let b-parts = apart_split own (used_in back) (hosted_in back) k.apart in
-      record {
-        bound = subst (AreAmong (local_in (item_words front back f.params (plain_stmts f.tree)))) (sym same)
-            (subst (λ (ns : List (List ℕ)). AreAmong ns own)
-            (sym (alone_names front words back local_name h.unused k.unused)) uses);
-        apart = subst (λ (ns : List (List ℕ)). AreApart ns
-            (outer_in (item_words front back f.params (plain_stmts f.tree)))) (sym same)
-            (apart_joined own (used_in (front ++ (words ++ back))) (hosted_in (front ++ (words ++ back)))
-            (apart_item front words back used_name own f-parts.0 i-parts.0 b-parts.0)
-            (apart_item front words back hosted_name own f-parts.1 i-parts.1 b-parts.1));
-      }
 
   pub bound_resolved : (hosts declared : List (List ℕ)) → Resolves hosts declared front
       → Resolves hosts declared (outside_of steps) → Resolves hosts declared back
@@ -251,6 +225,33 @@ module _ (steps : List Step) (wanted : List (List ℕ)) (f : JsFunction) (b : Is
       }
 
   module _ (fit : list_all step_fit steps ≡ true) where
+    declares : local_bound_in (function_words f.params (plain_stmts f.tree)) ≡ f.params ++ b.temps
+    declares = by_tree (λ words. local_bound_in words ≡ f.params ++ b.temps)
+        (function_declares steps f.params b.temps fit (bound_count steps wanted f b))
+
+    uses : AreAmong (local_in (function_words f.params (plain_stmts f.tree))) (f.params ++ b.temps)
+    uses = by_tree (λ words. AreAmong (local_in words) (f.params ++ b.temps)) (locals_among steps f.params b.temps fit enough)
+
+    pub bound_local : StandsBeside (f.params ++ b.temps) front → StandsBeside (f.params ++ b.temps) back
+        → KeepsLocals (item_words front back f.params (plain_stmts f.tree))
+    bound_local h k =
+        let own = f.params ++ b.temps in
+        let words = function_words f.params (plain_stmts f.tree) in
+        let same = alone_names front words back local_bound_name h.undeclared k.undeclared ∙ declares in
+        let f-parts = apart_split own (used_in front) (hosted_in front) h.apart in
+        let i-parts = apart_split own (used_in words) (hosted_in words) hides in
+        let b-parts = apart_split own (used_in back) (hosted_in back) k.apart in
+        record {
+          bound = subst (AreAmong (local_in (item_words front back f.params (plain_stmts f.tree)))) (sym same)
+              (subst (λ (ns : List (List ℕ)). AreAmong ns own)
+              (sym (alone_names front words back local_name h.unused k.unused)) uses);
+          apart = subst (λ (ns : List (List ℕ)). AreApart ns
+              (outer_in (item_words front back f.params (plain_stmts f.tree)))) (sym same)
+              (apart_joined own (used_in (front ++ (words ++ back))) (hosted_in (front ++ (words ++ back)))
+              (apart_item front words back used_name own f-parts.0 i-parts.0 b-parts.0)
+              (apart_item front words back hosted_name own f-parts.1 i-parts.1 b-parts.1));
+        }
+
     idents : (list_all is_ident f.params ≡ true) × (list_all is_ident b.temps ≡ true)
     idents = and_parts (list_all is_ident f.params) (list_all is_ident b.temps)
         (sym (list_all-append is_ident f.params b.temps) ∙ (own_names steps wanted f b).idents)

@@ -1,8 +1,8 @@
 -- The names from outside don't depend on the locals.
-use Rattle.std.proofs.Common.{◌≡◌, ℕ, zero, suc, List, [], ◌∷◌, ◌++◌, map, refl, ap, sym, ◌∙◌, true, false}
+use Rattle.std.proofs.Common.{◌≡◌, ℕ, zero, suc, List, [], ◌∷◌, ◌++◌, length, map, refl, ap, sym, ◌∙◌, Bool, true, false}
 use Rattle.std.proofs.lemmas.List.{append-nil}
 use Rattle.std.proofs.lemmas.List.Elements.{filter_map-append}
-use Rattle.std.specs.Prelude.{Option, None, codes}
+use Rattle.std.specs.Prelude.{Option, Some, None, codes}
 use Rattle.std.specs.List.{filter_map}
 use Rattle.glue_words.specs.declared.word.Word.{Word}
 use Rattle.glue_words.specs.declared.word.Word.TheVariants as w
@@ -14,11 +14,12 @@ use Rattle.glue_tree.specs.Leaves.{leaves, leaves_of, line_leaves, lines_leaves,
 use Rattle.glue_tree.proofs.Names.{IsKind, Has, function_names}
 use Rattle.glue_tree.proofs.Functions.{used_kind, hosted_kind}
 use Rattle.glue_imports.specs.declared.part.Part.{Part}
-use Rattle.glue_binding.proofs.Parts.{expression_found}
+use Rattle.glue_imports.specs.declared.part.Expression.{Expression}
+use Rattle.glue_binding.proofs.Parts.{parts_found}
 use Rattle.glue_steps.specs.Stack.{top, below, operands, without}
 use Rattle.glue_steps.specs.declared.step.Step.{Step}
 use Rattle.glue_steps.specs.declared.step.Step.TheVariants.{Parameter, Unchanged, CallExport, CallImport, ToUnsigned, TakeIndex, IndexFromBorrow, UnwrapResult}
-use Rattle.glue_binding.specs.Spelling.{Plain, Missing, Local, Unsigned, term_of, terms, first, expression_words, Piece, Ahead, Cleanup, ending, row, pieces_of, nested, tree_of}
+use Rattle.glue_binding.specs.Spelling.{Plain, Missing, Local, Unsigned, term_of, terms, first, next_names, parts_words, import_line_words, Piece, Ahead, Cleanup, ending, import_row, row, pieces_of, nested, tree_of}
 use Rattle.glue_binding.specs.Outer.{outer_in, seed_words}
 
 -- operands have no names of a kind that locals have none of
@@ -58,14 +59,20 @@ without_many : (n : ℕ) (t t' : List Plain) → AreAsMany t t' → AreAsMany (w
 without_many zero t t' h = h
 without_many (suc n) t t' h = without_many n (below t) (below t') (below_many t t' h)
 
+called_many : (adapter i : ℕ) (has_result : Bool) (e : Expression) (locals locals' : List (List ℕ)) (t t' : List Plain) (n n' : List (List ℕ))
+    → AreAsMany t t' → AreAsMany (import_row adapter i has_result e locals t n).stack (import_row adapter i has_result e locals' t' n').stack
+called_many adapter i true e locals locals' t t' n n' h = without_many i t t' h
+called_many adapter i false e locals locals' t t' n n' h = without_many i t t' h
+
 row_many : (s : Step) (p t p' t' : List Plain) (n n' : List (List ℕ)) → AreAsMany t t'
     → AreAsMany (row s p t n).stack (row s p' t' n').stack
 row_many (Parameter i) p t p' t' n n' h = h
 row_many Unchanged p t p' t' n n' h = below_many t t' h
 row_many (CallExport name i true) p t p' t' n n' h = without_many i t t' h
 row_many (CallExport name i false) p t p' t' n n' h = without_many i t t' h
-row_many (CallImport adapter i true parts) p t p' t' n n' h = without_many i t t' h
-row_many (CallImport adapter i false parts) p t p' t' n n' h = without_many i t t' h
+row_many (CallImport adapter i has_result e) p t p' t' n n' h =
+    let k = length e.locals in
+    called_many adapter i has_result e (next_names k n) (next_names k n') t t' (without k n) (without k n') h
 row_many ToUnsigned p t p' t' n n' h = below_many t t' h
 row_many TakeIndex p t p' t' n n' h = below_many t t' h
 row_many IndexFromBorrow p t p' t' n n' h = below_many t t' h
@@ -100,13 +107,22 @@ module _ (kind : Word → Option (List ℕ)) (outer : IsOuter kind) where
   passed : (ps qs : List Plain) → Alike (leaves_of (terms ps)) (leaves_of (terms qs))
   passed ps qs = record { same = terms_none kind outer.local ps ∙ sym (terms_none kind outer.local qs) }
 
-  import_same : (parts : List Part) (ps qs : List Plain)
-      → Alike (expression_words parts ps ++ w.Punct 8 ∷ []) (expression_words parts qs ++ w.Punct 8 ∷ [])
-  import_same parts ps qs =
-      let same : Alike (expression_words parts ps) (expression_words parts qs) = record {
-        same = expression_found kind outer.is outer.local ps parts ∙ sym (expression_found kind outer.is outer.local qs parts);
-      } in
-      beside same (equal (w.Punct 8 ∷ []))
+  parts_same : (parts : List Part) (ls ms : List (List ℕ)) (ps qs : List Plain) → Alike (parts_words parts ls ps) (parts_words parts ms qs)
+  parts_same parts ls ms ps qs = record {
+    same = parts_found kind outer.is outer.local outer.bound ls ps parts ∙ sym (parts_found kind outer.is outer.local outer.bound ms qs parts);
+  }
+
+  value_same : (parts : List Part) (ls ms : List (List ℕ)) (ps qs : List Plain)
+      → Alike (parts_words parts ls ps ++ w.Punct 8 ∷ []) (parts_words parts ms qs ++ w.Punct 8 ∷ [])
+  value_same parts ls ms ps qs = beside (parts_same parts ls ms ps qs) (equal (w.Punct 8 ∷ []))
+
+  run_same : (e : Expression) (ls ms : List (List ℕ)) (ps qs : List Plain) → Alike (import_line_words None e ls ps) (import_line_words None e ms qs)
+  run_same e ls ms ps qs = beside (parts_same e.prelude ls ms ps qs) (value_same e.value ls ms ps qs)
+
+  bound_same : (e : Expression) (a b : List ℕ) (ls ms : List (List ℕ)) (ps qs : List Plain)
+      → Alike (import_line_words (Some a) e ls ps) (import_line_words (Some b) e ms qs)
+  bound_same e a b ls ms ps qs = beside (parts_same e.prelude ls ms ps qs)
+      (kept (w.Key 8) (kept space (bind a b (kept space (kept (w.Punct 14) (kept space (value_same e.value ls ms ps qs)))))))
 
   -- `helper(p)`
   helper_same : (key : List ℕ) (p q : Plain) → Alike (w.Refer key false ∷ leaves_of (terms (p ∷ [])))
@@ -119,6 +135,12 @@ module _ (kind : Word → Option (List ℕ)) (outer : IsOuter kind) where
   AllAlike (Ahead a ∷ ps) (Ahead b ∷ qs) = Alike (line_leaves a) (line_leaves b) × AllAlike ps qs
   AllAlike (Cleanup a ∷ ps) (Cleanup b ∷ qs) = Alike (line_leaves a) (line_leaves b) × AllAlike ps qs
   AllAlike ps qs = ⊥
+
+  called_same : (adapter i : ℕ) (has_result : Bool) (e : Expression) (ls ms : List (List ℕ)) (t t' : List Plain) (n n' : List (List ℕ))
+      → AllAlike (import_row adapter i has_result e ls t n).pieces (import_row adapter i has_result e ms t' n').pieces
+  called_same adapter i true e ls ms t t' n n' =
+      (bound_same e (first n) (first n') ls ms (operands Missing i t []) (operands Missing i t' []), tt)
+  called_same adapter i false e ls ms t t' n n' = (run_same e ls ms (operands Missing i t []) (operands Missing i t' []), tt)
 
   -- a row of the table: a line or two a step
   row_same : (s : Step) (p t p' t' : List Plain) (n n' : List (List ℕ))
@@ -135,14 +157,9 @@ module _ (kind : Word → Option (List ℕ)) (outer : IsOuter kind) where
         (passed (operands Missing i t []) (operands Missing i t' []))),
     tt,
   )
-  row_same (CallImport adapter i true parts) p t p' t' n n' = (
-    kept (w.Key 8) (kept space (bind (first n) (first n')
-        (kept space (kept (w.Punct 14) (kept space (import_same parts (operands Missing i t [])
-        (operands Missing i t' []))))))),
-    tt,
-  )
-  row_same (CallImport adapter i false parts) p t p' t' n n' =
-      (import_same parts (operands Missing i t []) (operands Missing i t' []), tt)
+  row_same (CallImport adapter i has_result e) p t p' t' n n' =
+      let k = length e.locals in
+      called_same adapter i has_result e (next_names k n) (next_names k n') t t' (without k n) (without k n')
   row_same ToUnsigned p t p' t' n n' = tt
   row_same TakeIndex p t p' t' n n' = (
     bind (first n) (first n')

@@ -1,10 +1,12 @@
 -- The names in the words of the function of any steps: those that the steps bring along, and its parameters and
 -- temporaries.
-use Rattle.std.proofs.Common.{◌≡◌, ℕ, ◌≤◌, List, [], ◌∷◌, ◌++◌, length, map, refl, ap, sym, ◌∙◌, subst, true, false, arith}
+use Rattle.std.proofs.Common.{◌≡◌, ℕ, ◌<◌, ◌≤◌, List, [], ◌∷◌, ◌++◌, length, map, refl, ap, sym, ◌∙◌, subst, true, false, ◌⊎◌, inl, inr, arith, append_assoc}
+use Rattle.std.proofs.lemmas.Bool.{and_parts}
+use Rattle.std.proofs.lemmas.Bool.Decides.{nat_tests}
 use Rattle.std.proofs.lemmas.List.{append-nil}
 use Rattle.std.proofs.lemmas.List.Elements.{filter_map-append}
-use Rattle.std.specs.Prelude.{Option, Bool, ◌&&◌, pos, codes}
-use Rattle.std.specs.List.{filter_map, flat_map}
+use Rattle.std.specs.Prelude.{Option, Some, None, Bool, ◌&&◌, nat_lt, pos, codes}
+use Rattle.std.specs.List.{list_all, filter_map, flat_map}
 use Rattle.values.specs.Lists.{IsIn}
 use Rattle.values.proofs.Members.{in_left, in_right}
 use Rattle.glue_words.specs.declared.word.Word.{Word}
@@ -18,23 +20,26 @@ use Rattle.glue_tree.specs.FixedWords.{semicolon, const_word}
 use Rattle.glue_words.specs.Functions.{parenthesised}
 use Rattle.glue_imports.specs.declared.part.Part.{Part}
 use Rattle.glue_imports.specs.declared.part.Part.TheVariants as part
+use Rattle.glue_imports.specs.declared.part.Expression.{Expression}
 use Rattle.glue_words.specs.Words.{space}
 use Rattle.glue_tree.specs.Leaves.{leaves, leaves_of, line_leaves, lines_leaves, function_leaves}
 use Rattle.glue_tree.proofs.Names.{IsKind, Has, function_names}
 use Rattle.glue_tree.proofs.Functions.{local_kind, local_bound_kind}
-use Rattle.glue_steps.specs.Stack.{top, below, item_at, operands}
+use Rattle.glue_steps.specs.Stack.{top, below, item_at, operands, without}
 use Rattle.glue_steps.specs.declared.step.Step.{Step}
 use Rattle.glue_steps.specs.declared.step.Step.TheVariants.{Parameter, Unchanged, CallExport, CallImport, ToUnsigned, TakeIndex, IndexFromBorrow, UnwrapResult}
-use Rattle.glue_binding.specs.Spelling.{Plain, Missing, Local, Unsigned, term_of, terms, plain_words, guarded_words, argument_words, arguments_words, part_words, expression_words, Piece, Ahead, Cleanup, ending, pieces_of, nested, tree_of, counted, wanted_from, temporaries}
-use Rattle.glue_binding.proofs.Each.{Each, each_by, each_item, each_below}
+use Rattle.glue_binding.specs.Spelling.{Plain, Missing, Local, Unsigned, term_of, terms, plain_words, guarded_words, argument_words, arguments_words, next_names, part_words, parts_words, start_words, import_line_words, Piece, Ahead, Cleanup, ending, import_row, pieces_of, nested, tree_of, result_of, counted, wanted_from, temporaries}
+use Rattle.glue_binding.proofs.Each.{Each, each_by, each_there, each_item, each_below}
+use Rattle.glue_binding.proofs.Coming.{next_count, next_rest, first_enough, left_exact}
+use Rattle.glue_binding.proofs.Standing.{part_good, expression_fits, step_fit, fitting, fitting_good, steps_each, prelude_places, value_places}
 use Rattle.glue_binding.proofs.Rowwise.{IsRowwise, AllHave, pieces_have}
-use Rattle.glue_binding.proofs.Parts.{outer_part, outer_parts, expression_found, parts_bind, parts_use}
+use Rattle.glue_binding.proofs.Parts.{outer_part, outer_parts, outer_expression, expression_none, parts_use, parts_places}
 use Rattle.glue_binding.proofs.Outer.{IsOuter, plain_none, terms_none}
 
 -- the words from outside that the text of a step holds
 abbrev pub outside_words : Step → List Word
 outside_words (CallExport name n has_result) = w.Refer (codes "wasm") false ∷ w.Wasm name ∷ []
-outside_words (CallImport adapter n has_result parts) = outer_parts parts
+outside_words (CallImport adapter n has_result e) = outer_expression e
 outside_words TakeIndex = w.Refer (codes "takeObject") false ∷ []
 outside_words IndexFromBorrow =
     w.Refer (codes "addBorrowedObject") false ∷ w.Refer (codes "heap") false ∷ w.Refer (codes "stack_pointer") false
@@ -45,6 +50,10 @@ outside_words other = []
 -- those of steps, in order
 abbrev pub outside_of : List Step → List Word
 outside_of steps = flat_map outside_words steps
+
+-- a number below a count is below an equal one
+in_range : (n count size : ℕ) → nat_lt n count ≡ true → size ≡ count → n < size
+in_range n count size h same = grind (arith, nat_tests)
 
 module _ (kind : Word → Option (List ℕ)) (is : IsKind kind) where
   module _ (ys : List (List ℕ)) where
@@ -129,43 +138,109 @@ module _ (kind : Word → Option (List ℕ)) (is : IsKind kind) where
     arguments_hold first spread (p ∷ ps) h = merge (comma_holds first)
         (merge (argument_holds (spread && is_none ps) p h.0) (arguments_hold false spread ps h.1))
 
-    part_holds : (args : List Plain) → Each OfPlain args → (p : Part) → Holds (outer_part p) → Holds (part_words args p)
-    part_holds args h (part.Host name fields) f = f
-    part_holds args h part.Exports f = f
-    part_holds args h (part.Property name) f = f
-    part_holds args h (part.Literal text) f = record { among = rw (is.text text) tt }
-    part_holds args h (part.Punct place) f = mark place
-    part_holds args h (part.Key place) f = record { among = rw (is.key place) tt }
-    part_holds args h part.Space f = gap
-    part_holds args h (part.Operand n) f = guarded_holds (item_at Missing args n) (each_item OfPlain Missing tt args n h)
-    part_holds args h (part.Whole n) f = operand_holds (item_at Missing args n) (each_item OfPlain Missing tt args n h)
-    part_holds args h (part.Arguments spread) f = parens_hold (arguments_hold true spread args h)
-    part_holds args h (part.OtherArguments spread) f =
+    -- the local of a part
+    abbrev OfPart : (locals : List (List ℕ)) → Part → Type 0
+    OfPart locals (part.Binding n) = OfName (item_at [] locals n)
+    OfPart locals (part.Local n) = OfName (item_at [] locals n)
+    OfPart locals other = Unit {0}
+
+    part_holds : (locals : List (List ℕ)) (args : List Plain) → Each OfPlain args → (p : Part) → OfPart locals p → Holds (outer_part p)
+        → Holds (part_words locals args p)
+    part_holds locals args h (part.Host name fields) o f = f
+    part_holds locals args h (part.Name name) o f = f
+    part_holds locals args h part.Exports o f = f
+    part_holds locals args h (part.Property name) o f = f
+    part_holds locals args h (part.Chained name) o f = f
+    part_holds locals args h (part.Member name) o f = f
+    part_holds locals args h (part.Literal text) o f = record { among = rw (is.text text) tt }
+    part_holds locals args h (part.Number value) o f = record { among = rw (is.num value) tt }
+    part_holds locals args h (part.Punct place) o f = mark place
+    part_holds locals args h (part.Key place) o f = record { among = rw (is.key place) tt }
+    part_holds locals args h part.Space o f = gap
+    part_holds locals args h part.LineFeed o f = record { among = rw (is.gap (codes "\n")) tt }
+    part_holds locals args h (part.Note text) o f = f
+    part_holds locals args h (part.Binding n) o f = o.declared
+    part_holds locals args h (part.Local n) o f = o.used
+    part_holds locals args h (part.Operand n) o f = guarded_holds (item_at Missing args n) (each_item OfPlain Missing tt args n h)
+    part_holds locals args h (part.Whole n) o f = operand_holds (item_at Missing args n) (each_item OfPlain Missing tt args n h)
+    part_holds locals args h (part.Arguments spread) o f = parens_hold (arguments_hold true spread args h)
+    part_holds locals args h (part.OtherArguments spread) o f =
         parens_hold (arguments_hold true spread (below args) (each_below OfPlain Missing tt args h))
 
-    expression_holds : (parts : List Part) (args : List Plain) → Holds (outer_parts parts) → Each OfPlain args
-        → Holds (expression_words parts args)
-    expression_holds [] args f h = none
-    expression_holds (p ∷ parts) args f h =
+    parts_hold : (locals : List (List ℕ)) (args : List Plain) → Each OfPlain args → (parts : List Part) → Each (OfPart locals) parts
+        → Holds (outer_parts parts) → Holds (parts_words parts locals args)
+    parts_hold locals args h [] o f = none
+    parts_hold locals args h (p ∷ parts) o f =
         let both = split (outer_part p) (outer_parts parts) f in
-        merge (part_holds args h p both.0) (expression_holds parts args both.1 h)
+        merge (part_holds locals args h p o.0 both.0) (parts_hold locals args h parts o.1 both.1)
 
-    held : IsRowwise (λ l. Holds (line_leaves l)) OfPlain OfName (λ s. Holds (outside_words s))
+    -- the local of each part, where each that is counted has it
+    counted_part : (count : ℕ) (locals : List (List ℕ)) → ((n : ℕ) → nat_lt n count ≡ true → OfName (item_at [] locals n)) → (p : Part)
+        → part_good count p ≡ true → OfPart locals p
+    counted_part count locals o (part.Binding n) h = o n h
+    counted_part count locals o (part.Local n) h = o n h
+    counted_part count locals o other h = tt
+
+    counted_parts : (count : ℕ) (locals : List (List ℕ)) → ((n : ℕ) → nat_lt n count ≡ true → OfName (item_at [] locals n)) → (parts : List Part)
+        → list_all (part_good count) parts ≡ true → Each (OfPart locals) parts
+    counted_parts count locals o [] h = tt
+    counted_parts count locals o (p ∷ parts) h =
+        let both = and_parts (part_good count p) (list_all (part_good count) parts) h in
+        (counted_part count locals o p both.0, counted_parts count locals o parts both.1)
+
+    -- or where any name has it
+    any_part : (locals : List (List ℕ)) → ((x : List ℕ) → OfName x) → (p : Part) → OfPart locals p
+    any_part locals o (part.Binding n) = o (item_at [] locals n)
+    any_part locals o (part.Local n) = o (item_at [] locals n)
+    any_part locals o other = tt
+
+    any_parts : (locals : List (List ℕ)) → ((x : List ℕ) → OfName x) → (parts : List Part) → Each (OfPart locals) parts
+    any_parts locals o [] = tt
+    any_parts locals o (p ∷ parts) = (any_part locals o p, any_parts locals o parts)
+
+    -- any name has it, or the texts of steps fit
+    abbrev Known : Step → Type 0
+    Known s = ((x : List ℕ) → OfName x) ⊎ (step_fit s ≡ true)
+
+    record OfParts (e : Expression) (locals : List (List ℕ)) : Type 0 where
+      above : Each (OfPart locals) e.prelude
+      value : Each (OfPart locals) e.value
+
+    known_parts : (adapter n : ℕ) (has_result : Bool) (e : Expression) (locals : List (List ℕ)) → length locals ≡ length e.locals
+        → Each OfName locals → Known (CallImport adapter n has_result e) → OfParts e locals
+    known_parts adapter n has_result e locals same l (inl o) =
+        record { above = any_parts locals o e.prelude; value = any_parts locals o e.value }
+    known_parts adapter n has_result e locals same l (inr fit) =
+        let good = fitting_good e (fitting e fit) in
+        let count = length e.locals in
+        let there : (n : ℕ) → nat_lt n count ≡ true → OfName (item_at [] locals n) = λ n h.
+        each_there OfName [] locals n (in_range n count (length locals) h same) l in
+        record { above = counted_parts count locals there e.prelude good.0; value = counted_parts count locals there e.value good.1 }
+
+    -- the statements before a value, and words behind them
+    above_holds : (e : Expression) (locals : List (List ℕ)) (args : List Plain) → OfParts e locals → Holds (outer_expression e) → Each OfPlain args
+        → (start : List Word) → Holds start → Holds (parts_words e.prelude locals args ++ (start ++ (parts_words e.value locals args ++ semicolon ∷ [])))
+    above_holds e locals args o f h start k =
+        let both = split (outer_parts e.prelude) (outer_parts e.value) f in
+        merge (parts_hold locals args h e.prelude o.above both.0) (merge k (merge (parts_hold locals args h e.value o.value both.1) (mark 8)))
+
+    held : IsRowwise (λ l. Holds (line_leaves l)) OfPlain OfName (λ s. Holds (outside_words s) × Known s)
     held = record {
       missing = tt;
       local = λ x h. h.used;
       unsigned = λ p h. h;
       ends = λ p h. plain_holds p h;
-      export_runs = λ name n f args h. merge f (terms_hold args h);
-      export_binds = λ name n f x d args h. merge d.declared (merge f (terms_hold args h));
-      import_runs = λ adapter n parts f args h. merge (expression_holds parts args f h) (mark 8);
-      import_binds = λ adapter n parts f x d args h. merge (start_holds x d)
-          (merge (expression_holds parts args f h) (mark 8));
-      takes = λ f x d p h. merge d.declared (merge f (terms_hold (p ∷ []) (h, tt)));
-      borrows = λ f x d p h. merge d.declared (merge (split (w.Refer (codes "addBorrowedObject") false ∷ []) _ f).0
+      export_runs = λ name n f args h. merge f.0 (terms_hold args h);
+      export_binds = λ name n f x d args h. merge d.declared (merge f.0 (terms_hold args h));
+      import_runs = λ adapter n e f locals c l args h.
+          above_holds e locals args (known_parts adapter n false e locals c l f.1) f.0 h [] none;
+      import_binds = λ adapter n e f locals c l x d args h.
+          above_holds e locals args (known_parts adapter n true e locals c l f.1) f.0 h (const_start x) (start_holds x d);
+      takes = λ f x d p h. merge d.declared (merge f.0 (terms_hold (p ∷ []) (h, tt)));
+      borrows = λ f x d p h. merge d.declared (merge (split (w.Refer (codes "addBorrowedObject") false ∷ []) _ f.0).0
           (terms_hold (p ∷ []) (h, tt)));
-      gives_back = λ f. (split (w.Refer (codes "addBorrowedObject") false ∷ []) _ f).1;
-      throws = λ f p q h k. merge (plain_holds p h) (merge (merge f (terms_hold (q ∷ []) (k, tt))) none);
+      gives_back = λ f. (split (w.Refer (codes "addBorrowedObject") false ∷ []) _ f.0).1;
+      throws = λ f p q h k. merge (plain_holds p h) (merge (merge f.0 (terms_hold (q ∷ []) (k, tt))) none);
     }
 
     nested_holds : (pieces : List Piece) (rest : Lines) → AllHave (λ l. Holds (line_leaves l)) pieces
@@ -182,21 +257,21 @@ module _ (kind : Word → Option (List ℕ)) (is : IsKind kind) where
     params_plain [] h = tt
     params_plain (name ∷ names) h = (h.0.used, params_plain names h.1)
 
-    steps_hold : (steps : List Step) → Holds (outside_of steps) → Each (λ s. Holds (outside_words s)) steps
-    steps_hold [] h = tt
-    steps_hold (s ∷ steps) h = let parts = split (outside_words s) (outside_of steps) h in
-        (parts.0, steps_hold steps parts.1)
+    steps_hold : (steps : List Step) → Holds (outside_of steps) → Each Known steps → Each (λ s. Holds (outside_words s) × Known s) steps
+    steps_hold [] h k = tt
+    steps_hold (s ∷ steps) h k = let parts = split (outside_words s) (outside_of steps) h in
+        ((parts.0, k.0), steps_hold steps parts.1 k.1)
 
     function_holds : (steps : List Step) (params temps : List (List ℕ)) → length (temporaries steps) ≤ length temps
-        → Holds (outside_of steps) → Each OfName params → Each OfName temps
+        → Holds (outside_of steps) → Each Known steps → Each OfName params → Each OfName temps
         → AreAmong (filter_map kind (function_words params (tree_of steps params temps))) ys
-    function_holds steps params temps le f p m =
+    function_holds steps params temps le f k p m =
         let tree = tree_of steps params temps in
         let has : Has kind is (function_words params tree)
         (function_leaves params tree) = function_names kind is params tree in
         let leaves_hold : Holds (lines_leaves tree) =
         nested_holds (pieces_of steps (map Local params) [] temps) NoLines
-        (pieces_have held steps (map Local params) [] temps 0 (steps_hold steps f) le
+        (pieces_have held steps (map Local params) [] temps 0 (steps_hold steps f k) le
         (params_plain params p) tt m) none in
         let all : Holds (function_leaves params tree) = merge (params_hold params p) leaves_hold in
         subst (λ (ns : List (List ℕ)). AreAmong ns ys) (sym has.same) all.among
@@ -216,13 +291,14 @@ outside_among kind outer steps params temps le =
       };
     } in
     function_holds kind outer.is ys steps params temps le (record { among = among_itself ys })
+    (each_by (Known kind outer.is ys) steps (λ s at. inl name))
     (each_by (OfName kind outer.is ys) params (λ x at. name x))
     (each_by (OfName kind outer.is ys) temps (λ x at. name x))
 
 -- ---- locals
 
 outside_local : (s : Step) → local_in (outside_words s) ≡ []
-outside_local (CallImport adapter n has_result parts) = parts_use parts
+outside_local (CallImport adapter n has_result e) = expression_none local_name parts_use e
 outside_local other = refl
 
 steps_local : (steps : List Step) → local_in (outside_of steps) ≡ []
@@ -233,16 +309,21 @@ steps_local (s ∷ steps) =
     ∙ steps_local steps
 
 -- the locals that are used are parameters and temporaries
-pub locals_among : (steps : List Step) (params temps : List (List ℕ)) → length (temporaries steps) ≤ length temps
+pub locals_among : (steps : List Step) (params temps : List (List ℕ)) → list_all step_fit steps ≡ true → length (temporaries steps) ≤ length temps
     → AreAmong (local_in (function_words params (tree_of steps params temps))) (params ++ temps)
-locals_among steps params temps le =
+locals_among steps params temps fit le =
     let ys = params ++ temps in
     let name : (x : List ℕ) → IsIn x ys → OfName local_name local_kind ys x =
     λ x at. record { declared = record { among = tt }; used = record { among = (at, tt) } } in
     function_holds local_name local_kind ys steps params temps le
     (record { among = subst (λ (ns : List (List ℕ)). AreAmong ns ys) (sym (steps_local steps)) tt })
+    (fits_known steps (steps_each steps fit))
     (each_by (OfName local_name local_kind ys) params (λ x at. name x (in_left x params temps at)))
     (each_by (OfName local_name local_kind ys) temps (λ x at. name x (in_right x params temps at)))
+  where
+    fits_known : (steps : List Step) → Each (λ s. step_fit s ≡ true) steps → Each (Known local_name local_kind (params ++ temps)) steps
+    fits_known [] h = tt
+    fits_known (s ∷ steps) h = (inr h.0, fits_known steps h.1)
 
 -- the locals that pieces declare, in the order of their statements
 abbrev declared_in : List Piece → List (List ℕ)
@@ -271,10 +352,50 @@ terms_declare ps = terms_none local_bound_name (λ n. refl) ps
 none_declared : (xs ys : List Word) → local_bound_in xs ≡ [] → local_bound_in ys ≡ [] → local_bound_in (xs ++ ys) ≡ []
 none_declared xs ys h k = two_declared xs ys ∙ ap (λ (ns : List (List ℕ)). ns ++ local_bound_in ys) h ∙ k
 
--- the expression of an import declares nothing
-expression_declares : (parts : List Part) (args : List Plain) → local_bound_in (expression_words parts args ++ semicolon ∷ []) ≡ []
-expression_declares parts args = none_declared (expression_words parts args) (semicolon ∷ [])
-    (expression_found local_bound_name local_bound_kind (λ n. refl) args parts ∙ parts_bind parts) refl
+-- the local that the answer of an import is bound to
+abbrev bound_local : Option (List ℕ) → List (List ℕ)
+bound_local None = []
+bound_local (Some x) = x ∷ []
+
+start_declares : (bound : Option (List ℕ)) → local_bound_in (start_words bound) ≡ bound_local bound
+start_declares None = refl
+start_declares (Some x) = refl
+
+-- the statements of an expression that fits declare its locals, and then the one that its answer is bound to
+line_declares : (e : Expression) → expression_fits e ≡ true → (bound : Option (List ℕ)) (locals : List (List ℕ)) → length locals ≡ length e.locals
+    → (args : List Plain) → local_bound_in (import_line_words bound e locals args) ≡ locals ++ bound_local bound
+line_declares e fit bound locals same args =
+    let f = fitting e fit in
+    let above = parts_words e.prelude locals args in
+    let value = parts_words e.value locals args in
+    let start = start_words bound in
+    two_declared above (start ++ (value ++ semicolon ∷ []))
+    ∙ ap (λ (ns : List (List ℕ)). ns ++ local_bound_in (start ++ (value ++ semicolon ∷ [])))
+    (parts_places locals args e.prelude ∙ prelude_places e f locals same)
+    ∙ ap (λ (ns : List (List ℕ)). locals ++ ns) (two_declared start (value ++ semicolon ∷ [])
+    ∙ ap (λ (ns : List (List ℕ)). ns ++ local_bound_in (value ++ semicolon ∷ [])) (start_declares bound)
+    ∙ ap (λ (ns : List (List ℕ)). bound_local bound ++ ns) (none_declared value (semicolon ∷ [])
+    (parts_places locals args e.value ∙ value_places e f locals) refl)
+    ∙ append-nil (bound_local bound))
+
+-- a call of an import declares its locals, and the pieces behind it the others
+called_declares : (adapter n : ℕ) (has_result : Bool) (e : Expression) → expression_fits e ≡ true → (locals : List (List ℕ))
+    → length locals ≡ length e.locals → (stack : List Plain) (names rest : List (List ℕ)) (pieces : List Plain → List (List ℕ) → List Piece)
+    → length (result_of has_result ++ rest) ≡ length names
+    → ((stack : List Plain) (names : List (List ℕ)) → length rest ≡ length names → declared_in (pieces stack names) ≡ names)
+    → declared_in ((import_row adapter n has_result e locals stack names).pieces
+    ++ pieces (import_row adapter n has_result e locals stack names).stack (import_row adapter n has_result e locals stack names).names)
+    ≡ locals ++ names
+called_declares adapter n true e fit locals same stack [] rest pieces c next = absurd (omega (arith, c))
+called_declares adapter n true e fit locals same stack (x ∷ names) rest pieces c next =
+    ap (λ (ns : List (List ℕ)). ns ++ declared_in (pieces (Local x ∷ without n stack) names))
+    (line_declares e fit (Some x) locals same (operands Missing n stack []))
+    ∙ append_assoc locals (x ∷ []) (declared_in (pieces (Local x ∷ without n stack) names))
+    ∙ ap (λ (ns : List (List ℕ)). locals ++ x ∷ ns) (next (Local x ∷ without n stack) names (omega (arith, c)))
+called_declares adapter n false e fit locals same stack names rest pieces c next =
+    ap (λ (ns : List (List ℕ)). ns ++ declared_in (pieces (without n stack) names))
+    (line_declares e fit None locals same (operands Missing n stack []) ∙ append-nil locals)
+    ∙ ap (λ (ns : List (List ℕ)). locals ++ ns) (next (without n stack) names c)
 
 -- after words that declare nothing
 after_none : (xs : List Word) (ns ms : List (List ℕ)) → local_bound_in xs ≡ [] → ns ≡ ms → local_bound_in xs ++ ns ≡ ms
@@ -285,55 +406,57 @@ ending_declares [] = refl
 ending_declares (p ∷ stack) = after_none (leaves (term_of p)) [] [] (plain_none local_bound_name (λ n. refl) p) refl
 
 -- the statements declare the temporaries, in order: a line or two a step
-pieces_declare : (steps : List Step) (params stack : List Plain) (names : List (List ℕ)) (count : ℕ)
+pieces_declare : (steps : List Step) (params stack : List Plain) (names : List (List ℕ)) (count : ℕ) → Each (λ s. step_fit s ≡ true) steps
     → length (wanted_from count steps) ≡ length names → declared_in (pieces_of steps params stack names) ≡ names
-pieces_declare [] params stack [] count e = ending_declares stack
-pieces_declare [] params stack (x ∷ names) count e = absurd (omega (arith, e))
-pieces_declare (Parameter n ∷ steps) params stack names count e = pieces_declare steps params _ names count e
-pieces_declare (Unchanged ∷ steps) params stack names count e = pieces_declare steps params _ names count e
-pieces_declare (CallExport name n true ∷ steps) params stack [] count e = absurd (omega (arith, e))
-pieces_declare (CallExport name n true ∷ steps) params stack (x ∷ names) count e =
+pieces_declare [] params stack [] count g e = ending_declares stack
+pieces_declare [] params stack (x ∷ names) count g e = absurd (omega (arith, e))
+pieces_declare (Parameter n ∷ steps) params stack names count g e = pieces_declare steps params _ names count g.1 e
+pieces_declare (Unchanged ∷ steps) params stack names count g e = pieces_declare steps params _ names count g.1 e
+pieces_declare (CallExport name n true ∷ steps) params stack [] count g e = absurd (omega (arith, e))
+pieces_declare (CallExport name n true ∷ steps) params stack (x ∷ names) count g e =
     ap (λ (ns : List (List ℕ)). x ∷ ns) (after_none (leaves_of (terms (operands Missing n stack []))) _ names
-    (terms_declare (operands Missing n stack [])) (pieces_declare steps params _ names count (omega (arith, e))))
-pieces_declare (CallExport name n false ∷ steps) params stack names count e =
+    (terms_declare (operands Missing n stack [])) (pieces_declare steps params _ names count g.1 (omega (arith, e))))
+pieces_declare (CallExport name n false ∷ steps) params stack names count g e =
     after_none (leaves_of (terms (operands Missing n stack []))) _ names (terms_declare (operands Missing n stack []))
-    (pieces_declare steps params _ names count e)
-pieces_declare (CallImport adapter n true parts ∷ steps) params stack [] count e = absurd (omega (arith, e))
-pieces_declare (CallImport adapter n true parts ∷ steps) params stack (x ∷ names) count e =
-    ap (λ (ns : List (List ℕ)). x ∷ ns) (after_none (expression_words parts (operands Missing n stack []) ++ semicolon ∷ []) _ names
-    (expression_declares parts (operands Missing n stack [])) (pieces_declare steps params _ names count (omega (arith, e))))
-pieces_declare (CallImport adapter n false parts ∷ steps) params stack names count e =
-    after_none (expression_words parts (operands Missing n stack []) ++ semicolon ∷ []) _ names
-    (expression_declares parts (operands Missing n stack [])) (pieces_declare steps params _ names count e)
-pieces_declare (ToUnsigned ∷ steps) params stack names count e = pieces_declare steps params _ names count e
-pieces_declare (TakeIndex ∷ steps) params stack [] count e = absurd (omega (arith, e))
-pieces_declare (TakeIndex ∷ steps) params stack (x ∷ names) count e =
+    (pieces_declare steps params _ names count g.1 e)
+pieces_declare (CallImport adapter n has_result e ∷ steps) params stack names count g c =
+    let k = length e.locals in
+    let rest = wanted_from count steps in
+    let wanted : length (e.locals ++ (result_of has_result ++ rest)) ≡ length names =
+    subst (λ (ws : List (List ℕ)). length ws ≡ length names) (append_assoc e.locals (result_of has_result) rest) c in
+    called_declares adapter n has_result e g.0 (next_names k names) (next_count k names) stack (without k names) rest (pieces_of steps params)
+    (left_exact e.locals (result_of has_result ++ rest) names wanted)
+    (λ stack names c. pieces_declare steps params stack names count g.1 c)
+    ∙ next_rest k names (first_enough e.locals (result_of has_result ++ rest) names (omega (arith, wanted)))
+pieces_declare (ToUnsigned ∷ steps) params stack names count g e = pieces_declare steps params _ names count g.1 e
+pieces_declare (TakeIndex ∷ steps) params stack [] count g e = absurd (omega (arith, e))
+pieces_declare (TakeIndex ∷ steps) params stack (x ∷ names) count g e =
     ap (λ (ns : List (List ℕ)). x ∷ ns) (after_none (leaves_of (terms (top Missing stack ∷ []))) _ names
-    (terms_declare (top Missing stack ∷ [])) (pieces_declare steps params _ names (counted TakeIndex count)
+    (terms_declare (top Missing stack ∷ [])) (pieces_declare steps params _ names (counted TakeIndex count) g.1
     (omega (arith, e))))
-pieces_declare (IndexFromBorrow ∷ steps) params stack [] count e = absurd (omega (arith, e))
-pieces_declare (IndexFromBorrow ∷ steps) params stack (x ∷ names) count e =
+pieces_declare (IndexFromBorrow ∷ steps) params stack [] count g e = absurd (omega (arith, e))
+pieces_declare (IndexFromBorrow ∷ steps) params stack (x ∷ names) count g e =
     ap (λ (ns : List (List ℕ)). x ∷ ns) (after_none (leaves_of (terms (top Missing stack ∷ []))) _ names
     (terms_declare (top Missing stack ∷ []))
     (append-nil (declared_in (pieces_of steps params (Local x ∷ below stack) names))
-    ∙ pieces_declare steps params (Local x ∷ below stack) names (counted IndexFromBorrow count) (omega (arith, e))))
-pieces_declare (UnwrapResult ∷ steps) params stack names count e =
+    ∙ pieces_declare steps params (Local x ∷ below stack) names (counted IndexFromBorrow count) g.1 (omega (arith, e))))
+pieces_declare (UnwrapResult ∷ steps) params stack names count g e =
     let flag = leaves (term_of (top Missing stack)) in
     let handle = leaves_of (terms (top Missing (below stack) ∷ [])) in
     after_none (flag ++ ((w.Refer (codes "takeObject") false ∷ handle) ++ [])) _ names
     (two_declared flag ((w.Refer (codes "takeObject") false ∷ handle) ++ [])
     ∙ after_none flag _ [] (plain_none local_bound_name (λ n. refl) (top Missing stack))
     (ap local_bound_in (append-nil handle) ∙ terms_declare (top Missing (below stack) ∷ [])))
-    (pieces_declare steps params _ names count e)
+    (pieces_declare steps params _ names count g.1 e)
 
 params_declare : (names : List (List ℕ)) → local_bound_in (map w.LocalBind names) ≡ names
 params_declare [] = refl
 params_declare (name ∷ names) = ap (λ (ns : List (List ℕ)). name ∷ ns) (params_declare names)
 
 -- the function declares its parameters and temporaries
-pub function_declares : (steps : List Step) (params temps : List (List ℕ)) → length (temporaries steps) ≡ length temps
+pub function_declares : (steps : List Step) (params temps : List (List ℕ)) → list_all step_fit steps ≡ true → length (temporaries steps) ≡ length temps
     → local_bound_in (function_words params (tree_of steps params temps)) ≡ params ++ temps
-function_declares steps params temps e =
+function_declares steps params temps fit e =
     let tree = tree_of steps params temps in
     let has : Has local_bound_name local_bound_kind (function_words params tree)
     (function_leaves params tree) = function_names local_bound_name local_bound_kind params tree in
@@ -341,4 +464,4 @@ function_declares steps params temps e =
     ∙ two_declared (map w.LocalBind params) (lines_leaves tree)
     ∙ ap (λ (ns : List (List ℕ)). ns ++ local_bound_in (lines_leaves tree)) (params_declare params)
     ∙ ap (λ (ns : List (List ℕ)). params ++ ns) (nested_declared (pieces_of steps (map Local params) [] temps)
-    ∙ pieces_declare steps (map Local params) [] temps 0 e)
+    ∙ pieces_declare steps (map Local params) [] temps 0 (steps_each steps fit) e)

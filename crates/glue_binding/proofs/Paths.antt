@@ -17,9 +17,9 @@ use Rattle.glue_words.proofs.Spaced.{first_word-append, each_next_both, all_both
 use Rattle.glue_scope.specs.Properties.{segment_words, property_parts}
 use Rattle.glue_tree.specs.FixedWords.{open_bracket, close_bracket, dot}
 use Rattle.glue_tree.proofs.Fit.{is_good, spaced}
-use Rattle.glue_tree.proofs.Functions.{bound_kind, used_kind, hosted_kind, local_kind, local_bound_kind, wasm_kind}
+use Rattle.glue_tree.proofs.Functions.{bound_kind, used_kind, hosted_kind, local_kind, local_bound_kind, wasm_kind, spliced_kind}
 use Rattle.glue_tree.proofs.Names.{IsKind}
-use Rattle.glue_binding.specs.Spelling.{path_words}
+use Rattle.glue_binding.specs.Spelling.{path_words, without_dot, chained_words}
 
 and_true : (a b : Bool) → a ≡ true → b ≡ true → (a && b) ≡ true
 and_true a b h k = ap (λ x. x && b) h ∙ k
@@ -127,6 +127,38 @@ path_tells fields = record {
   splices = path_splices fields;
   formed = path_formed fields;
 }
+
+-- the access of one property tells nothing but a computed key
+pub property_tells : (name : List ℕ) → TellsKeys (property_parts name) (filter is_computed (name ∷ []))
+property_tells name =
+    subst (λ (words : List Word). TellsKeys words (filter is_computed (name ∷ []))) (append-nil (property_parts name)) (path_tells (name ∷ []))
+
+-- a dot has no name
+undotted : (kind : Word → Option (List ℕ)) → IsKind kind → (words : List Word) → filter_map kind (without_dot words) ≡ filter_map kind words
+undotted kind is [] = refl
+undotted kind is (w.Punct place ∷ words) = by (place == 6)
+  where
+    by : (b : Bool) → filter_map kind (cond b words (w.Punct place ∷ words)) ≡ filter_map kind (w.Punct place ∷ words)
+    by true = rw (is.punct place) refl
+    by false = refl
+undotted kind is (word ∷ words) = refl
+
+chained_same : (kind : Word → Option (List ℕ)) → IsKind kind → (name : List ℕ) → filter_map kind (chained_words name) ≡ filter_map kind (property_parts name)
+chained_same kind is name = rw (is.punct 11) (undotted kind is (property_parts name))
+
+-- nor does that of what may be absent
+pub chained_tells : (name : List ℕ) → TellsKeys (chained_words name) (filter is_computed (name ∷ []))
+chained_tells name =
+    let p = property_tells name in record {
+      binds = chained_same bound_name bound_kind name ∙ p.binds;
+      uses = chained_same used_name used_kind name ∙ p.uses;
+      hosts = chained_same hosted_name hosted_kind name ∙ p.hosts;
+      declares = chained_same local_bound_name local_bound_kind name ∙ p.declares;
+      locals = chained_same local_name local_kind name ∙ p.locals;
+      takes = chained_same wasm_name wasm_kind name ∙ p.takes;
+      splices = chained_same spliced_key spliced_kind name ∙ p.splices;
+      formed = p.formed;
+    }
 
 -- ---- spacing
 

@@ -1,13 +1,14 @@
 -- What holds of the statements of each row holds of the pieces of any steps.
-use Rattle.std.proofs.Common.{ℕ, ◌≤◌, List, [], ◌∷◌, ◌++◌, length, Some, None, true, false, arith}
+use Rattle.std.proofs.Common.{◌≡◌, ℕ, ◌≤◌, List, [], ◌∷◌, ◌++◌, length, Some, None, Bool, true, false, subst, arith, append_assoc}
 use Rattle.std.specs.Prelude.{codes}
 use Rattle.glue_tree.specs.Term.{Line, Bind, Run, Leave}
-use Rattle.glue_imports.specs.declared.part.Part.{Part}
-use Rattle.glue_steps.specs.Stack.{top, below, operands}
+use Rattle.glue_imports.specs.declared.part.Expression.{Expression}
+use Rattle.glue_steps.specs.Stack.{top, below, operands, without}
 use Rattle.glue_steps.specs.declared.step.Step.{Step}
 use Rattle.glue_steps.specs.declared.step.Step.TheVariants.{Parameter, Unchanged, CallExport, CallImport, ToUnsigned, TakeIndex, IndexFromBorrow, UnwrapResult}
-use Rattle.glue_binding.specs.Spelling.{Plain, Missing, Local, Unsigned, term_of, export_call, helper_call, import_call, gives_back_line, throw_line, Piece, Ahead, Cleanup, ending, row, pieces_of, wanted_by, counted, wanted_from}
+use Rattle.glue_binding.specs.Spelling.{Plain, Missing, Local, Unsigned, term_of, export_call, helper_call, import_call, gives_back_line, throw_line, next_names, Piece, Ahead, Cleanup, ending, import_row, row, pieces_of, result_of, wanted_by, counted, wanted_from}
 use Rattle.glue_binding.proofs.Each.{Each, each_item, each_top, each_below, each_without, each_operands}
+use Rattle.glue_binding.proofs.Coming.{next_count, first_enough, left_enough, next_each, left_each}
 
 -- a property of statements, by one of operands, one of names and one of steps: a line or two a step
 pub record IsRowwise (D : Line → Type 0) (S : Plain → Type 0) (N : List ℕ → Type 0) (F : Step → Type 0) : Type 0 where
@@ -19,12 +20,11 @@ pub record IsRowwise (D : Line → Type 0) (S : Plain → Type 0) (N : List ℕ 
       → D (Run (export_call name args))
   pub export_binds : (name : List ℕ) (n : ℕ) → F (CallExport name n true) → (x : List ℕ) → N x → (args : List Plain)
       → Each S args → D (Bind x (export_call name args))
-  pub import_runs : (adapter n : ℕ) (parts : List Part)
-      → F (CallImport adapter n false parts) → (args : List Plain) → Each S args
-      → D (import_call adapter None parts args)
-  pub import_binds : (adapter n : ℕ) (parts : List Part)
-      → F (CallImport adapter n true parts) → (x : List ℕ) → N x → (args : List Plain) → Each S args
-      → D (import_call adapter (Some x) parts args)
+  pub import_runs : (adapter n : ℕ) (e : Expression) → F (CallImport adapter n false e) → (locals : List (List ℕ))
+      → length locals ≡ length e.locals → Each N locals → (args : List Plain) → Each S args → D (import_call adapter None e locals args)
+  pub import_binds : (adapter n : ℕ) (e : Expression) → F (CallImport adapter n true e) → (locals : List (List ℕ))
+      → length locals ≡ length e.locals → Each N locals → (x : List ℕ) → N x → (args : List Plain) → Each S args
+      → D (import_call adapter (Some x) e locals args)
   pub takes : F TakeIndex → (x : List ℕ) → N x → (p : Plain) → S p → D (Bind x (helper_call (codes "takeObject") p))
   pub borrows : F IndexFromBorrow → (x : List ℕ) → N x → (p : Plain) → S p
       → D (Bind x (helper_call (codes "addBorrowedObject") p))
@@ -37,6 +37,19 @@ AllHave D [] = Unit {0}
 AllHave D (Ahead line ∷ pieces) = D line × AllHave D pieces
 AllHave D (Cleanup line ∷ pieces) = D line × AllHave D pieces
 
+-- so many names as a call wants and later steps do
+called_enough : (adapter n : ℕ) (has_result : Bool) (e : Expression) (locals : List (List ℕ)) (stack : List Plain) (names rest : List (List ℕ))
+    → length (result_of has_result ++ rest) ≤ length names → length rest ≤ length (import_row adapter n has_result e locals stack names).names
+called_enough adapter n true e locals stack [] rest le = absurd (omega (arith, le))
+called_enough adapter n true e locals stack (x ∷ names) rest le = omega (arith, le)
+called_enough adapter n false e locals stack names rest le = le
+
+-- the names that a call wants, in two parts
+apart_wanted : (e : Expression) (has_result : Bool) (rest names : List (List ℕ)) → length ((e.locals ++ result_of has_result) ++ rest) ≤ length names
+    → length (e.locals ++ (result_of has_result ++ rest)) ≤ length names
+apart_wanted e has_result rest names le =
+    subst (λ (ws : List (List ℕ)). length ws ≤ length names) (append_assoc e.locals (result_of has_result) rest) le
+
 -- as many names are left as later steps want
 row_enough : (s : Step) (params stack : List Plain) (names : List (List ℕ)) (count : ℕ) (rest : List (List ℕ))
     → length (wanted_by s count ++ rest) ≤ length names → length rest ≤ length (row s params stack names).names
@@ -45,9 +58,9 @@ row_enough Unchanged params stack names count rest le = le
 row_enough (CallExport name n true) params stack [] count rest le = absurd (omega (arith, le))
 row_enough (CallExport name n true) params stack (x ∷ names) count rest le = omega (arith, le)
 row_enough (CallExport name n false) params stack names count rest le = le
-row_enough (CallImport adapter n true parts) params stack [] count rest le = absurd (omega (arith, le))
-row_enough (CallImport adapter n true parts) params stack (x ∷ names) count rest le = omega (arith, le)
-row_enough (CallImport adapter n false parts) params stack names count rest le = le
+row_enough (CallImport adapter n has_result e) params stack names count rest le =
+    called_enough adapter n has_result e (next_names (length e.locals) names) stack (without (length e.locals) names) rest
+    (left_enough e.locals (result_of has_result ++ rest) names (apart_wanted e has_result rest names le))
 row_enough ToUnsigned params stack names count rest le = le
 row_enough TakeIndex params stack [] count rest le = absurd (omega (arith, le))
 row_enough TakeIndex params stack (x ∷ names) count rest le = omega (arith, le)
@@ -62,6 +75,29 @@ module _ {D : Line → Type 0} {S : Plain → Type 0} {N : List ℕ → Type 0} 
     pieces_have : AllHave D pieces
     stack_has : Each S stack
     names_have : Each N names
+
+  called_has : (adapter n : ℕ) (has_result : Bool) (e : Expression) (locals : List (List ℕ)) (stack : List Plain) (names rest : List (List ℕ))
+      → F (CallImport adapter n has_result e) → length locals ≡ length e.locals → Each N locals
+      → length (result_of has_result ++ rest) ≤ length names → Each S stack → Each N names
+      → RowHas (import_row adapter n has_result e locals stack names).pieces (import_row adapter n has_result e locals stack names).stack
+      (import_row adapter n has_result e locals stack names).names
+  called_has adapter n true e locals stack [] rest f c l le t m = absurd (omega (arith, le))
+  called_has adapter n true e locals stack (x ∷ names) rest f c l le t m = record {
+    pieces_have = (
+      is.import_binds adapter n e f locals c l x m.0 (operands Missing n stack []) (each_operands S Missing is.missing n stack [] t tt),
+      tt,
+    );
+    stack_has = (is.local x m.0, each_without S Missing is.missing n stack t);
+    names_have = m.1;
+  }
+  called_has adapter n false e locals stack names rest f c l le t m = record {
+    pieces_have = (
+      is.import_runs adapter n e f locals c l (operands Missing n stack []) (each_operands S Missing is.missing n stack [] t tt),
+      tt,
+    );
+    stack_has = each_without S Missing is.missing n stack t;
+    names_have = m;
+  }
 
   row_has : (s : Step) (params stack : List Plain) (names : List (List ℕ)) (count : ℕ) (rest : List (List ℕ)) → F s
       → length (wanted_by s count ++ rest) ≤ length names → Each S params → Each S stack → Each N names
@@ -101,25 +137,12 @@ module _ {D : Line → Type 0} {S : Plain → Type 0} {N : List ℕ → Type 0} 
     stack_has = each_without S Missing is.missing n stack t;
     names_have = m;
   }
-  row_has (CallImport adapter n true parts) params stack [] count rest f le p t m = absurd (omega (arith, le))
-  row_has (CallImport adapter n true parts) params stack (x ∷ names) count rest f le p t m = record {
-    pieces_have = (
-      is.import_binds adapter n parts f x m.0 (operands Missing n stack [])
-          (each_operands S Missing is.missing n stack [] t tt),
-      tt,
-    );
-    stack_has = (is.local x m.0, each_without S Missing is.missing n stack t);
-    names_have = m.1;
-  }
-  row_has (CallImport adapter n false parts) params stack names count rest f le p t m = record {
-    pieces_have = (
-      is.import_runs adapter n parts f (operands Missing n stack [])
-          (each_operands S Missing is.missing n stack [] t tt),
-      tt,
-    );
-    stack_has = each_without S Missing is.missing n stack t;
-    names_have = m;
-  }
+  row_has (CallImport adapter n has_result e) params stack names count rest f le p t m =
+      let k = length e.locals in
+      let wanted = apart_wanted e has_result rest names le in
+      called_has adapter n has_result e (next_names k names) stack (without k names) rest f (next_count k names)
+      (next_each N k names (first_enough e.locals (result_of has_result ++ rest) names wanted) m)
+      (left_enough e.locals (result_of has_result ++ rest) names wanted) t (left_each N k names m)
   row_has ToUnsigned params stack names count rest f le p t m =
       record {
         pieces_have = tt;

@@ -12,9 +12,11 @@ use Rattle.glue_steps.specs.Stack.{top, below, item_at, operands, without}
 use Rattle.glue_steps.specs.AdapterMeaning.{Left, gives_back, throws_if, act, cleans, after_act, newest, means, seen, adapter_meaning}
 use Rattle.glue_steps.specs.declared.step.Step.{Step}
 use Rattle.glue_steps.specs.declared.step.Step.TheVariants.{Parameter, Unchanged, CallExport, CallImport, ToUnsigned, TakeIndex, IndexFromBorrow, UnwrapResult}
-use Rattle.glue_binding.specs.Spelling.{Plain, Missing, Local, Unsigned, term_of, plain_value, terms, helper_call, gives_back_line, pieces_of, cleaned_by, nested, tree_of, wanted_from, counted, temporaries}
+use Rattle.glue_binding.specs.Spelling.{Plain, Missing, Local, Unsigned, term_of, plain_value, terms, helper_call, next_names, gives_back_line, import_row, pieces_of, cleaned_by, nested, tree_of, result_of, wanted_from, counted, temporaries}
 use Rattle.glue_binding.specs.Binding.{KnowsHelpers}
+use Rattle.glue_imports.specs.declared.part.Expression.{Expression}
 use Rattle.glue_binding.proofs.Each.{Each, each_item, each_top, each_below, each_without}
+use Rattle.glue_binding.proofs.Coming.{left_enough}
 
 -- ---- laws of runs, each by the three ways that a run can come to
 
@@ -138,6 +140,16 @@ fresh_push {y} {names} {params} {stack} f = record {
   from_params = λ x k. f.from_params x (inr k);
   from_stack = λ x k. (λ e. f.distinct.0 (subst (λ (z : List ℕ). IsIn z names) e k), f.from_stack x (inr k));
 }
+
+-- the first names are taken, so many
+fresh_left : (k : ℕ) (names : List (List ℕ)) (params stack : List Plain) → IsFresh names params stack → IsFresh (without k names) params stack
+fresh_left zero names params stack f = f
+fresh_left (suc k) [] params stack f = fresh_left k [] params stack f
+fresh_left (suc k) (x ∷ names) params stack f = fresh_left k names params stack (record {
+  distinct = f.distinct.1;
+  from_params = λ y i. f.from_params y (inr i);
+  from_stack = λ y i. f.from_stack y (inr i);
+})
 
 -- ---- operands: the values of a stack are the stack of the values
 
@@ -264,6 +276,33 @@ module _ (thing_of : List ℕ → Thing) where
       rw (helper_is (codes "takeObject") p env k trace answers, e)
       (thrown (step (Calls (Helper (codes "takeObject")) (y ∷ [])) trace answers) rest next)
 
+  -- what a call of an import and the rest mean, where the rest means what it is to
+  imported : (adapter n : ℕ) (has_result : Bool) (e : Expression) (locals : List (List ℕ)) (steps : List Step) (params stack : List Plain)
+      (names : List (List ℕ)) (env : Locals) (count : ℕ) → IsFresh names params stack
+      → length (result_of has_result ++ wanted_from count steps) ≤ length names
+      → ((stack : List Plain) (names : List (List ℕ)) (env : Locals) → IsFresh names params stack → length (wanted_from count steps) ≤ length names
+      → (trace : List Entry) (answers : List Answer) → runs thing_of (nested (pieces_of steps params stack names) NoLines) env trace answers
+      ≡ means steps (map (plain_value env) params) (map (plain_value env) stack) [] trace answers)
+      → (trace : List Entry) (answers : List Answer)
+      → runs thing_of (nested ((import_row adapter n has_result e locals stack names).pieces
+      ++ pieces_of steps params (import_row adapter n has_result e locals stack names).stack
+      (import_row adapter n has_result e locals stack names).names) NoLines) env trace answers
+      ≡ means (CallImport adapter n has_result e ∷ steps) (map (plain_value env) params) (map (plain_value env) stack) [] trace answers
+  imported adapter n true e locals steps params stack [] env count f le next trace answers = absurd (omega (arith, le))
+  imported adapter n true e locals steps params stack (x ∷ names) env count f le next trace answers =
+      rw (values_are (operands Missing n stack []) env trace answers, operands_are env n stack [])
+      (one_step (step (CallsAdapter adapter (operands Null n (map (plain_value env) stack) [])) trace answers) _ _ _
+      (λ v trace answers.
+      next (Local x ∷ without n stack) names ((x, v) ∷ env) (fresh_push (fresh_without n f)) (omega (arith, le)) trace answers
+      ∙ bound steps params (without n stack) x v env _ (without_is env n stack) (f.from_params x (inl refl))
+      ((fresh_without n f).from_stack x (inl refl)) trace answers))
+  imported adapter n false e locals steps params stack names env count f le next trace answers =
+      rw (values_are (operands Missing n stack []) env trace answers, operands_are env n stack [])
+      (one_step (step (CallsAdapter adapter (operands Null n (map (plain_value env) stack) [])) trace answers) _ _ _
+      (λ v trace answers.
+      next (without n stack) names env (fresh_without n f) le trace answers
+      ∙ ap (λ s. means steps (map (plain_value env) params) s [] trace answers) (without_is env n stack)))
+
   same : (steps : List Step) (params stack : List Plain) (names : List (List ℕ)) (env : Locals) (count : ℕ)
       → KnowsHelpers steps thing_of → IsFresh names params stack → length (wanted_from count steps) ≤ length names
       → (trace : List Entry) (answers : List Answer) → runs thing_of
@@ -295,22 +334,14 @@ module _ (thing_of : List ℕ → Thing) where
       (λ v trace answers.
       same steps params (without n stack) names env count k (fresh_without n f) le trace answers
       ∙ ap (λ s. means steps (map (plain_value env) params) s [] trace answers) (without_is env n stack)))
-  same (CallImport adapter n true parts ∷ steps) params stack [] env count k f le trace answers = absurd
-      (omega (arith, le))
-  same (CallImport adapter n true parts ∷ steps) params stack (x ∷ names) env count k f le trace answers =
-      rw (values_are (operands Missing n stack []) env trace answers, operands_are env n stack [])
-      (one_step (step (CallsAdapter adapter (operands Null n (map (plain_value env) stack) [])) trace answers) _ _ _
-      (λ v trace answers.
-      same steps params (Local x ∷ without n stack) names ((x, v) ∷ env) count k (fresh_push (fresh_without n f))
-      (omega (arith, le)) trace answers
-      ∙ bound steps params (without n stack) x v env _ (without_is env n stack) (f.from_params x (inl refl))
-      ((fresh_without n f).from_stack x (inl refl)) trace answers))
-  same (CallImport adapter n false parts ∷ steps) params stack names env count k f le trace answers =
-      rw (values_are (operands Missing n stack []) env trace answers, operands_are env n stack [])
-      (one_step (step (CallsAdapter adapter (operands Null n (map (plain_value env) stack) [])) trace answers) _ _ _
-      (λ v trace answers.
-      same steps params (without n stack) names env count k (fresh_without n f) le trace answers
-      ∙ ap (λ s. means steps (map (plain_value env) params) s [] trace answers) (without_is env n stack)))
+  same (CallImport adapter n has_result e ∷ steps) params stack names env count k f le trace answers =
+      let taken = length e.locals in
+      let wanted = result_of has_result ++ wanted_from count steps in
+      imported adapter n has_result e (next_names taken names) steps params stack (without taken names) env count
+      (fresh_left taken names params stack f)
+      (left_enough e.locals wanted names (subst (λ (ws : List (List ℕ)). length ws ≤ length names)
+      (append_assoc e.locals (result_of has_result) (wanted_from count steps)) le))
+      (λ stack names env f le trace answers. same steps params stack names env count k f le trace answers) trace answers
   same (ToUnsigned ∷ steps) params stack names env count k f le trace answers =
       same steps params (Unsigned (top Missing stack) ∷ below stack) names env count k
       (fresh_top Unsigned (λ x p a. a) f) le trace answers

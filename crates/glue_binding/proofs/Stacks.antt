@@ -60,6 +60,17 @@ param_missing [] n h = refl
 param_missing (x ∷ params) zero h = absurd (omega arith)
 param_missing (x ∷ params) (suc n) h = param_missing params n (omega arith)
 
+-- the name at a place, and past the end
+pub name_found : (names : List (List ℕ)) (n : ℕ) → n < length names → get_or names n [] ≡ item_at [] names n
+name_found [] n h = absurd (omega arith)
+name_found (x ∷ names) zero h = refl
+name_found (x ∷ names) (suc n) h = name_found names n (omega arith)
+
+pub name_missing : (names : List (List ℕ)) (n : ℕ) → length names ≤ n → [] ≡ item_at [] names n
+name_missing [] n h = refl
+name_missing (x ∷ names) zero h = absurd (omega arith)
+name_missing (x ∷ names) (suc n) h = name_missing names n (omega arith)
+
 operands_next : {A : Type 0} (default : A) (k n : ℕ) (stack taken : List A) → k < n
     → operands default (n - (k + 1)) (below stack) (top default stack ∷ taken) ≡ operands default (n - k) stack taken
 operands_next default k n stack taken h = let e : n - k ≡ suc (n - (k + 1)) = omega arith in rw e refl

@@ -1,13 +1,16 @@
--- How the words of an import's expression stand: parts that may stand beside one another give words that do, whatever the operands are.
-use Rattle.std.proofs.Common.{◌≡◌, ℕ, ◌<◌, pos, List, [], ◌∷◌, ◌++◌, length, refl, ap, sym, ◌∙◌, subst, Bool, true, false, true≢false, cond, arith, append_assoc}
+-- How the words of an import's text stand: parts that may stand beside one another give words that do, whatever the names of the locals and
+-- the operands are.
+use Rattle.std.proofs.Common.{◌≡◌, ℕ, zero, suc, ◌+◌, ◌<◌, pos, List, [], ◌∷◌, ◌++◌, length, length-append, map, refl, ap, sym, ◌∙◌, subst, Bool, true, false, true≢false, cond, arith, append_assoc}
+use Rattle.std.proofs.lemmas.Bool.Decides.{nat_tests}
 use Rattle.std.proofs.lemmas.Bool.{and_parts}
 use Rattle.std.proofs.lemmas.List.{append-nil}
 use Rattle.std.proofs.lemmas.List.Splits.{length-slice_split}
-use Rattle.std.specs.Prelude.{Option, Some, None, ◌&&◌, ◌==◌, codes}
+use Rattle.std.specs.Prelude.{Option, Some, None, ◌&&◌, ◌==◌, nat_lt, codes}
 use Rattle.std.specs.List.{list_all, flat_map, slice_split}
 use Rattle.std.proofs.lemmas.List.Elements.{filter_map-append}
 use Rattle.glue_words.specs.declared.word.Word.{Word}
 use Rattle.glue_words.specs.declared.word.Word.TheVariants as w
+use Rattle.glue_words.specs.declared.word.NoteKind.TheVariants.{Slash}
 use Rattle.glue_words.specs.Ident.{is_ident}
 use Rattle.glue_words.specs.Limits.{is_computed}
 use Rattle.glue_words.specs.Names.{wasm_name, wasm_in}
@@ -15,7 +18,7 @@ use Rattle.glue_words.specs.Tables.{punct_text}
 use Rattle.glue_words.specs.Spacing.{joins, first_word, each_next, begins_apart}
 use Rattle.glue_words.specs.Functions.{parenthesised}
 use Rattle.glue_words.specs.Words.{space, line_feed}
-use Rattle.glue_words.proofs.Idents.{ascii_ident}
+use Rattle.glue_words.proofs.Idents.{ascii_ident, ident_prop}
 use Rattle.glue_words.proofs.Spaced.{each_next_both, all_both}
 use Rattle.glue_scope.specs.Properties.{segment_words, property_parts}
 use Rattle.glue_tree.specs.Spelling.{is_none, const_start}
@@ -24,12 +27,26 @@ use Rattle.glue_tree.proofs.Fit.{is_good, spaced, is_line}
 use Rattle.glue_steps.specs.Stack.{below, item_at}
 use Rattle.glue_imports.specs.declared.part.Part.{Part}
 use Rattle.glue_imports.specs.declared.part.Part.TheVariants as part
-use Rattle.glue_binding.specs.Spelling.{Plain, Missing, Local, Unsigned, path_words, shift_words, plain_words, guarded_words, argument_words, arguments_words, part_words, expression_words, import_line_words}
-use Rattle.glue_binding.proofs.Each.{Each, each_item, each_below}
+use Rattle.glue_imports.specs.declared.part.Expression.{Expression}
+use Rattle.glue_steps.specs.declared.step.Step.{Step}
+use Rattle.glue_steps.specs.declared.step.Step.TheVariants.{CallImport}
+use Rattle.glue_binding.specs.Spelling.{Plain, Missing, Local, Unsigned, path_words, shift_words, plain_words, guarded_words, argument_words, arguments_words, without_dot, chained_words, part_words, parts_words, import_line_words}
+use Rattle.glue_binding.proofs.Each.{Each, each_there, each_item, each_below}
+use Rattle.glue_binding.proofs.Parts.{bound_places}
 use Rattle.glue_binding.proofs.Paths.{MayFollow, StandsBetween, path_stands, property_stands}
 
 and_true : (a b : Bool) → a ≡ true → b ≡ true → (a && b) ≡ true
 and_true a b h k = ap (λ x. x && b) h ∙ k
+
+same_number : (m n : ℕ) → (m == n) ≡ true → m ≡ n
+same_number m n h = grind (arith, nat_tests)
+
+plus_one : (n : ℕ) → n + 1 ≡ suc n
+plus_one n = omega arith
+
+item_between : (front : List (List ℕ)) (x : List ℕ) (rest : List (List ℕ)) → item_at [] (front ++ x ∷ rest) (length front) ≡ x
+item_between [] x rest = refl
+item_between (y ∷ front) x rest = item_between front x rest
 
 -- ---- parts beside one another
 
@@ -41,15 +58,27 @@ closers = w.Host [] false ∷ w.Prop [] ∷ close_bracket ∷ w.Splice [] ∷ []
 abbrev accesses : List Word
 accesses = dot ∷ open_bracket ∷ w.Splice [] ∷ []
 
+-- `?.`
+abbrev optional : Word
+optional = w.Punct 11
+
 -- the words that a part may begin with, whatever the names and the operands are
 abbrev first_words : Part → List Word
 first_words (part.Host name fields) = w.Host [] false ∷ []
+first_words (part.Name name) = w.Refer name false ∷ []
 first_words part.Exports = w.Refer (codes "wasm") false ∷ []
 first_words (part.Property name) = accesses
+first_words (part.Chained name) = optional ∷ []
+first_words (part.Member name) = w.Prop name ∷ []
 first_words (part.Literal text) = w.Text [] ∷ []
+first_words (part.Number value) = w.Num value ∷ []
 first_words (part.Punct place) = w.Punct place ∷ []
 first_words (part.Key place) = w.Key place ∷ []
 first_words part.Space = space ∷ []
+first_words part.LineFeed = line_feed ∷ []
+first_words (part.Note text) = w.Note Slash text ∷ []
+first_words (part.Binding n) = w.LocalBind [] ∷ []
+first_words (part.Local n) = w.Local [] ∷ []
 first_words (part.Operand n) = w.Key 27 ∷ w.Local [] ∷ open_paren ∷ []
 first_words (part.Whole n) = w.Key 27 ∷ w.Local [] ∷ []
 first_words (part.Arguments spread) = open_paren ∷ []
@@ -58,12 +87,20 @@ first_words (part.OtherArguments spread) = open_paren ∷ []
 -- those that it may end with
 abbrev last_words : Part → List Word
 last_words (part.Host name fields) = closers
+last_words (part.Name name) = w.Refer name false ∷ []
 last_words part.Exports = w.Refer (codes "wasm") false ∷ []
 last_words (part.Property name) = closers
+last_words (part.Chained name) = closers
+last_words (part.Member name) = w.Prop name ∷ []
 last_words (part.Literal text) = w.Text [] ∷ []
+last_words (part.Number value) = w.Num value ∷ []
 last_words (part.Punct place) = w.Punct place ∷ []
 last_words (part.Key place) = w.Key place ∷ []
 last_words part.Space = space ∷ []
+last_words part.LineFeed = line_feed ∷ []
+last_words (part.Note text) = w.Note Slash text ∷ []
+last_words (part.Binding n) = w.LocalBind [] ∷ []
+last_words (part.Local n) = w.Local [] ∷ []
 last_words (part.Operand n) = w.Key 27 ∷ w.Local [] ∷ close_paren ∷ []
 last_words (part.Whole n) = w.Key 27 ∷ w.Local [] ∷ w.Num (pos 0) ∷ []
 last_words (part.Arguments spread) = close_paren ∷ []
@@ -81,18 +118,122 @@ before_all word nexts = list_all (λ next. spaced word (Some next)) nexts
 abbrev meets : Part → Part → Bool
 meets p q = list_all (λ word. before_all word (first_words q)) (last_words p)
 
--- the words of a part are as their kinds say
-abbrev part_good : Part → Bool
-part_good (part.Host name fields) = is_ident name
-part_good (part.Punct place) = is_good (w.Punct place)
-part_good (part.Key place) = is_good (w.Key place)
-part_good other = true
+-- the words of a part are as their kinds say, and a local is one of so many
+abbrev pub part_good : (count : ℕ) → Part → Bool
+part_good count (part.Host name fields) = is_ident name
+part_good count (part.Name name) = is_ident name
+part_good count (part.Member name) = is_ident name
+part_good count (part.Punct place) = is_good (w.Punct place)
+part_good count (part.Key place) = is_good (w.Key place)
+part_good count (part.Binding n) = nat_lt n count
+part_good count (part.Local n) = nat_lt n count
+part_good count other = true
 
--- parts that may stand beside one another, and before `;`
-abbrev pub parts_fit : List Part → Bool
-parts_fit [] = false
-parts_fit (p ∷ []) = part_good p && all_before (last_words p) (Some semicolon)
-parts_fit (p ∷ q ∷ parts) = part_good p && (meets p q && parts_fit (q ∷ parts))
+-- parts that may stand beside one another, and before what follows them
+abbrev pub parts_fit : (count : ℕ) → (next : Option Word) → List Part → Bool
+parts_fit count next [] = false
+parts_fit count next (p ∷ []) = part_good count p && all_before (last_words p) next
+parts_fit count next (p ∷ q ∷ parts) = part_good count p && (meets p q && parts_fit count next (q ∷ parts))
+
+-- the last of parts is a line feed
+abbrev ends_line : List Part → Bool
+ends_line [] = false
+ends_line (part.LineFeed ∷ []) = true
+ends_line (p ∷ []) = false
+ends_line (p ∷ q ∷ parts) = ends_line (q ∷ parts)
+
+-- the parts of statements, each with its line feed
+abbrev pub prelude_fits : (count : ℕ) → List Part → Bool
+prelude_fits count [] = true
+prelude_fits count (p ∷ parts) = parts_fit count None (p ∷ parts) && ends_line (p ∷ parts)
+
+-- the places are so many, from this one on, in order
+abbrev in_order : (from count : ℕ) → List ℕ → Bool
+in_order from zero [] = true
+in_order from (suc count) (n ∷ places) = (n == from) && in_order (suc from) count places
+in_order from count places = false
+
+-- the statements declare each local once, in order, and the expression declares none
+abbrev declares_all : Expression → Bool
+declares_all e = in_order 0 (length e.locals) (bound_places e.prelude) && in_order 0 0 (bound_places e.value)
+
+-- an expression whose parts, and those of the statements before it, may stand beside one another
+abbrev pub expression_fits : Expression → Bool
+expression_fits e =
+    prelude_fits (length e.locals) e.prelude
+    && (parts_fit (length e.locals) (Some semicolon) e.value && declares_all e)
+
+-- the parts that a step brings along may stand beside one another
+abbrev pub step_fit : Step → Bool
+step_fit (CallImport adapter n has_result e) = expression_fits e
+step_fit other = true
+
+-- what the test says of an expression
+pub record Fitting (e : Expression) : Type 0 where
+  pub «prelude» : prelude_fits (length e.locals) e.prelude ≡ true
+  pub value : parts_fit (length e.locals) (Some semicolon) e.value ≡ true
+  pub declared : in_order 0 (length e.locals) (bound_places e.prelude) ≡ true
+  pub undeclared : in_order 0 0 (bound_places e.value) ≡ true
+
+pub fitting : (e : Expression) → expression_fits e ≡ true → Fitting e
+fitting e h =
+    let a = and_parts (prelude_fits (length e.locals) e.prelude) _ h in
+    let b = and_parts (parts_fit (length e.locals) (Some semicolon) e.value) (declares_all e) a.1 in
+    let c = and_parts (in_order 0 (length e.locals) (bound_places e.prelude)) (in_order 0 0 (bound_places e.value)) b.1 in
+    record { «prelude» = a.0; value = b.0; declared = c.0; undeclared = c.1 }
+
+pub steps_each : (steps : List Step) → list_all step_fit steps ≡ true → Each (λ s. step_fit s ≡ true) steps
+steps_each [] h = tt
+steps_each (s ∷ steps) h = let parts = and_parts (step_fit s) (list_all step_fit steps) h in
+    (parts.0, steps_each steps parts.1)
+
+-- each part is as its kind says
+parts_good : (count : ℕ) (next : Option Word) (parts : List Part) → parts_fit count next parts ≡ true → list_all (part_good count) parts ≡ true
+parts_good count next [] h = refl
+parts_good count next (p ∷ []) h = and_true _ _ (and_parts (part_good count p) _ h).0 refl
+parts_good count next (p ∷ q ∷ parts) h =
+    let given = and_parts (part_good count p) _ h in
+    and_true _ _ given.0 (parts_good count next (q ∷ parts) (and_parts (meets p q) (parts_fit count next (q ∷ parts)) given.1).1)
+
+prelude_good : (count : ℕ) (parts : List Part) → prelude_fits count parts ≡ true → list_all (part_good count) parts ≡ true
+prelude_good count [] h = refl
+prelude_good count (p ∷ parts) h =
+    parts_good count None (p ∷ parts) (and_parts (parts_fit count None (p ∷ parts)) (ends_line (p ∷ parts)) h).0
+
+pub fitting_good : (e : Expression) → Fitting e
+    → (list_all (part_good (length e.locals)) e.prelude ≡ true) × (list_all (part_good (length e.locals)) e.value ≡ true)
+fitting_good e f = (prelude_good (length e.locals) e.prelude f.«prelude», parts_good (length e.locals) (Some semicolon) e.value f.value)
+
+-- ---- the locals that are declared
+
+-- places in order are those of a list
+ordered : (front locals : List (List ℕ)) (places : List ℕ) → in_order (length front) (length locals) places ≡ true
+    → map (item_at [] (front ++ locals)) places ≡ locals
+ordered front [] [] h = refl
+ordered front [] (n ∷ places) h = absurd (true≢false (sym h))
+ordered front (x ∷ locals) [] h = absurd (true≢false (sym h))
+ordered front (x ∷ locals) (n ∷ places) h =
+    let both = and_parts (n == length front) (in_order (suc (length front)) (length locals) places) h in
+    let here : n ≡ length front = same_number n (length front) both.0 in
+    let longer : length (front ++ x ∷ []) ≡ suc (length front) = length-append front (x ∷ []) ∙ plus_one (length front) in
+    let rest = ordered (front ++ x ∷ []) locals places (ap (λ (k : ℕ). in_order k (length locals) places) longer ∙ both.1) in
+    ap (λ (k : ℕ). item_at [] (front ++ x ∷ locals) k ∷ map (item_at [] (front ++ x ∷ locals)) places) here
+    ∙ ap (λ (y : List ℕ). y ∷ map (item_at [] (front ++ x ∷ locals)) places) (item_between front x locals)
+    ∙ ap (λ (ys : List (List ℕ)). x ∷ map (item_at [] ys) places) (sym (append_assoc front (x ∷ []) locals))
+    ∙ ap (λ (ys : List (List ℕ)). x ∷ ys) rest
+
+-- the statements declare the locals, and the expression declares none
+pub prelude_places : (e : Expression) → Fitting e → (locals : List (List ℕ)) → length locals ≡ length e.locals
+    → map (item_at [] locals) (bound_places e.prelude) ≡ locals
+prelude_places e f locals same =
+    ordered [] locals (bound_places e.prelude) (ap (λ (k : ℕ). in_order 0 k (bound_places e.prelude)) same ∙ f.declared)
+
+pub value_places : (e : Expression) → Fitting e → (locals : List (List ℕ)) → map (item_at [] locals) (bound_places e.value) ≡ []
+value_places e f locals = none (bound_places e.value) f.undeclared
+  where
+    none : (places : List ℕ) → in_order 0 0 places ≡ true → map (item_at [] locals) places ≡ []
+    none [] h = refl
+    none (n ∷ places) h = absurd (true≢false (sym h))
 
 -- ---- names say nothing of how words stand
 
@@ -119,6 +260,14 @@ text_behind other text = refl
 text_before : (text : List ℕ) (next : Option Word) → spaced (w.Text text) next ≡ spaced (w.Text []) next
 text_before text None = refl
 text_before text (Some next) = refl
+
+bound_before : (name : List ℕ) (next : Option Word) → spaced (w.LocalBind name) next ≡ spaced (w.LocalBind []) next
+bound_before name None = refl
+bound_before name (Some next) = refl
+
+bound_behind : (word : Word) (name : List ℕ) → spaced word (Some (w.LocalBind name)) ≡ spaced word (Some (w.LocalBind []))
+bound_behind (w.Punct place) name = refl
+bound_behind other name = refl
 
 -- what all closers may stand before
 follows : (next : Option Word) → all_before closers next ≡ true → MayFollow next
@@ -405,12 +554,76 @@ access_stands name =
       back = λ next b. between.each next (follows next b);
     }
 
-module _ (args : List Plain) (named : Each IsNamed args) where
-  part_stands : (p : Part) → part_good p ≡ true → Stands (first_words p) (last_words p) (part_words args p)
+-- `?.` stands before an access without its dot
+chained_front : (name : List ℕ) (next : Option Word) → spaced optional (first_word (without_dot (property_parts name)) next) ≡ true
+unfolding property_parts segment_words joins punct_text
+chained_front name next = by (is_computed name)
+  where
+    parts : List (List ℕ)
+    parts = slice_split (λ b. b == 46) name
+
+    segment : (first : List ℕ) (b : Bool) (rest : List Word) → spaced optional
+        (first_word (without_dot (cond b (dot ∷ w.Prop first ∷ []) (open_bracket ∷ w.Text first ∷ close_bracket ∷ []) ++ rest)) next) ≡ true
+    segment first true rest = refl
+    segment first false rest = refl
+
+    segments : (names : List (List ℕ)) → 0 < length names → spaced optional (first_word (without_dot (flat_map segment_words names)) next) ≡ true
+    segments [] lt = absurd (omega (arith, lt))
+    segments (first ∷ names) lt = segment first (is_ident first) (flat_map segment_words names)
+
+    by : (b : Bool) → spaced optional (first_word (without_dot (cond b (w.Splice name ∷ []) (flat_map segment_words parts))) next) ≡ true
+    by true = refl
+    by false = segments parts (omega (arith, length-slice_split (λ b. b == 46) name))
+
+-- words stand without the dot that they begin with
+undotted_good : (words : List Word) → list_all is_good words ≡ true → list_all is_good (without_dot words) ≡ true
+undotted_good [] h = refl
+undotted_good (w.Punct place ∷ words) h = by (place == 6)
+  where
+    by : (b : Bool) → list_all is_good (cond b words (w.Punct place ∷ words)) ≡ true
+    by true = (and_parts (is_good (w.Punct place)) (list_all is_good words) h).1
+    by false = h
+undotted_good (word ∷ words) h = h
+
+undotted_each : (words : List Word) (next : Option Word) → each_next spaced words next ≡ true → each_next spaced (without_dot words) next ≡ true
+undotted_each [] next h = refl
+undotted_each (w.Punct place ∷ words) next h = by (place == 6)
+  where
+    by : (b : Bool) → each_next spaced (cond b words (w.Punct place ∷ words)) next ≡ true
+    by true = (and_parts (spaced (w.Punct place) (first_word words next)) (each_next spaced words next) h).1
+    by false = h
+undotted_each (word ∷ words) next h = h
+
+chained_stands : (name : List ℕ) → Stands (optional ∷ []) closers (chained_words name)
+chained_stands name =
+    let between : StandsBetween (property_parts name) = property_stands name in record {
+      good = and_true _ _ refl (undotted_good (property_parts name) between.good);
+      front = λ word rest next f. (and_parts (spaced word (Some optional)) true f).0;
+      back = λ next b. and_true _ _ (chained_front name next) (undotted_each (property_parts name) next (between.each next (follows next b)));
+    }
+
+-- each part of so many locals, whose names are identifiers
+module _ (count : ℕ) (locals : List (List ℕ)) (there : (n : ℕ) → nat_lt n count ≡ true → is_ident (item_at [] locals n) ≡ true)
+    (args : List Plain) (named : Each IsNamed args) where
+  part_stands : (p : Part) → part_good count p ≡ true → Stands (first_words p) (last_words p) (part_words locals args p)
   part_stands (part.Host name fields) h = host_stands name fields h
+  part_stands (part.Name name) h = plain_stands (w.Refer name false) (ap (λ (b : Bool). ((b && true) && true) && true) h)
   part_stands part.Exports h = plain_stands (w.Refer (codes "wasm") false)
       (ap (λ (b : Bool). ((b && true) && true) && true) (ascii_ident (codes "wasm") refl))
   part_stands (part.Property name) h = access_stands name
+  part_stands (part.Chained name) h = chained_stands name
+  part_stands (part.Member name) h = plain_stands (w.Prop name) (ap (λ (b : Bool). ((b && true) && true) && true) (ident_prop name h))
+  part_stands (part.Number value) h = plain_stands (w.Num value) refl
+  part_stands part.LineFeed h = plain_stands line_feed refl
+  part_stands (part.Note text) h = plain_stands (w.Note Slash text) refl
+  part_stands (part.Binding n) h =
+      let name = item_at [] locals n in
+      word_stands (w.LocalBind name) (w.LocalBind []) (w.LocalBind []) (ap (λ (b : Bool). (((b && true) && true) && true) && true) (there n h))
+      (λ before. bound_behind before name) (λ next. bound_before name next)
+  part_stands (part.Local n) h =
+      let name = item_at [] locals n in
+      word_stands (w.Local name) (w.Local []) (w.Local []) (ap (λ (b : Bool). (((b && true) && true) && true) && true) (there n h))
+      (λ before. local_behind before name) (λ next. local_before name next)
   part_stands (part.Literal text) h =
       word_stands (w.Text text) (w.Text []) (w.Text []) refl (λ before. text_behind before text) (λ next. text_before text next)
   part_stands (part.Punct place) h = plain_stands (w.Punct place) h
@@ -434,40 +647,65 @@ module _ (args : List Plain) (named : Each IsNamed args) where
   head_firsts [] = []
   head_firsts (p ∷ parts) = first_words p
 
-  record StandsLine (parts : List Part) : Type 0 where
-    good : list_all is_good (expression_words parts args) ≡ true
-    front : (word : Word) (rest : List Word) (next : Option Word) → before_all word (head_firsts parts) ≡ true
-        → spaced word (first_word (expression_words parts args ++ rest) next) ≡ true
-    each : each_next spaced (expression_words parts args) (Some semicolon) ≡ true
+  abbrev words_of_parts : List Part → List Word
+  words_of_parts parts = parts_words parts locals args
 
-  first_of : (q : Part) (parts : List Part) → StandsLine (q ∷ parts) → (word : Word) → before_all word (first_words q) ≡ true
-      → spaced word (first_word (expression_words (q ∷ parts) args) (Some semicolon)) ≡ true
-  first_of q parts s word f = subst (λ (words : List Word). spaced word (first_word words (Some semicolon)) ≡ true)
-      (append-nil (expression_words (q ∷ parts) args)) (s.front word [] (Some semicolon) f)
+  record StandsBefore (next : Option Word) (parts : List Part) : Type 0 where
+    good : list_all is_good (words_of_parts parts) ≡ true
+    front : (word : Word) (rest : List Word) (behind : Option Word) → before_all word (head_firsts parts) ≡ true
+        → spaced word (first_word (words_of_parts parts ++ rest) behind) ≡ true
+    each : each_next spaced (words_of_parts parts) next ≡ true
 
-  parts_stand : (parts : List Part) → parts_fit parts ≡ true → StandsLine parts
-  parts_stand [] h = absurd (true≢false (sym h))
-  parts_stand (p ∷ []) h =
-      let given = and_parts (part_good p) _ h in
+  first_of : (next : Option Word) (q : Part) (parts : List Part) → StandsBefore next (q ∷ parts) → (word : Word)
+      → before_all word (first_words q) ≡ true → spaced word (first_word (words_of_parts (q ∷ parts)) next) ≡ true
+  first_of next q parts s word f = subst (λ (words : List Word). spaced word (first_word words next) ≡ true)
+      (append-nil (words_of_parts (q ∷ parts))) (s.front word [] next f)
+
+  parts_stand : (next : Option Word) (parts : List Part) → parts_fit count next parts ≡ true → StandsBefore next parts
+  parts_stand next [] h = absurd (true≢false (sym h))
+  parts_stand next (p ∷ []) h =
+      let given = and_parts (part_good count p) _ h in
       let s = part_stands p given.0 in record {
-        good = all_both is_good (part_words args p) [] s.good refl;
-        front = λ word rest next f. subst (λ (words : List Word). spaced word (first_word words next) ≡ true)
-            (sym (append_assoc (part_words args p) [] rest)) (s.front word rest next f);
-        each = each_next_both spaced (part_words args p) [] (Some semicolon) (s.back (Some semicolon) given.1) refl;
+        good = all_both is_good (part_words locals args p) [] s.good refl;
+        front = λ word rest behind f. subst (λ (words : List Word). spaced word (first_word words behind) ≡ true)
+            (sym (append_assoc (part_words locals args p) [] rest)) (s.front word rest behind f);
+        each = each_next_both spaced (part_words locals args p) [] next (s.back next given.1) refl;
       }
-  parts_stand (p ∷ q ∷ parts) h =
-      let given = and_parts (part_good p) _ h in
-      let beside = and_parts (meets p q) (parts_fit (q ∷ parts)) given.1 in
+  parts_stand next (p ∷ q ∷ parts) h =
+      let given = and_parts (part_good count p) _ h in
+      let beside = and_parts (meets p q) (parts_fit count next (q ∷ parts)) given.1 in
       let s = part_stands p given.0 in
-      let rest = parts_stand (q ∷ parts) beside.1 in
-      let more = expression_words (q ∷ parts) args in record {
-        good = all_both is_good (part_words args p) more s.good rest.good;
-        front = λ word others next f. subst (λ (words : List Word). spaced word (first_word words next) ≡ true)
-            (sym (append_assoc (part_words args p) more others)) (s.front word (more ++ others) next f);
-        each = each_next_both spaced (part_words args p) more (Some semicolon)
-            (s.back (first_word more (Some semicolon)) (through (last_words p) (first_words q) more (Some semicolon)
-            (first_of q parts rest) beside.0)) rest.each;
+      let rest = parts_stand next (q ∷ parts) beside.1 in
+      let more = words_of_parts (q ∷ parts) in record {
+        good = all_both is_good (part_words locals args p) more s.good rest.good;
+        front = λ word others behind f. subst (λ (words : List Word). spaced word (first_word words behind) ≡ true)
+            (sym (append_assoc (part_words locals args p) more others)) (s.front word (more ++ others) behind f);
+        each = each_next_both spaced (part_words locals args p) more next
+            (s.back (first_word more next) (through (last_words p) (first_words q) more next
+            (first_of next q parts rest) beside.0)) rest.each;
       }
+
+  -- parts that end with a line feed fit before whatever a line feed may stand before
+  fed : (next : Option Word) → spaced line_feed next ≡ true → (parts : List Part) → parts_fit count None parts ≡ true
+      → ends_line parts ≡ true → parts_fit count next parts ≡ true
+  fed next k [] h e = absurd (true≢false (sym h))
+  fed next k (part.LineFeed ∷ []) h e = and_true _ _ k refl
+  fed next k (p ∷ q ∷ parts) h e =
+      let given = and_parts (part_good count p) _ h in
+      let beside = and_parts (meets p q) (parts_fit count None (q ∷ parts)) given.1 in
+      and_true _ _ given.0 (and_true _ _ beside.0 (fed next k (q ∷ parts) beside.1 e))
+  fed next k (p ∷ []) h e = absurd (true≢false (sym e))
+
+  record StandsAbove (next : Option Word) (parts : List Part) : Type 0 where
+    good : list_all is_good (words_of_parts parts) ≡ true
+    each : each_next spaced (words_of_parts parts) next ≡ true
+
+  prelude_stands : (next : Option Word) → spaced line_feed next ≡ true → (parts : List Part) → prelude_fits count parts ≡ true → StandsAbove next parts
+  prelude_stands next k [] h = record { good = refl; each = refl }
+  prelude_stands next k (p ∷ parts) h =
+      let given = and_parts (parts_fit count None (p ∷ parts)) (ends_line (p ∷ parts)) h in
+      let s = parts_stand next (p ∷ parts) (fed next k (p ∷ parts) given.0 given.1) in
+      record { good = s.good; each = s.each }
 
 -- ---- the statement
 
@@ -477,45 +715,75 @@ no_access [] h = refl
 no_access (w.Wasm name ∷ words) h = cc
 no_access (word ∷ words) h = refl
 
--- after a space any part may stand
-after_space : (parts : List Part) → parts_fit parts ≡ true → (args : List Plain) (named : Each IsNamed args)
-    → before_all space (head_firsts args named parts) ≡ true
-after_space [] h args named = refl
-after_space (part.Property name ∷ parts) h args named = refl
-after_space (part.Operand n ∷ parts) h args named = refl
-after_space (part.Whole n ∷ parts) h args named = refl
-after_space (p ∷ parts) h args named = refl
+-- after a space or a line feed any part may stand
+after_gap : (text : List ℕ) (p : Part) → before_all (w.Gap text) (first_words p) ≡ true
+after_gap text (part.Property name) = refl
+after_gap text (part.Operand n) = refl
+after_gap text (part.Whole n) = refl
+after_gap text p = refl
 
--- the statements of parts that may stand beside one another stand as lines
-module _ (parts : List Part) (args : List Plain) (named : Each IsNamed args) (fit : parts_fit parts ≡ true)
-    (none : wasm_in (expression_words parts args) ≡ []) where
-  abbrev words : List Word
-  words = expression_words parts args
+joined_none : (xs ys : List Word) → wasm_in xs ≡ [] → wasm_in ys ≡ [] → wasm_in (xs ++ ys) ≡ []
+joined_none xs ys h k = filter_map-append wasm_name xs ys ∙ ap (λ (ns : List (List ℕ)). ns ++ wasm_in ys) h ∙ k
+
+start_good : (name : List ℕ) → is_ident name ≡ true → list_all is_good (const_start name) ≡ true
+start_good name i = ap (λ (b : Bool). (((b && true) && true) && true) && true) i
+
+start_each : (name : List ℕ) (next : Option Word) → spaced space next ≡ true → each_next spaced (const_start name) next ≡ true
+start_each name next f = and_true _ _ f refl
+
+-- the statements of an expression that fits stand as lines, whatever the names of its locals and the operands are
+module _ (e : Expression) (f : Fitting e) (locals : List (List ℕ)) (same : length locals ≡ length e.locals)
+    (idents : Each (λ (x : List ℕ). is_ident x ≡ true) locals) (args : List Plain) (named : Each IsNamed args)
+    (none : (parts : List Part) → wasm_in (parts_words parts locals args) ≡ []) where
+  there : (n : ℕ) → nat_lt n (length e.locals) ≡ true → is_ident (item_at [] locals n) ≡ true
+  there n h =
+      let lt : n < length locals = grind (arith, nat_tests, same) in
+      each_there (λ (x : List ℕ). is_ident x ≡ true) [] locals n lt idents
+
+  abbrev before_words : List Word
+  before_words = parts_words e.prelude locals args
+
+  abbrev value_words : List Word
+  value_words = parts_words e.value locals args
 
   abbrev ended : List Word
-  ended = words ++ semicolon ∷ []
+  ended = value_words ++ semicolon ∷ []
 
-  stand : StandsLine args named parts
-  stand = parts_stand args named parts fit
+  stand : StandsBefore (length e.locals) locals there args named (Some semicolon) e.value
+  stand = parts_stand (length e.locals) locals there args named (Some semicolon) e.value f.value
 
   ended_good : list_all is_good ended ≡ true
-  ended_good = all_both is_good words (semicolon ∷ []) stand.good refl
+  ended_good = all_both is_good value_words (semicolon ∷ []) stand.good refl
 
   ended_each : each_next spaced ended (Some line_feed) ≡ true
-  ended_each = each_next_both spaced words (semicolon ∷ []) (Some line_feed) stand.each refl
+  ended_each = each_next_both spaced value_words (semicolon ∷ []) (Some line_feed) stand.each refl
 
-  pub run_stands : is_line (import_line_words None parts args) ≡ true
-  run_stands = and_true _ _ ended_good (and_true _ _ ended_each
-      (no_access ended (filter_map-append wasm_name words (semicolon ∷ []) ∙ ap (λ (ns : List (List ℕ)). ns ++ []) none)))
+  ended_none : wasm_in ended ≡ []
+  ended_none = joined_none value_words (semicolon ∷ []) (none e.value) refl
 
-  start_good : (name : List ℕ) → is_ident name ≡ true → list_all is_good (const_start name) ≡ true
-  start_good name i = ap (λ (b : Bool). (((b && true) && true) && true) && true) i
+  -- the value behind a space or a line feed
+  ended_behind : (text : List ℕ) → spaced (w.Gap text) (first_word ended (Some line_feed)) ≡ true
+  ended_behind text = stand.front (w.Gap text) (semicolon ∷ []) (Some line_feed) (gap_before e.value f.value)
+    where
+      gap_before : (parts : List Part) → parts_fit (length e.locals) (Some semicolon) parts ≡ true
+          → before_all (w.Gap text) (head_firsts (length e.locals) locals there args named parts) ≡ true
+      gap_before [] h = refl
+      gap_before (p ∷ parts) h = after_gap text p
 
-  start_each : (name : List ℕ) (next : Option Word) → spaced space next ≡ true → each_next spaced (const_start name) next ≡ true
-  start_each name next f = and_true _ _ f refl
+  -- the statements before the value, and words behind them
+  behind_prelude : (words : List Word) → list_all is_good words ≡ true → each_next spaced words (Some line_feed) ≡ true
+      → spaced line_feed (first_word words (Some line_feed)) ≡ true → wasm_in words ≡ [] → is_line (before_words ++ words) ≡ true
+  behind_prelude words g k fed n =
+      let above = prelude_stands (length e.locals) locals there args named (first_word words (Some line_feed)) fed e.prelude f.«prelude» in
+      and_true _ _ (all_both is_good before_words words above.good g)
+      (and_true _ _ (each_next_both spaced before_words words (Some line_feed) above.each k)
+      (no_access (before_words ++ words) (joined_none before_words words (none e.prelude) n)))
 
-  pub bound_stands : (name : List ℕ) → is_ident name ≡ true → is_line (import_line_words (Some name) parts args) ≡ true
-  bound_stands name ident = and_true _ _ (all_both is_good (const_start name) ended (start_good name ident) ended_good)
-      (and_true _ _ (each_next_both spaced (const_start name) ended (Some line_feed)
-      (start_each name (first_word ended (Some line_feed)) (stand.front space (semicolon ∷ []) (Some line_feed)
-      (after_space parts fit args named))) ended_each) refl)
+  pub run_stands : is_line (import_line_words None e locals args) ≡ true
+  run_stands = behind_prelude ended ended_good ended_each (ended_behind (codes "\n")) ended_none
+
+  pub bound_stands : (name : List ℕ) → is_ident name ≡ true → is_line (import_line_words (Some name) e locals args) ≡ true
+  bound_stands name ident = behind_prelude (const_start name ++ ended)
+      (all_both is_good (const_start name) ended (start_good name ident) ended_good)
+      (each_next_both spaced (const_start name) ended (Some line_feed)
+      (start_each name (first_word ended (Some line_feed)) (ended_behind (codes " "))) ended_each) refl ended_none

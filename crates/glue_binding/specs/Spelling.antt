@@ -1,15 +1,17 @@
 -- The statements that the steps of an adapter are spelled by.
-use Rattle.std.specs.Prelude.{ℕ, ◌+◌, pos, Bool, true, false, ◌&&◌, List, [], ◌∷◌, ◌++◌, map, Option, Some, None, codes}
+use Rattle.std.specs.Prelude.{ℕ, zero, suc, ◌+◌, ◌==◌, pos, Bool, true, false, ◌&&◌, List, [], ◌∷◌, ◌++◌, length, map, Option, Some, None, codes, if◌then◌else◌}
 use Rattle.std.specs.List.{flat_map}
 use Rattle.glue_words.specs.declared.word.Word.{Word}
 use Rattle.glue_words.specs.declared.word.Word.TheVariants as w
+use Rattle.glue_words.specs.declared.word.NoteKind.TheVariants.{Slash}
 use Rattle.glue_words.specs.Ident.{numbered}
-use Rattle.glue_words.specs.Words.{space}
+use Rattle.glue_words.specs.Words.{space, line_feed}
 use Rattle.glue_words.specs.Functions.{parenthesised}
 use Rattle.glue_words.specs.declared.punct.TheConstants as punct
 use Rattle.glue_words.specs.declared.key.TheConstants as key
 use Rattle.glue_imports.specs.declared.part.Part.{Part}
 use Rattle.glue_imports.specs.declared.part.Part.TheVariants as part
+use Rattle.glue_imports.specs.declared.part.Expression.{Expression}
 use Rattle.glue_scope.specs.Properties.{property_parts}
 use Rattle.values.specs.Value.{Value, Null, unsigned}
 use Rattle.glue_tree.specs.TreeMeaning.{Locals, value_in}
@@ -56,6 +58,11 @@ first names = top [] names
 abbrev pub later : List (List ℕ) → List (List ℕ)
 later names = below names
 
+-- so many of the names to come, with the empty name for each that is lacking
+abbrev pub next_names : ℕ → List (List ℕ) → List (List ℕ)
+next_names zero names = []
+next_names (suc n) names = first names ∷ next_names n (later names)
+
 -- ---- texts of steps
 
 -- `wasm.name(args)`
@@ -69,6 +76,20 @@ helper_call key p = Apply (Name key) (terms (p ∷ []))
 -- the accesses of properties, one after the other
 abbrev pub path_words : (fields : List (List ℕ)) → List Word
 path_words fields = flat_map property_parts fields
+
+-- words begin with a dot
+abbrev pub begins_with_dot : List Word → Bool
+begins_with_dot [] = false
+begins_with_dot (w.Punct place ∷ words) = place == punct.DOT
+begins_with_dot (word ∷ words) = false
+
+-- words without the dot that they begin with, if they do
+abbrev pub without_dot : List Word → List Word
+without_dot words = if begins_with_dot words then below words else words
+
+-- the access of a property of what may be absent: `?.name`, `?.["name"]`, or a computed key behind `?.`
+abbrev pub chained_words : List ℕ → List Word
+chained_words name = w.Punct punct.OPTIONAL ∷ without_dot (property_parts name)
 
 -- ` >>> 0`
 abbrev pub shift_words : List Word
@@ -103,39 +124,57 @@ word_or (Some word) words = word ∷ []
 
 -- the word of a part that is one word, whatever the operands are
 abbrev pub fixed_word : Part → Option Word
+fixed_word (part.Name name) = Some (w.Refer name false)
 fixed_word part.Exports = Some (w.Refer (codes "wasm") false)
+fixed_word (part.Member name) = Some (w.Prop name)
 fixed_word (part.Literal text) = Some (w.Text text)
+fixed_word (part.Number value) = Some (w.Num value)
 fixed_word (part.Punct place) = Some (w.Punct place)
 fixed_word (part.Key place) = Some (w.Key place)
 fixed_word part.Space = Some space
+fixed_word part.LineFeed = Some line_feed
+fixed_word (part.Note text) = Some (w.Note Slash text)
 fixed_word other = None
 
--- the words of a part that goes by operands, or names a value of the host
-abbrev pub varied_words : List Plain → Part → List Word
-varied_words args (part.Host name fields) = w.Host name false ∷ path_words fields
-varied_words args (part.Property name) = property_parts name
-varied_words args (part.Operand n) = guarded_words (item_at Missing args n)
-varied_words args (part.Whole n) = plain_words (item_at Missing args n)
-varied_words args (part.Arguments spread) = parenthesised (arguments_words true spread args)
-varied_words args (part.OtherArguments spread) = parenthesised (arguments_words true spread (below args))
-varied_words args other = []
+-- the words of a part that reads properties, or goes by operands
+abbrev pub operand_words : List Plain → Part → List Word
+operand_words args (part.Host name fields) = w.Host name false ∷ path_words fields
+operand_words args (part.Property name) = property_parts name
+operand_words args (part.Chained name) = chained_words name
+operand_words args (part.Operand n) = guarded_words (item_at Missing args n)
+operand_words args (part.Whole n) = plain_words (item_at Missing args n)
+operand_words args (part.Arguments spread) = parenthesised (arguments_words true spread args)
+operand_words args (part.OtherArguments spread) = parenthesised (arguments_words true spread (below args))
+operand_words args other = []
 
--- the words of a part of an import's expression, for these operands
-abbrev pub part_words : List Plain → Part → List Word
-part_words args p = word_or (fixed_word p) (varied_words args p)
+-- the words of a part that goes by locals or operands, or reads properties
+abbrev pub varied_words : (locals : List (List ℕ)) → List Plain → Part → List Word
+varied_words locals args (part.Binding n) = w.LocalBind (item_at [] locals n) ∷ []
+varied_words locals args (part.Local n) = w.Local (item_at [] locals n) ∷ []
+varied_words locals args other = operand_words args other
 
--- the words of an import's expression
-abbrev pub expression_words : (parts : List Part) → (args : List Plain) → List Word
-expression_words parts args = flat_map (part_words args) parts
+-- the words of a part of an import's text, for these locals and operands
+abbrev pub part_words : (locals : List (List ℕ)) → List Plain → Part → List Word
+part_words locals args p = word_or (fixed_word p) (varied_words locals args p)
 
--- the statement of an import's expression: its answer is bound to a local, if there is one
-abbrev pub import_line_words : (bound : Option (List ℕ)) → (parts : List Part) → (args : List Plain) → List Word
-import_line_words None parts args = expression_words parts args ++ semicolon ∷ []
-import_line_words (Some bound) parts args = const_start bound ++ (expression_words parts args ++ semicolon ∷ [])
+-- the words of parts, one after the other
+abbrev pub parts_words : (parts : List Part) → (locals : List (List ℕ)) → (args : List Plain) → List Word
+parts_words parts locals args = flat_map (part_words locals args) parts
+
+-- `const name = `, where there is a name
+abbrev pub start_words : (bound : Option (List ℕ)) → List Word
+start_words None = []
+start_words (Some bound) = const_start bound
+
+-- the statements of an import's expression: those before it, with locals of these names, and its own, whose answer is bound to a local,
+-- if there is one
+abbrev pub import_line_words : (bound : Option (List ℕ)) → Expression → (locals : List (List ℕ)) → (args : List Plain) → List Word
+import_line_words bound e locals args =
+    parts_words e.prelude locals args ++ (start_words bound ++ (parts_words e.value locals args ++ semicolon ∷ []))
 
 -- the call of an import, its answer bound to a local if there is one
-abbrev pub import_call : (adapter : ℕ) → (bound : Option (List ℕ)) → (parts : List Part) → (args : List Plain) → Line
-import_call adapter bound parts args = Inner adapter (terms args) bound (import_line_words bound parts args)
+abbrev pub import_call : (adapter : ℕ) → (bound : Option (List ℕ)) → Expression → (locals : List (List ℕ)) → (args : List Plain) → Line
+import_call adapter bound e locals args = Inner adapter (terms args) bound (import_line_words bound e locals args)
 
 -- `heap[stack_pointer++] = undefined;`
 abbrev pub gives_back_line : Line
@@ -162,6 +201,15 @@ pub record Row : Type 0 where
 abbrev pub made : List Piece → List Plain → List (List ℕ) → Row
 made pieces stack names = record { pieces = pieces; stack = stack; names = names }
 
+-- the row of a call of an import, with locals of these names
+abbrev pub import_row : (adapter params : ℕ) → (has_result : Bool) → Expression → (locals : List (List ℕ)) → (stack : List Plain)
+    → (names : List (List ℕ)) → Row
+import_row adapter n true e locals stack names =
+    made (Ahead (import_call adapter (Some (first names)) e locals (operands Missing n stack [])) ∷ [])
+    (Local (first names) ∷ without n stack) (later names)
+import_row adapter n false e locals stack names =
+    made (Ahead (import_call adapter None e locals (operands Missing n stack [])) ∷ []) (without n stack) names
+
 -- the table of steps
 abbrev pub row : Step → (params stack : List Plain) → (names : List (List ℕ)) → Row
 row (Parameter n) params stack names = made [] (item_at Missing params n ∷ stack) names
@@ -171,11 +219,8 @@ row (CallExport name n true) params stack names =
     (Local (first names) ∷ without n stack) (later names)
 row (CallExport name n false) params stack names =
     made (Ahead (Run (export_call name (operands Missing n stack []))) ∷ []) (without n stack) names
-row (CallImport adapter n true parts) params stack names =
-    made (Ahead (import_call adapter (Some (first names)) parts (operands Missing n stack [])) ∷ [])
-    (Local (first names) ∷ without n stack) (later names)
-row (CallImport adapter n false parts) params stack names =
-    made (Ahead (import_call adapter None parts (operands Missing n stack [])) ∷ []) (without n stack) names
+row (CallImport adapter n has_result e) params stack names =
+    import_row adapter n has_result e (next_names (length e.locals) names) stack (without (length e.locals) names)
 row ToUnsigned params stack names = made [] (Unsigned (top Missing stack) ∷ below stack) names
 row TakeIndex params stack names =
     made (Ahead (Bind (first names) (helper_call (codes "takeObject") (top Missing stack))) ∷ [])
@@ -220,10 +265,11 @@ abbrev pub result_of : Bool → List (List ℕ)
 result_of true = codes "ret" ∷ []
 result_of false = []
 
--- the temporaries that a step wants: `ret` for a call, else `v` and how many steps before it have such a one
+-- the temporaries that a step wants: the locals of the statements before it and `ret` for a call, else `v` and how many steps before it
+-- have such a one
 abbrev pub wanted_by : Step → (count : ℕ) → List (List ℕ)
 wanted_by (CallExport name n has_result) count = result_of has_result
-wanted_by (CallImport adapter n has_result parts) count = result_of has_result
+wanted_by (CallImport adapter n has_result e) count = e.locals ++ result_of has_result
 wanted_by TakeIndex count = numbered (codes "v") count ∷ []
 wanted_by IndexFromBorrow count = numbered (codes "v") count ∷ []
 wanted_by other count = []

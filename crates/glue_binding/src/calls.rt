@@ -2,15 +2,15 @@
 ghost use Rattle.std.specs.Prelude.{◌≡◌, ◌++◌, ◌∷◌, [], IfOk, OnOk, map};
 ghost use Rattle.glue_tree.specs.Plainly.{plain_expr, plain_exprs};
 ghost use Rattle.glue_tree.specs.Term as t;
-ghost use Rattle.glue_binding.specs.Body.{IsAfter, plain_operand, plain_pieces, row_of};
+ghost use Rattle.glue_binding.specs.Body.{IsAfter, plain_operand, plain_pieces, stack_of, newest_first, row_of};
 ghost use Rattle.glue_binding.specs.Spelling as s;
 ghost use Rattle.glue_steps.specs.declared.step.Step.TheVariants.{CallExport, CallImport};
 
 use crate::body::Body;
 use crate::import::import_line;
 use crate::operand::{Operand, to_exprs};
-use crate::stack::pop_operands;
-use glue_imports::Part;
+use crate::stack::{next_names, pop_operands};
+use glue_imports::Expression;
 use glue_tree::{Expr, Stmt};
 use std::alloc::{AllocError, Global};
 use values::{Boxed, Duplicate, Text};
@@ -43,23 +43,54 @@ pub fn call_export(
     }
 }
 
-// The call of an import with these operands, its answer bound to a local if there is one.
+// The call of an import with these locals and operands, its answer bound to a local if there is one.
 fn embed(
     alloc: Global,
     body: &mut Body,
     adapter: u32,
     bound: Option<Text>,
-    parts: &[Part],
+    expression: &Expression,
+    locals: &[Text],
     operands: &[Operand],
 ) -> Result<(), AllocError>
     ensures pieces { OnOk result (plain_pieces body.new.pieces ≡ plain_pieces body.old.pieces
-        ++ s.Ahead (s.import_call adapter bound parts.now (map plain_operand operands.now)) ∷ []) }
+        ++ s.Ahead (s.import_call adapter bound expression.now locals.now (map plain_operand operands.now)) ∷ []) }
     ensures stack { body.new.stack ≡ body.old.stack }
     ensures names { body.new.coming ≡ body.old.coming }
 {
     let args = to_exprs(alloc, operands)?;
-    let words = import_line(alloc, &bound, parts, operands)?;
+    let words = import_line(alloc, &bound, expression, locals, operands)?;
     body.ahead(Stmt::Embedded(adapter, args, bound, words))
+}
+
+// The row of a call of an import with these locals, whose names are taken.
+fn call_with(
+    alloc: Global,
+    body: &mut Body,
+    adapter: u32,
+    params: usize,
+    has_result: bool,
+    expression: &Expression,
+    locals: &[Text],
+) -> Result<(), AllocError>
+    ensures after { OnOk result (IsAfter (s.import_row adapter params has_result expression.now locals.now (stack_of body.old.stack) (newest_first body.old.coming)) body.old body.new) }
+{
+    let operands = pop_operands(alloc, &mut body.stack, params)?;
+    if has_result {
+        let bound = body.temporary(alloc)?;
+        embed(
+            alloc,
+            body,
+            adapter,
+            Some(bound),
+            expression,
+            locals,
+            &operands,
+        )?;
+        Ok(())
+    } else {
+        embed(alloc, body, adapter, None, expression, locals, &operands)
+    }
 }
 
 /// The row of a call of an import.
@@ -69,16 +100,18 @@ pub fn call_import(
     adapter: u32,
     params: usize,
     has_result: bool,
-    parts: &[Part],
+    expression: &Expression,
 ) -> Result<(), AllocError>
-    ensures after { OnOk result (IsAfter (row_of (CallImport adapter params has_result parts.now) [] body.old) body.old body.new) }
+    ensures after { OnOk result (IsAfter (row_of (CallImport adapter params has_result expression.now) [] body.old) body.old body.new) }
 {
-    let operands = pop_operands(alloc, &mut body.stack, params)?;
-    if has_result {
-        let bound = body.temporary(alloc)?;
-        embed(alloc, body, adapter, Some(bound), parts, &operands)?;
-        Ok(())
-    } else {
-        embed(alloc, body, adapter, None, parts, &operands)
-    }
+    let locals = next_names(alloc, &mut body.coming, expression.locals.len())?;
+    call_with(
+        alloc,
+        body,
+        adapter,
+        params,
+        has_result,
+        expression,
+        locals.as_slice(),
+    )
 }

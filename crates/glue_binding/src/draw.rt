@@ -5,10 +5,11 @@ ghost use Rattle.values.specs.TextSet.{with_texts};
 ghost use Rattle.glue_scope.specs.Scope.{AreDrawn};
 ghost use Rattle.glue_binding.specs.Spelling as s;
 
+use glue_imports::Expression;
 use glue_scope::Names;
 use glue_steps::Step;
 use std::alloc::{AllocError, Global};
-use values::{Seq, Text};
+use values::{Duplicate, Seq, Text};
 
 /// Draws a name for each of the wanted ones, in order.
 pub fn draw<N: Names>(
@@ -36,6 +37,30 @@ fn push_result(alloc: Global, has_result: bool, wanted: &mut Seq<Text>) -> Resul
     Ok(())
 }
 
+// The names of the locals of the statements before an import's own.
+fn push_locals(
+    alloc: Global,
+    expression: &Expression,
+    wanted: &mut Seq<Text>,
+) -> Result<(), AllocError>
+    ensures wanted { OnOk result (wanted.new ≡ wanted.old ++ expression.now.locals) }
+{
+    wanted.append(expression.locals.copy(alloc)?)
+}
+
+// The temporaries of a call of an import.
+fn push_called(
+    alloc: Global,
+    expression: &Expression,
+    has_result: bool,
+    wanted: &mut Seq<Text>,
+) -> Result<(), AllocError>
+    ensures wanted { OnOk result (wanted.new ≡ wanted.old ++ (expression.now.locals ++ s.result_of has_result)) }
+{
+    push_locals(alloc, expression, wanted)?;
+    push_result(alloc, has_result, wanted)
+}
+
 // `v` and the number.
 fn push_numbered(alloc: Global, count: usize, wanted: &mut Seq<Text>) -> Result<(), AllocError>
     ensures wanted { OnOk result (wanted.new ≡ wanted.old ++ numbered (codes "v") count ∷ []) }
@@ -55,7 +80,11 @@ fn push_wanted(
 {
     match step {
         Step::CallExport { has_result, .. } => push_result(alloc, *has_result, wanted),
-        Step::CallImport { has_result, .. } => push_result(alloc, *has_result, wanted),
+        Step::CallImport {
+            has_result,
+            expression,
+            ..
+        } => push_called(alloc, expression, *has_result, wanted),
         Step::TakeIndex => push_numbered(alloc, count, wanted),
         Step::IndexFromBorrow => push_numbered(alloc, count, wanted),
         Step::Parameter(_) => Ok(()),

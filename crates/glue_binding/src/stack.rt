@@ -1,6 +1,7 @@
 //! The stack of operands, and the names to come.
 ghost use Rattle.std.specs.Prelude.{◌≡◌, ◌∷◌, [], OnOk, IfOk, map, reverse};
 ghost use Rattle.glue_binding.specs.Body.{newest_first, stack_of, plain_operand};
+ghost use Rattle.glue_binding.specs.Spelling as spell;
 ghost use Rattle.glue_binding.specs.Spelling.{Missing, first, later};
 ghost use Rattle.glue_steps.specs.Stack as s;
 
@@ -56,4 +57,20 @@ pub fn next_name(alloc: Global, coming: &mut Seq<Text>) -> Text
         Some(name) => name,
         None => Text::new(String::new(alloc)),
     }
+}
+
+/// The next names, so many, the empty one for each that is lacking.
+pub fn next_names(
+    alloc: Global,
+    coming: &mut Seq<Text>,
+    count: usize,
+) -> Result<Seq<Text>, AllocError>
+    ensures names { IfOk result (λ names. names ≡ spell.next_names count (newest_first coming.old)) }
+    ensures left { OnOk result (newest_first coming.new ≡ s.without count (newest_first coming.old)) }
+{
+    let mut names = Seq::new(alloc);
+    for _ in 0..count {
+        names.push(next_name(alloc, coming))?;
+    }
+    Ok(names)
 }

@@ -11,6 +11,8 @@ mod compare;
 #[cfg(test)]
 mod ends;
 #[cfg(test)]
+mod foreign;
+#[cfg(test)]
 mod inputs;
 #[cfg(test)]
 mod layout;

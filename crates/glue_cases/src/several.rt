@@ -1,10 +1,6 @@
 use crate::compare::{assert_case, assert_told};
-use crate::support::{fault_told, made};
-use cli_support::Output;
-use std::alloc::Global;
+use crate::support::{fault_told, glue_bytes, made};
 use std::test::Fail;
-use values::Seq;
-use wasm_core::EmitFault;
 
 // A module that exports `sum` and `product` and imports `warn` and `log`. Its description publishes `zeta` and `Alpha` over `sum` and
 // `alpha` over `product`, in the order zeta, alpha, Alpha; `warn` is described before `log`.
@@ -26,14 +22,6 @@ const REFUSED: &[(&[u8], &str)] = &[
         "BadAdapter { adapter: AdapterId(4) }",
     ),
 ];
-
-/// The bytes of the glue file.
-fn glue_bytes(alloc: Global, output: &Output) -> Result<Seq<u8>, EmitFault> {
-    match output.files(alloc)?.pop() {
-        Some(file) => Ok(file.bytes),
-        None => Ok(Seq::new(alloc)),
-    }
-}
 
 #[test]
 fn several_functions_stand_by_name(rt: HostRuntime) -> Result<(), Fail> {

@@ -3,6 +3,7 @@ use cli_support::{Bindgen, Fault, JsonLowering, Output, SetFault};
 use glue_ends::PlannedFile;
 use std::alloc::{AllocError, Global};
 use std::test::Fail;
+use values::Seq;
 use wasm_core::EmitFault;
 
 const EMPTY: &[u8] = b"\0asm\x01\0\0\0";
@@ -163,4 +164,22 @@ fn the_empty_module_has_a_frame_and_loading(rt: HostRuntime) -> Result<(), Fail>
     drop(output);
     assert_told(&rt, told, "3 false true 0 56 406")?;
     Ok(())
+}
+
+/// The bytes of the written module.
+pub fn module_bytes(alloc: Global, output: &Output) -> Result<Seq<u8>, EmitFault> {
+    let mut files = output.files(alloc)?;
+    drop(files.pop());
+    match files.pop() {
+        Some(file) => Ok(file.bytes),
+        None => Ok(Seq::new(alloc)),
+    }
+}
+
+/// The bytes of the glue file.
+pub fn glue_bytes(alloc: Global, output: &Output) -> Result<Seq<u8>, EmitFault> {
+    match output.files(alloc)?.pop() {
+        Some(file) => Ok(file.bytes),
+        None => Ok(Seq::new(alloc)),
+    }
 }

@@ -1,5 +1,6 @@
 -- What is known of a description of which all is built.
 use Rattle.std.proofs.Common.{◌≡◌, ℕ, List, [], ◌∷◌, Bool, true, false, not, ◌&&◌, ◌||◌, Option, Some, None, true≢false, refl, sym, ◌∙◌, inl, inr, rules}
+use Rattle.std.specs.Prelude.{codes}
 use Rattle.std.specs.List.{list_any, list_all}
 use Rattle.std.specs.Option.{is_some}
 use Rattle.std.proofs.lemmas.Bool.{and_parts}
@@ -7,6 +8,7 @@ use Rattle.std.proofs.lemmas.Slice.Eq.{bytes_eq-Decides}
 use Rattle.std.specs.Str.{bytes_eq}
 use Rattle.values.specs.Lists.{IsIn, IsAway}
 use Rattle.wasm_core.specs.declared.types.Import.{Import}
+use Rattle.wasm_core.specs.declared.types.Memory.{Memory}
 use Rattle.glue_words.specs.Ident.{is_ident}
 use Rattle.glue_shared.specs.declared.adapter.Adapter.{Adapter}
 use Rattle.glue_shared.specs.declared.aux.AuxExport.{AuxExport}
@@ -25,6 +27,8 @@ use Rattle.glue_adapters.specs.Pairs.{is_placeholder}
 use Rattle.glue_check.specs.declared.files.FileFlags.{FileFlags}
 use Rattle.glue_check.specs.declared.verdict.Condition.TheVariants as conditions
 use Rattle.glue_check.specs.Answers.{answer}
+use Rattle.glue_check.specs.Handed.{own_callees, is_handed}
+use Rattle.glue_check.specs.Links.{is_bare_link}
 use Rattle.glue_check.specs.Unbuilt as spec
 use Rattle.glue_imports.specs.Expressions.{has_expression}
 use Rattle.glue_check.specs.Unbuilt.{is_unbuilt_entry, is_unbuilt_export, is_unbuilt_adapter}
@@ -44,6 +48,10 @@ not_false false h = cc
 pub not_true : (b : Bool) → not b ≡ true → b ≡ false
 not_true true h = cc
 not_true false h = refl
+
+absent : {A : Type 0} (o : Option A) → is_some o ≡ false → o ≡ None
+absent None h = refl
+absent (Some x) h = absurd (true≢false h)
 
 away_case : (name other : List ℕ) (names : List (List ℕ)) (b : Bool) → bytes_eq other name ≡ b → (b || is_one_of names name) ≡ false → (is_one_of names name ≡ false → IsAway name names) → IsAway name (other ∷ names)
 away_case name other names true e h rest k = absurd (true≢false h)
@@ -88,32 +96,40 @@ settings_built f s l h =
 
 -- ---- imports
 
--- a function of the module of placeholders
-pub record IsPlaceholder (i : Import) : Type 0 where
-  pub ours : is_placeholder (Some i) ≡ true
-  pub function : spec.is_function i.kind ≡ true
+-- an import of the module of placeholders is a function
+placeholder_is : (i : Import) → spec.is_other_import (Some i) ≡ false → is_placeholder (Some i) ≡ true → spec.is_function i.kind ≡ true
+placeholder_is i h ours = by (is_placeholder (Some i)) (bytes_eq i.«module» (codes "wasm:js/string-constants")) (spec.is_function i.kind) ours h
+  where
+    by : (p c f : Bool) → p ≡ true → ((p || c) && not (p && f)) ≡ false → f ≡ true
+    by true c f e h = not_false f h
+    by false c f e h = absurd (true≢false (sym e))
+
+memory_is : (m : Memory) → spec.is_memory_imported (Some m) ≡ false → m.import ≡ None
+memory_is m h = absent m.import h
 
 -- the imports of the module and of the description, and the settings on them
 pub record AreBuiltImports (s : Settings) (l : Lowered) : Type 0 where
-  pub placeholders : (i : Import) → IsIn (Some i) l.«module».imports → IsPlaceholder i
-  pub expressions : (e : ℕ × AuxImport) → IsIn e l.aux.imports → has_expression e.1 ≡ true
+  pub placeholders : (i : Import) → IsIn (Some i) l.«module».imports → is_placeholder (Some i) ≡ true → spec.is_function i.kind ≡ true
+  pub memories : (m : Memory) → IsIn (Some m) l.«module».memories → m.import ≡ None
+  pub expressions : (e : ℕ × AuxImport) → IsIn e l.aux.imports → (has_expression e.1 || (is_bare_link e.1 || is_handed (own_callees s l) e)) ≡ true
   pub kept : s.omit_imports ≡ false
   pub joined : s.split_linked_modules ≡ false
 
 pub imports_built : (f : FileFlags) (s : Settings) (l : Lowered) → unbuilt f s l ≡ None → AreBuiltImports s l
 unfolding answer is_unbuilt_entry
 imports_built f s l h =
-    let forms = list_any spec.is_other_import l.«module».imports || list_any is_unbuilt_entry l.aux.imports in
+    let unbuilt_entry = is_unbuilt_entry (own_callees s l) in
+    let forms = spec.has_other_imports l.«module» || list_any unbuilt_entry l.aux.imports in
     let asked = s.omit_imports || s.split_linked_modules in
     let slots = is_some_item l.aux.static_slots in
     let all = neither forms (slots || asked) (where_true-none (forms || (slots || asked)) _ (none_unbuilt conditions.UnbuiltImports f s l (search rules) h)) in
-    let both = neither (list_any spec.is_other_import l.«module».imports) (list_any is_unbuilt_entry l.aux.imports) all.0 in
+    let both = neither (spec.has_other_imports l.«module») (list_any unbuilt_entry l.aux.imports) all.0 in
+    let brought = neither (list_any spec.is_other_import l.«module».imports) (list_any spec.is_memory_imported l.«module».memories) both.0 in
     let rest = neither slots asked all.1 in
     let set = neither s.omit_imports s.split_linked_modules rest.1 in record {
-      placeholders = λ i k.
-          let p = and_parts (is_placeholder (Some i)) (spec.is_function i.kind) (not_false _ (list_any-none spec.is_other_import l.«module».imports (Some i) both.0 k)) in
-          record { ours = p.0; function = p.1 };
-      expressions = λ e i. not_false (has_expression e.1) (list_any-none is_unbuilt_entry l.aux.imports e both.1 i);
+      placeholders = λ i k. placeholder_is i (list_any-none spec.is_other_import l.«module».imports (Some i) brought.0 k);
+      memories = λ m k. memory_is m (list_any-none spec.is_memory_imported l.«module».memories (Some m) brought.1 k);
+      expressions = λ e i. not_false (has_expression e.1 || (is_bare_link e.1 || is_handed (own_callees s l) e)) (list_any-none unbuilt_entry l.aux.imports e both.1 i);
       kept = set.0;
       joined = set.1;
     }
@@ -211,10 +227,6 @@ adapters_built f s l h e i =
     (neither (not (list_all spec.is_number e.1.args && list_all spec.is_number e.1.results)) (list_any spec.is_unbuilt_instruction (code_of e.1.kind)) each).1
 
 -- ---- lifecycle
-
-absent : {A : Type 0} (o : Option A) → is_some o ≡ false → o ≡ None
-absent None h = refl
-absent (Some x) h = absurd (true≢false h)
 
 -- no function throws again what the module threw
 pub no_rethrow : (f : FileFlags) (s : Settings) (l : Lowered) → unbuilt f s l ≡ None → l.aux.rethrow_critical ≡ None

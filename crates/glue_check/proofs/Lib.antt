@@ -1,9 +1,11 @@
 pub mod BuiltForm
+pub mod Called
 pub mod Conditions
 mod Described
 pub mod ExportNames
 pub mod FaultKinds
 pub mod Globals
+pub mod Embedded
 mod OwnNames
 mod Operands
 pub mod OwnPairs

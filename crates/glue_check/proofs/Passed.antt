@@ -191,7 +191,7 @@ distinct_places s l h =
     (new_numbers (is_bad_pair l (pairs.described l)) place told [] l.wit.implements (fit_adapters s l h).paired).distinct
 
 -- a number that is found is one of them
-number_in : (n : ℕ) (ns : List ℕ) → has_number n ns ≡ true → IsIn n ns
+pub number_in : (n : ℕ) (ns : List ℕ) → has_number n ns ≡ true → IsIn n ns
 number_in n [] h = absurd (true≢false (sym h))
 number_in n (k ∷ ns) h = here (k == n) refl h (number_in n ns)
   where

@@ -1,6 +1,6 @@
 -- Each adapter that becomes a function has steps, and what each step names is there: where the places of instructions on the stack are
 -- checked and all is built.
-use Rattle.std.proofs.Common.{◌≡◌, ℕ, zero, suc, ◌==◌, List, [], ◌∷◌, map, arith, true, false, Option, Some, None, true≢false, refl, sym, ◌∙◌, Bool, inl, inr}
+use Rattle.std.proofs.Common.{◌≡◌, ℕ, zero, suc, ◌==◌, List, [], ◌∷◌, map, arith, true, false, Option, Some, None, true≢false, refl, sym, ◌∙◌, subst, Bool, inl, inr}
 use Rattle.std.specs.Prelude.{option_and_then, IsSomeAnd}
 use Rattle.std.specs.List.{AllByRecursion, list_any, list_all, filter_map, find}
 use Rattle.std.specs.Option.{is_some}
@@ -18,7 +18,8 @@ use Rattle.glue_shared.specs.declared.aux.AuxExport.{AuxExport}
 use Rattle.glue_shared.specs.declared.import.AuxImport.{AuxImport}
 use Rattle.glue_shared.specs.declared.description.Lowered.{Lowered}
 use Rattle.glue_shared.specs.declared.settings.Settings.{Settings}
-use Rattle.glue_shared.specs.Names.{has_number, host_names}
+use Rattle.glue_shared.specs.Names.{has_number, host_names, own_imports}
+use Rattle.glue_shared.specs.Names as names
 use Rattle.glue_adapters.specs.step.Step.{Step}
 use Rattle.glue_adapters.specs.step.Step.TheVariants.{CallExport, CallImport, TakeIndex, IndexFromBorrow, UnwrapResult}
 use Rattle.glue_adapters.specs.Resolving.{entry_at, is_some_item, export_step, is_spread, import_step_of, import_step, step_of, steps_of, adapter_steps}
@@ -28,30 +29,33 @@ use Rattle.glue_adapters.specs.Adapters.{adapter_at, code_of, has_code, is_impor
 use Rattle.glue_adapters.specs.Pairs.{described}
 use Rattle.glue_adapters.specs.Stack.{js_kinds, export_type, call_effect, effect, stack_after, leaves, is_well_stacked}
 use Rattle.glue_check.specs.declared.files.FileFlags.{FileFlags}
-use Rattle.glue_imports.specs.declared.part.Part.{Part}
+use Rattle.glue_imports.specs.declared.part.Expression.{Expression}
 use Rattle.glue_imports.specs.Expressions.{expression}
 use Rattle.glue_imports.proofs.Any.{any_call}
+use Rattle.glue_check.specs.Handed.{own_callees}
 use Rattle.glue_check.specs.Unbuilt.{global_of, is_unbuilt_instruction}
 use Rattle.glue_check.specs.Verdict.{unbuilt, verdict}
 use Rattle.glue_check.proofs.BuiltForm.{AreBuiltImports, imports_built, adapters_built}
+use Rattle.glue_check.proofs.Called.{called_own}
 use Rattle.glue_check.proofs.Globals.{global_host}
+use Rattle.glue_check.proofs.Embedded.{expression_there}
 use Rattle.glue_check.proofs.Passed.{exports_fit, pairs_fit, looked_up, global_ident}
 
--- parts of the expression of a described import, whose global is an identifier and a name of the outside
-pub record AreDescribed (s : Settings) (l : Lowered) (parts : List Part) : Type 0 where
+-- the expression of a described import, whose global is an identifier and a name of the outside
+pub record IsDescribed (s : Settings) (l : Lowered) (text : Expression) : Type 0 where
   pub entry : ℕ × AuxImport
   pub among : IsIn entry l.aux.imports
   pub call : AdapterJsImportKind
   pub spread : Bool
   pub bound : Bool
-  pub is : expression call spread bound entry.1 ≡ Some parts
+  pub is : expression call spread bound entry.1 ≡ Some text
   pub ident : (name : List ℕ) → global_of entry.1 ≡ Some name → is_ident name ≡ true
   pub host : (name : List ℕ) → global_of entry.1 ≡ Some name → IsIn name (host_names s l.aux)
 
 -- what a step names is there: an export of the module, or the expression of a described import
 abbrev pub IsThere : Settings → Lowered → Step → Type 0
 IsThere s l (CallExport name n has_result) = IsIn name (export_names l.«module»)
-IsThere s l (CallImport adapter n has_result parts) = AreDescribed s l parts
+IsThere s l (CallImport adapter n has_result text) = IsDescribed s l text
 IsThere s l TakeIndex = ⊥
 IsThere s l IndexFromBorrow = ⊥
 IsThere s l UnwrapResult = ⊥
@@ -80,6 +84,10 @@ first_has P id (e ∷ entries) h give =
     let rest = λ (k : has_number id (map (λ (e : ℕ × AuxImport). e.0) entries) ≡ true). first_has P id entries k (λ x i. give x (inr i)) in
     let here = give e (inl refl) in grind (arith, nat_tests)
 
+-- the code of an adapter by itself, and of one that was looked up
+same_code : (a : Adapter) → names.code_of (Some a) ≡ code_of a.kind
+same_code a = grind arith
+
 module _ (s : Settings) (l : Lowered) where
   -- a call that has an effect is that of an export
   called_export : (id : ℕ) → is_some (option_and_then call_effect (export_type l.«module» id)) ≡ true → IsSomeAnd (export_step l.«module» id) (IsThere s l)
@@ -89,11 +97,11 @@ module _ (s : Settings) (l : Lowered) where
   abbrev HasStep : ℕ → ℕ × AuxImport → Type 0
   HasStep id e = (a : Adapter) (call : AdapterJsImportKind) → IsSomeAnd (import_step_of l id a call e.1) (IsThere s l)
 
-  entry_step : AreBuiltImports s l → verdict s l ≡ None → (id : ℕ) (e : ℕ × AuxImport) → IsIn e l.aux.imports → HasStep id e
-  entry_step built passed id e i a call =
+  entry_step : AreBuiltImports s l → verdict s l ≡ None → (id : ℕ) (e : ℕ × AuxImport) → IsIn e l.aux.imports → has_number e.0 (own_callees s l) ≡ true → HasStep id e
+  entry_step built passed id e i own a call =
       let spread = is_spread l id in
       let bound = is_some_item a.results in
-      let g = some_of (expression call spread bound e.1) (any_call call spread bound e.1 ∙ built.expressions e i) in
+      let g = some_of (expression call spread bound e.1) (any_call call spread bound e.1 ∙ expression_there s l built passed e i own) in
       rw g.1 (record {
         entry = e;
         among = i;
@@ -105,43 +113,70 @@ module _ (s : Settings) (l : Lowered) where
         host = λ name h. global_host s l e i name h;
       })
 
-  -- a call of a described import adapter is a step
+  -- an instruction calls no import adapter but those that adapters of own imports call
+  abbrev is_own_call : Instruction → Bool
+  is_own_call (instr.CallAdapter id) = has_number id (own_callees s l)
+  is_own_call other = true
+
+  -- a call of such a described import adapter is a step
   called_adapter : AreBuiltImports s l → verdict s l ≡ None → (id : ℕ) → is_described_call l (described l) (instr.CallAdapter id) ≡ true
-      → IsSomeAnd (import_step l id) (IsThere s l)
-  called_adapter built passed id h =
+      → has_number id (own_callees s l) ≡ true → IsSomeAnd (import_step l id) (IsThere s l)
+  called_adapter built passed id h own =
       let p = and_parts (is_import (adapter_at l id)) (has_number id (described l)) h in
-      let e = first_has (HasStep id) id l.aux.imports p.1 (λ e i own. entry_step built passed id e i) in grind arith
+      let e = first_has (HasStep id) id l.aux.imports p.1
+      (λ e i same. entry_step built passed id e i (subst (λ (n : ℕ). has_number n (own_callees s l) ≡ true) (sym same) own)) in grind arith
 
   -- an instruction that is built, with an effect and an import that is described, is a step
   called : AreBuiltImports s l → verdict s l ≡ None → (params : List Kind) (i : Instruction)
-      → is_unbuilt_instruction i ≡ false → is_some (effect l params i) ≡ true → is_described_call l (described l) i ≡ true → IsSomeAnd (step_of l i) (IsThere s l)
+      → is_unbuilt_instruction i ≡ false → is_some (effect l params i) ≡ true → is_described_call l (described l) i ≡ true → is_own_call i ≡ true
+      → IsSomeAnd (step_of l i) (IsThere s l)
   unfolding effect
-  called built passed params i u e d = let adapter = called_adapter built passed in grind (arith, called_export)
+  called built passed params i u e d own = let adapter = called_adapter built passed in grind (arith, called_export)
 
   -- a code that is built and well stacked, each call of which is described, has steps
   code_there : AreBuiltImports s l → verdict s l ≡ None → (params results stack : List Kind) (code : List Instruction) → list_any is_unbuilt_instruction code ≡ false
-      → list_all (is_described_call l (described l)) code ≡ true → leaves results (stack_after (effect l params) stack code) ≡ true
+      → list_all (is_described_call l (described l)) code ≡ true → list_all is_own_call code ≡ true → leaves results (stack_after (effect l params) stack code) ≡ true
       → IsSomeAnd (steps_of l code) (AllByRecursion (IsThere s l))
-  code_there built passed params results stack [] u d h = tt
-  code_there built passed params results stack (i ∷ code) u d h =
+  code_there built passed params results stack [] u d own h = tt
+  code_there built passed params results stack (i ∷ code) u d own h =
       let here = called built passed params i in
       let rest = λ (next : List Kind). code_there built passed params results next code in grind arith
 
-  -- where no import is called, each that is called is described
+  -- where no import is called, each that is called is described, and called by an adapter of an own import
   none_called : (code : List Instruction) → list_any is_import_call code ≡ false → list_all (is_described_call l (described l)) code ≡ true
   unfolding is_import_call
   none_called [] h = refl
   none_called (i ∷ code) h = let rest = none_called code in grind arith
+
+  none_own : (code : List Instruction) → list_any is_import_call code ≡ false → list_all is_own_call code ≡ true
+  unfolding is_import_call
+  none_own [] h = refl
+  none_own (i ∷ code) h = let rest = none_own code in grind arith
+
+  -- what the adapter of an own import calls is called by one
+  pair_own : (pair : ImportId × ℕ) → IsIn pair l.wit.implements → has_number pair.0.0 (own_imports s l.«module» l.wit l.aux) ≡ true
+      → (a : Adapter) → adapter_at l pair.1 ≡ Some a → list_all is_own_call (code_of a.kind) ≡ true
+  pair_own pair i own a there = each (code_of a.kind) (λ id at. called_own s l pair i own id (rw (there, same_code a) at))
+    where
+      each : (code : List Instruction) → ((id : ℕ) → IsIn (instr.CallAdapter id) code → has_number id (own_callees s l) ≡ true) → list_all is_own_call code ≡ true
+      each [] h = refl
+      each (i ∷ code) h = by i h (each code (λ id at. h id (inr at)))
+        where
+          by : (i : Instruction) → ((id : ℕ) → IsIn (instr.CallAdapter id) (i ∷ code) → has_number id (own_callees s l) ≡ true) → list_all is_own_call code ≡ true
+              → list_all is_own_call (i ∷ code) ≡ true
+          by (instr.CallAdapter id) h rest = rw (h id (inl refl)) rest
+          by other h rest = rest
 
 -- ---- adapters that become functions
 
 module _ (f : FileFlags) (s : Settings) (l : Lowered) (built : unbuilt f s l ≡ None) (passed : verdict s l ≡ None) where
   -- an adapter has the steps of its code, which passes values of some kinds
   coded_steps : (id : ℕ) (a : Adapter) (params results : List Kind) → adapter_at l id ≡ Some a → has_code a.kind ≡ true
-      → list_all (is_described_call l (described l)) (code_of a.kind) ≡ true → is_well_stacked l params results (code_of a.kind) ≡ true → HasSteps s l id
-  coded_steps id a params results there coded calls stacked =
+      → list_all (is_described_call l (described l)) (code_of a.kind) ≡ true → list_all (is_own_call s l) (code_of a.kind) ≡ true
+      → is_well_stacked l params results (code_of a.kind) ≡ true → HasSteps s l id
+  coded_steps id a params results there coded calls own stacked =
       let each = adapters_built f s l built (id, a) (looked_up l.wit.adapters id a there) in
-      let steps = code_there s l (imports_built f s l built) passed params results [] (code_of a.kind) each calls stacked in grind arith
+      let steps = code_there s l (imports_built f s l built) passed params results [] (code_of a.kind) each calls own stacked in grind arith
 
   -- the adapter of an export
   pub export_steps : (e : AuxExport) → IsIn e l.aux.exports → HasSteps s l e.adapter
@@ -150,11 +185,13 @@ module _ (f : FileFlags) (s : Settings) (l : Lowered) (built : unbuilt f s l ≡
       let fit = exports_fit s l passed e i in
       let a = fit.adapter in
       let calls = none_called s l (code_of a.kind) in
+      let own = none_own s l (code_of a.kind) in
       let steps = coded_steps e.adapter a (js_kinds a.args) (js_kinds a.results) fit.there fit.coded in grind arith
 
-  -- the adapter of an import
-  pub pair_steps : (pair : ImportId × ℕ) → IsIn pair l.wit.implements → HasSteps s l pair.1
+  -- the adapter of an own import
+  pub pair_steps : (pair : ImportId × ℕ) → IsIn pair l.wit.implements → has_number pair.0.0 (own_imports s l.«module» l.wit l.aux) ≡ true → HasSteps s l pair.1
   unfolding fits_inward
-  pair_steps pair i =
+  pair_steps pair i mine =
       let fit = pairs_fit s l passed pair i in
+      let own = pair_own s l pair i mine fit.adapter fit.there in
       let steps = λ (params results : List Kind). coded_steps pair.1 fit.adapter params results fit.there in grind arith

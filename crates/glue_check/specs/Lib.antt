@@ -1,5 +1,7 @@
 pub mod Answers
 pub mod FaultKinds
+pub mod Handed
+pub mod Links
 pub mod Modules
 pub mod Naming
 pub mod Publishing

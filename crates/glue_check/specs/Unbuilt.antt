@@ -1,10 +1,12 @@
 -- What isn't built yet: each kind of it by a name.
 use Rattle.std.specs.Prelude.{ℕ, nat_eq, Bool, true, false, not, ◌&&◌, ◌||◌, is_some, List, codes, Option, Some, None, option_and_then}
 use Rattle.std.specs.List.{list_any, list_all, starts_with}
+use Rattle.wasm_core.specs.Contents.{Contents}
 use Rattle.wasm_core.specs.declared.types.Func.{Func}
 use Rattle.wasm_core.specs.declared.types.Import.{Import}
 use Rattle.wasm_core.specs.declared.types.ImportKind.{ImportKind}
 use Rattle.wasm_core.specs.declared.types.ImportKind.TheVariants as import_kinds
+use Rattle.wasm_core.specs.declared.types.Memory.{Memory}
 use Rattle.glue_words.specs.Ident.{is_ident}
 use Rattle.glue_shared.specs.declared.adapter.Adapter.{Adapter}
 use Rattle.glue_shared.specs.declared.adapter.AdapterType.{AdapterType}
@@ -29,6 +31,9 @@ use Rattle.glue_faults.specs.First.{where_true}
 use Rattle.glue_adapters.specs.Adapters.{code_of}
 use Rattle.glue_adapters.specs.Pairs.{is_placeholder}
 use Rattle.glue_check.specs.declared.files.FileFlags.{FileFlags}
+use Rattle.glue_check.specs.Handed.{own_callees, is_handed}
+use Rattle.glue_check.specs.Links.{is_bare_link}
+use Rattle.glue_check.specs.Modules.{is_reserved}
 
 -- ---- targets
 
@@ -46,23 +51,33 @@ abbrev pub is_function : ImportKind → Bool
 is_function (import_kinds.Func func) = true
 is_function other = false
 
--- an import that isn't a function of the module of placeholders
+-- an import of the module of placeholders that is no function, or one of string constants
 abbrev pub is_other_import : Option Import → Bool
 is_other_import None = false
-is_other_import (Some i) = not (is_placeholder (Some i) && is_function i.kind)
+is_other_import (Some i) = is_reserved i.«module» && not (is_placeholder (Some i) && is_function i.kind)
+
+-- a memory that is imported
+abbrev pub is_memory_imported : Option Memory → Bool
+is_memory_imported None = false
+is_memory_imported (Some memory) = is_some memory.import
+
+-- a module that imports such things
+abbrev pub has_other_imports : Contents → Bool
+has_other_imports m = list_any is_other_import m.imports || list_any is_memory_imported m.memories
 
 -- the global whose value, or a property of which, an import names
 abbrev pub global_of : AuxImport → Option (List ℕ)
 global_of what = option_and_then (λ (js : JsImport). global_name js.name) (js_import what)
 
--- an import whose expression isn't built
-unfoldable pub is_unbuilt_entry : ℕ × AuxImport → Bool
-is_unbuilt_entry entry = not (has_expression entry.1)
+-- an import whose expression isn't built, where the adapters of own imports call these. A link without content has none, and a condition
+-- tells of it; a name of a module that none of them calls needs none
+unfoldable pub is_unbuilt_entry : List ℕ → ℕ × AuxImport → Bool
+is_unbuilt_entry called entry = not (has_expression entry.1 || (is_bare_link entry.1 || is_handed called entry))
 
 -- imports of another form, or settings that change them
 abbrev pub unbuilt_imports : Settings → Lowered → Option Fault
 unbuilt_imports settings l = where_true (
-    (list_any is_other_import l.«module».imports || list_any is_unbuilt_entry l.aux.imports)
+    (has_other_imports l.«module» || list_any (is_unbuilt_entry (own_callees settings l)) l.aux.imports)
     || (is_some_item l.aux.static_slots || (settings.omit_imports || settings.split_linked_modules))
     ) (faults.NotBuilt (codes "imports"))
 

@@ -1,22 +1,24 @@
 //! The first fault of a description, and descriptions that have none.
 //!
 //! `check` goes through what isn't built yet and then through the conditions that a description has to meet, each of which is one
-//! definition (`specs/Unbuilt.antt`, `specs/Naming.antt`, `specs/Modules.antt`, `specs/Publishing.antt`, and those of
+//! definition (`specs/Unbuilt.antt`, `specs/Naming.antt`, `specs/Modules.antt`, `specs/Publishing.antt`, `specs/Links.antt`, and those of
 //! `glue_adapters`). Promised (`fault`): it answers exactly the first of these that comes to a fault, with what it names; `unbuilt` and `verdict` in `specs/Verdict.antt` are the two lists.
 //! Where there is none it gives a `Checked`, whose type says so: a crate above draws its facts from that, by the lemmas of
-//! `proofs/Passed.antt` (no fault), `proofs/BuiltForm.antt` (all is built) and `proofs/Steps.antt` (each adapter that becomes a function
+//! `proofs/Passed.antt` (no fault), `proofs/BuiltForm.antt` (all is built), `proofs/Embedded.antt` and `proofs/Steps.antt` (each adapter that becomes a function
 //! has steps). Nothing but want of memory fails besides.
 //!
 //! The generator calls it before it makes anything, and makes files of a `Checked` alone. Each condition on names is a call by itself
 //! too, from `bad_name` to `fixed_export`, since some can't be met where all is built. Of each condition, what it says of classes, enums,
-//! re-exports, namespaces that run through one another, names that vendors or a bundler give, kinds of described imports, targets, parts
-//! and linked texts is missing: no description that is built can meet it.
+//! re-exports, namespaces that run through one another, names that vendors or a bundler give, kinds of described imports, targets and
+//! parts is missing: no description that is built can meet it.
 //!
 //! Stands on `glue_adapters`, `glue_faults`, `glue_scope`, `glue_words`, `glue_shared` and `wasm_core`.
 #![tactic(auto)]
 
 mod clash;
 mod files;
+mod handed;
+mod links;
 mod modules;
 mod naming;
 mod own;
@@ -29,6 +31,7 @@ pub use files::FileFlags;
 pub use glue_faults::Fault;
 pub use modules::{glue_module_name, module_clash};
 pub use naming::{bad_name, global_twice, has_start, name_clash};
+pub use own::own_places;
 pub use publishing::{export_clash, fixed_export, qualified, qualified_name};
 pub use unbuilt::{is_function_kind, taken_names};
 pub use verdict::{Checked, check};

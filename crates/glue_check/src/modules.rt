@@ -29,8 +29,8 @@ pub(crate) struct Claimed {
 
 // ---- described modules
 
-// Whether nothing can be described to come from a module of this name.
-fn is_reserved(name: &str) -> bool
+/// Whether nothing can be described to come from a module of this name.
+pub(crate) fn is_reserved(name: &str) -> bool
     ensures test { result ≡ spec.is_reserved name.now }
 {
     name == "__wbindgen_placeholder__" || name == "wasm:js/string-constants"
@@ -182,8 +182,8 @@ fn has_call_from(
     Ok(false)
 }
 
-// The code of an adapter, none where it is a call or isn't there.
-fn code_of(adapter: Option<&Adapter>) -> &[Instruction]
+/// The code of an adapter, none where it is a call or isn't there.
+pub(crate) fn code_of(adapter: Option<&Adapter>) -> &[Instruction]
     ensures code { result.now ≡ names.code_of (option_copied adapter.entry) }
 {
     match adapter {

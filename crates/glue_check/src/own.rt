@@ -47,7 +47,7 @@ fn own_ids(
 }
 
 /// The places of the imports that the glue file defines. Want of memory is the only error.
-pub(crate) fn own_places(
+pub fn own_places(
     alloc: Global,
     settings: &Settings,
     lowered: &Lowered,

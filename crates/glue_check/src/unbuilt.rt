@@ -8,9 +8,12 @@ ghost use Rattle.glue_check.specs.Taken as by_set;
 ghost use Rattle.glue_check.specs.Unbuilt as spec;
 
 use crate::files::FileFlags;
+use crate::handed::{is_handed, own_callees};
+use crate::links::is_bare_link;
+use crate::modules::is_reserved;
 use crate::taken::{with_fixed, with_hosts};
 use glue_adapters::is_placeholder;
-use glue_faults::{Fault, not_built};
+use glue_faults::{Fault, IdSet, not_built};
 use glue_imports::{global_name, has_expression};
 use glue_scope::{IdentScope, Names};
 use glue_shared::{
@@ -20,7 +23,7 @@ use glue_shared::{
 use glue_words::is_valid_ident;
 use std::alloc::{AllocError, Global};
 use values::Text;
-use wasm_core::{Func, Import, ImportKind};
+use wasm_core::{Func, Import, ImportKind, Memory, Module};
 
 fn is_deno(target: &Target) -> bool
     ensures test { result ≡ spec.is_deno target.now }
@@ -44,13 +47,26 @@ fn is_function(kind: ImportKind) -> bool
     matches!(kind, ImportKind::Func(_))
 }
 
-// Whether an import isn't a function of the module of placeholders.
+// Whether an import is one of the module of placeholders and no function, or one of string constants.
 fn is_other_import(import: &Option<Import>) -> bool
     ensures test { result ≡ spec.is_other_import import.now }
 {
     match import {
         None => false,
-        Some(known) => !(is_placeholder(import) && is_function(known.kind)),
+        Some(known) => {
+            is_reserved(known.module.as_str())
+                && !(is_placeholder(import) && is_function(known.kind))
+        }
+    }
+}
+
+// Whether a memory is imported.
+fn is_memory_imported(memory: &Option<Memory>) -> bool
+    ensures test { result ≡ spec.is_memory_imported memory.now }
+{
+    match memory {
+        None => false,
+        Some(memory) => memory.import.is_some(),
     }
 }
 
@@ -61,30 +77,40 @@ pub(crate) fn global_of(import: &AuxImport) -> Option<&Text>
     global_name(&js_import(import)?.name)
 }
 
-// Whether the expression of an import isn't built.
+// Whether the expression of an import isn't built; of a link without content a condition tells, and a name of a module that no adapter of an
+// own import calls needs none.
 #[tactic(auto, unfolding(crate::specs::Unbuilt::is_unbuilt_entry))]
-fn is_unbuilt_entry(entry: &(AdapterId, AuxImport)) -> bool
-    ensures test { result ≡ spec.is_unbuilt_entry entry.now }
+fn is_unbuilt_entry(called: &IdSet, entry: &(AdapterId, AuxImport)) -> bool
+    ensures test { result ≡ spec.is_unbuilt_entry called.now entry.now }
 {
-    !has_expression(&entry.1)
+    !(has_expression(&entry.1) || is_bare_link(&entry.1) || is_handed(called, entry))
 }
 
-// Whether an import isn't one of those that are built.
+// Whether one of these imports is of a form that isn't built.
 fn has_other_import(imports: &[Option<Import>]) -> bool
     ensures test { result ≡ list_any spec.is_other_import imports.now }
 {
     imports.iter().any(|import| is_other_import(import))
 }
 
-fn has_unbuilt_entry(lowered: &Lowered) -> bool
-    ensures test { result ≡ list_any spec.is_unbuilt_entry lowered.now.aux.imports }
+// Whether one of these memories is imported.
+fn has_imported_memory(memories: &[Option<Memory>]) -> bool
+    ensures test { result ≡ list_any spec.is_memory_imported memories.now }
 {
-    lowered
-        .aux
-        .imports
-        .as_slice()
-        .iter()
-        .any(|entry| is_unbuilt_entry(entry))
+    memories.iter().any(|memory| is_memory_imported(memory))
+}
+
+// Whether a module imports such things.
+fn has_other_imports(module: &Module) -> bool
+    ensures test { result ≡ spec.has_other_imports «module».now }
+{
+    has_other_import(module.imports()) || has_imported_memory(module.memories())
+}
+
+fn has_unbuilt_entry(called: &IdSet, entries: &[(AdapterId, AuxImport)]) -> bool
+    ensures test { result ≡ list_any (spec.is_unbuilt_entry called.now) entries.now }
+{
+    entries.iter().any(|entry| is_unbuilt_entry(called, entry))
 }
 
 /// That imports of this form aren't built. Want of memory is the only error.
@@ -95,8 +121,9 @@ pub(crate) fn unbuilt_imports(
 ) -> Result<Option<Fault>, AllocError>
     ensures fault { IfOk result (λ fault. fault ≡ spec.unbuilt_imports settings.now lowered.now) }
 {
-    let asked = has_other_import(lowered.module.imports())
-        || has_unbuilt_entry(lowered)
+    let called = own_callees(alloc, settings, lowered)?;
+    let asked = has_other_imports(&lowered.module)
+        || has_unbuilt_entry(&called, lowered.aux.imports.as_slice())
         || !lowered.aux.static_slots.is_empty()
         || settings.omit_imports
         || settings.split_linked_modules;

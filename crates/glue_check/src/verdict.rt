@@ -7,6 +7,7 @@ ghost use Rattle.glue_check.specs.Answers as answers;
 ghost use Rattle.glue_check.specs.Verdict as spec;
 
 use crate::files::FileFlags;
+use crate::links::link_not_embedded;
 use crate::modules::module_clash;
 use crate::naming::{bad_name, global_twice, name_clash};
 use crate::publishing::{export_clash, fixed_export};
@@ -43,6 +44,7 @@ enum Condition {
     ModuleClash,
     ExportClash,
     FixedExport,
+    LinkNotEmbedded,
 }
 
 /// What isn't built yet, in its order.
@@ -58,7 +60,7 @@ const UNBUILT: [Condition; 8] = [
 ];
 
 /// The conditions in their order: the first that gives a fault decides.
-const CONDITIONS: [Condition; 11] = [
+const CONDITIONS: [Condition; 12] = [
     Condition::Threads,
     Condition::PackageJson,
     Condition::UnsupportedInstr,
@@ -70,6 +72,7 @@ const CONDITIONS: [Condition; 11] = [
     Condition::ModuleClash,
     Condition::ExportClash,
     Condition::FixedExport,
+    Condition::LinkNotEmbedded,
 ];
 
 fn is_shared(memory: &Option<Memory>) -> bool
@@ -138,6 +141,7 @@ fn answer(
         Condition::ModuleClash => module_clash(alloc, settings, lowered),
         Condition::ExportClash => export_clash(alloc, aux),
         Condition::FixedExport => fixed_export(alloc, settings, lowered),
+        Condition::LinkNotEmbedded => link_not_embedded(alloc, settings, lowered),
     }
 }
 

@@ -121,7 +121,8 @@ pub fn fault_text(alloc: Global, fault: &Fault) -> Result<String, AllocError> {
         | Fault::NameClash { name }
         | Fault::ModuleClash { module: name }
         | Fault::ExportClash { name }
-        | Fault::FixedExport { name } => {
+        | Fault::FixedExport { name }
+        | Fault::LinkNotEmbedded { path: name } => {
             let name = name.as_str();
             format!(in alloc; "{variant} {name}")
         }

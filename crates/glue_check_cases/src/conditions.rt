@@ -3,8 +3,8 @@ use crate::checking::{Case, Group, Place, assert_cases, assert_groups, fault_tol
 use crate::compare::assert_told;
 use crate::described::{Edit, edited_lowered};
 use crate::edits::{
-    ADD_IMPORT, ADDING, CALLING_NOTHING, LOGGING, NO_CODE, NO_PAIR, PACKAGE, PROTO_NAME, SAME_PAIR,
-    SECOND_ADD, SECOND_LAST, SECOND_PAIR, SUB, SUM, UNSUPPORTED,
+    ADD_IMPORT, ADDING, BARE_LINK, CALL_MORE, CALLING_NOTHING, LOGGING, NO_CODE, NO_PAIR, PACKAGE,
+    PROTO_NAME, SAME_PAIR, SECOND_ADD, SECOND_LAST, SECOND_PAIR, SUB, SUM, UNSUPPORTED,
 };
 use crate::modules::{
     ADD, EXPORTED_TWICE, IMPORTED_TWICE, TWO_IMPORTS, WITH_EXTERN, WITH_FUNC, WITH_MANY_EXPORTS,
@@ -194,9 +194,26 @@ const TABLE_HELPER: Edit = ("console", "addToExternrefTable0");
 /// An adapter that isn't there stands for the import.
 const ABSENT_PAIR: Edit = (r#""implements":[[0,1]]"#, r#""implements":[[0,9]]"#);
 
+/// A link with content, one whose content is empty, and three of which two have none.
+const FULL_LINK: Edit = (
+    r#""fields":["log"]}]}"#,
+    r#""fields":["log"]}]},{"adapter":9,"what":["LinkTo","a.js","x"]}"#,
+);
+
+const EMPTY_LINK: Edit = (
+    r#""fields":["log"]}]}"#,
+    r#""fields":["log"]}]},{"adapter":9,"what":["LinkTo","a.js",""]}"#,
+);
+
+const TWO_LINKS: Edit = (
+    r#""fields":["log"]}]}"#,
+    r#""fields":["log"]}]},{"adapter":9,"what":["LinkTo","c.js","x"]},{"adapter":9,"what":["LinkTo","b.js",null]},{"adapter":9,"what":["LinkTo","a.js",null]}"#,
+);
+
 /// The adapter stands for two imports.
 const SAME_ADAPTER: Edit = (r#""implements":[[0,1]]"#, r#""implements":[[0,1],[1,1]]"#);
 
+/// Conditions on the module, on adapters, and on what they stand for.
 const CASES: &[Case] = &[
     (WITH_SHARED, &[], "Threads"),
     (WITH_MEMORY, &[], ""),
@@ -243,7 +260,10 @@ const CASES: &[Case] = &[
     (TWO_IMPORTS, &[LOGGING, SECOND_PAIR], ""),
     (TWO_IMPORTS, &[], "UnboundImport 1"),
     (ADD, &[NO_PAIR, NO_CODE], "UnboundImport 0"),
-    // Names.
+];
+
+/// Conditions on names.
+const NAMES: &[Case] = &[
     (ADD, &[PROTO_NAME], "BadName __proto__"),
     (ADD, &[("console", "")], "BadName "),
     (ADD, &[("console", "1x")], "BadName 1x"),
@@ -272,9 +292,27 @@ const CASES: &[Case] = &[
     (ADD, &[ADDING, SECOND_ADD], "ExportClash add"),
 ];
 
+/// Links: with and without content, and two without.
+const LINKS: &[Case] = &[
+    (ADD, &[CALL_MORE, FULL_LINK], ""),
+    (ADD, &[CALL_MORE, EMPTY_LINK], ""),
+    (ADD, &[CALL_MORE, BARE_LINK], "LinkNotEmbedded a.js"),
+    (ADD, &[CALL_MORE, TWO_LINKS], "LinkNotEmbedded b.js"),
+];
+
 #[test]
-fn each_condition_has_its_fault(rt: HostRuntime) -> Result<(), AllocError> {
+fn each_condition_on_adapters_has_its_fault(rt: HostRuntime) -> Result<(), AllocError> {
     assert_cases(&rt, rt.alloc(), CASES)
+}
+
+#[test]
+fn each_condition_on_names_has_its_fault(rt: HostRuntime) -> Result<(), AllocError> {
+    assert_cases(&rt, rt.alloc(), NAMES)
+}
+
+#[test]
+fn links_without_content_are_named(rt: HostRuntime) -> Result<(), AllocError> {
+    assert_cases(&rt, rt.alloc(), LINKS)
 }
 
 /// Adapter 4 stands for import 1, which no description of `ADD` can say: the module has one import.

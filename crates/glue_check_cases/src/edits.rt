@@ -45,6 +45,20 @@ pub const CALLING_NOTHING: Edit = (
 {"id":3,"code":[]}"#,
 );
 
+/// An import adapter more, which is called without arguments.
+pub const CALL_MORE: Edit = (
+    r#""import":"normal"}"#,
+    r#""import":"normal"},
+{"id":9,"import":"normal"}"#,
+);
+
+/// It is a link to a file without content.
+pub const BARE_LINK: Edit = (
+    r#""fields":["log"]}]}"#,
+    r#""fields":["log"]}]},
+{"adapter":9,"what":["LinkTo","a.js",null]}"#,
+);
+
 /// That one is published as `sub`.
 pub const SUB: Edit = (
     r#""args":["a","b"]}]"#,

@@ -3,13 +3,13 @@
 use crate::checking::{Asked, AskedCase, Case, assert_asked, assert_cases};
 use crate::described::Edit;
 use crate::edits::{
-    ADD_IMPORT, ADDING, CALLING_NOTHING, GLOBAL_WASM, HOST_NAME, LOGGING, NO_CODE, NO_PAIR,
-    ONE_NAME, PACKAGE, PROTO_NAME, SAME_PAIR, SECOND_ADD, SECOND_LAST, SECOND_PAIR, SUM, TRUTH,
-    UNSUPPORTED,
+    ADD_IMPORT, ADDING, BARE_LINK, CALL_MORE, CALLING_NOTHING, GLOBAL_WASM, HOST_NAME, LOGGING,
+    NO_CODE, NO_PAIR, ONE_NAME, PACKAGE, PROTO_NAME, SAME_PAIR, SECOND_ADD, SECOND_LAST,
+    SECOND_PAIR, SUM, TRUTH, UNSUPPORTED,
 };
 use crate::modules::{
-    ADD, BOTH_TWICE, CROSSED_EXPORTS, CROSSED_IMPORTS, EXPORTED_TWICE, TWO_IMPORTS, WITH_FOREIGN,
-    WITH_MANY_EXPORTS, WITH_PROTO, WITH_SHARED,
+    ADD, BOTH_TWICE, CROSSED_EXPORTS, CROSSED_IMPORTS, EXPORTED_TWICE, TWO_IMPORTS,
+    WITH_MANY_EXPORTS, WITH_MEMORY_IMPORT, WITH_PROTO, WITH_SHARED,
 };
 use std::alloc::AllocError;
 
@@ -24,8 +24,8 @@ const REINIT: Edit = (r#""version":1"#, r#""version":1,"uses_reinit":true"#);
 
 /// Two kinds of what isn't built, or two conditions, each next to the other in the order.
 const PAIRS: &[AskedCase] = &[
-    (&[Asked::Web], (WITH_FOREIGN, &[], "NotBuilt target")),
-    (&[], (WITH_FOREIGN, &[HOST_NAME], "NotBuilt imports")),
+    (&[Asked::Web], (WITH_MEMORY_IMPORT, &[], "NotBuilt target")),
+    (&[], (WITH_MEMORY_IMPORT, &[HOST_NAME], "NotBuilt imports")),
     (&[], (ADD, &[HOST_NAME, TRUTH], "NotBuilt exports")),
     (&[], (ADD, &[TRUTH, CLASS], "NotBuilt instructions")),
     (&[Asked::Debug], (ADD, &[CLASS], "NotBuilt classes")),
@@ -53,10 +53,21 @@ const PAIRS: &[AskedCase] = &[
         &[],
         (EXPORTED_TWICE, &[ADDING, SECOND_ADD], "NameClash add"),
     ),
+    (
+        &[],
+        (
+            ADD,
+            &[ADDING, SECOND_ADD, CALL_MORE, BARE_LINK],
+            "ExportClash add",
+        ),
+    ),
     // The first and the last.
     (&[Asked::Web, Asked::Debug], (ADD, &[], "NotBuilt target")),
-    (&[], (ADD, &[SNIPPET, ADDING, SECOND_ADD], "NotBuilt files")),
-    (&[], (WITH_SHARED, &[ADDING, SECOND_ADD], "Threads")),
+    (
+        &[],
+        (ADD, &[SNIPPET, CALL_MORE, BARE_LINK], "NotBuilt files"),
+    ),
+    (&[], (WITH_SHARED, &[CALL_MORE, BARE_LINK], "Threads")),
 ];
 
 #[test]

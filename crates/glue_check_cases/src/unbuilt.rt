@@ -1,6 +1,13 @@
 //! What isn't built, each by the name of its kind, and next to it what is.
-use crate::checking::{Asked, AskedCase, Group, Place, assert_asked, assert_fault, assert_groups};
-use crate::modules::{ADD, WITH_FOREIGN, WITH_MEMORY, WITH_MEMORY_IMPORT, WITH_PARTS};
+use crate::checking::{
+    Asked, AskedCase, Case, Group, Place, assert_asked, assert_cases, assert_fault, assert_groups,
+};
+use crate::described::Edit;
+use crate::edits::{BARE_LINK, CALL_MORE, NO_CODE, NO_PAIR};
+use crate::modules::{
+    ADD, FOREIGN_MEMORY, FOREIGN_TABLE, FOREIGN_TAG, FROM_STRINGS, WITH_FOREIGN, WITH_MEMORY,
+    WITH_MEMORY_IMPORT, WITH_PARTS, WITH_TABLE_IMPORT, WITH_TAG_IMPORT,
+};
 use glue_inputs::with_custom;
 use std::alloc::{AllocError, Global};
 
@@ -233,7 +240,12 @@ const GROUPS: &[Group] = &[
             r#"["StructuralClassSetter",{"global":"g"},"x"]"#,
             r#"["IndexingGetterOfClass",{"global":"g"}]"#,
             r#"["IndexingDeleterOfClass",{"global":"g"}]"#,
+            r#"["Instanceof",{"global":"g","fields":["a","b"]}]"#,
+            r#"["Cast","c"]"#,
             r#"["Intrinsic","Neg"]"#,
+            r#"["Intrinsic","IsObject"]"#,
+            r#"["Intrinsic","NumberGet"]"#,
+            r#"["Intrinsic","TryIntoNumber"]"#,
             r#"["Intrinsic","Throw"]"#,
         ],
     ),
@@ -244,7 +256,12 @@ const GROUPS: &[Group] = &[
         "BadAdapter 2",
         &[
             r#"["Static",{"global":"g"},false]"#,
+            r#"["Static",{"global":"g"},true]"#,
             r#"["String","s"]"#,
+            r#"["LinkTo","a.js","x"]"#,
+            // The number of arguments comes first.
+            r#"["LinkTo","a.js",null]"#,
+            r#"["Intrinsic","CheckedDiv"]"#,
             r#"["StructuralSetter","x"]"#,
             r#"["StructuralClassGetter",{"global":"g"},"x"]"#,
             r#"["IndexingSetterOfClass",{"global":"g"}]"#,
@@ -267,23 +284,18 @@ const GROUPS: &[Group] = &[
         DESCRIBED,
         "NotBuilt imports",
         &[
-            r#"["Bare",{"module":"m","name":"g"}]"#,
-            r#"["Bare",{"local":"a.js","name":"g"}]"#,
-            r#"["Bare",{"inline":"c","index":0,"name":"g"}]"#,
+            r#"["Bare",{"module":"m","name":"g","fields":["x"]}]"#,
             r#"["Bare",{"vendor":"g","prefixes":["webkit"]}]"#,
             r#"["Getter",{"global":"g"},"x"]"#,
             r#"["ClassGetter",{"global":"g"},"x"]"#,
             r#"["Setter",{"global":"g"},"x"]"#,
             r#"["ClassSetter",{"global":"g"},"x"]"#,
             r#"["ValueWithThis",{"module":"m","name":"g"},"x"]"#,
-            r#"["Instanceof",{"global":"g"}]"#,
-            r#"["Static",{"global":"g"},true]"#,
-            r#"["Cast","c"]"#,
+            r#"["Instanceof",{"module":"m","name":"g"}]"#,
+            r#"["Static",{"vendor":"g","prefixes":["webkit"]},true]"#,
             r#"["WrapInExportedClass","C"]"#,
             r#"["UnwrapExportedClass","C"]"#,
-            r#"["LinkTo","a.js","x"]"#,
             r#"["Intrinsic","DebugString"]"#,
-            r#"["Intrinsic","IsObject"]"#,
             r#"["Intrinsic","Memory"]"#,
             r#"["Intrinsic","Module"]"#,
         ],
@@ -318,18 +330,86 @@ const ASKED: &[AskedCase] = &[
     (&[Asked::Emscripten], (ADD, &[], "NotBuilt target")),
     (&[Asked::NoImports], (ADD, &[], "NotBuilt imports")),
     (&[Asked::SplitModules], (ADD, &[], "NotBuilt imports")),
+    (
+        &[Asked::SplitModules],
+        (ADD, &[CALL_MORE, BARE_LINK], "NotBuilt imports"),
+    ),
     (&[Asked::Debug], (ADD, &[], "NotBuilt settings")),
     (&[Asked::Typescript], (ADD, &[], "NotBuilt settings")),
     (&[Asked::ExportWasm], (ADD, &[], "NotBuilt settings")),
     (&[Asked::SplitDebugInfo], (ADD, &[], "NotBuilt files")),
-    // Imports of the module.
-    (&[], (WITH_FOREIGN, &[], "NotBuilt imports")),
+    // Imports of the module: those of other modules are handed on, whatever they bring in, but for memories and tags.
+    (&[], (WITH_FOREIGN, &[], "")),
+    (&[], (WITH_FOREIGN, &[NO_PAIR, NO_CODE], "")),
+    (&[], (FOREIGN_TABLE, &[], "")),
+    (&[], (FOREIGN_MEMORY, &[], "NotBuilt imports")),
+    (&[], (FOREIGN_TAG, &[], "NotBuilt lifecycle")),
     (&[], (WITH_MEMORY_IMPORT, &[], "NotBuilt imports")),
+    (&[], (WITH_TABLE_IMPORT, &[], "NotBuilt imports")),
+    (&[], (WITH_TAG_IMPORT, &[], "NotBuilt imports")),
+    (&[], (FROM_STRINGS, &[NO_PAIR, NO_CODE], "NotBuilt imports")),
+    (&[], (FROM_STRINGS, &[], "NotBuilt imports")),
 ];
 
 #[test]
 fn what_is_asked_for_beside_it_is_built_or_named(rt: HostRuntime) -> Result<(), AllocError> {
     assert_asked(&rt, rt.alloc(), ASKED)
+}
+
+const MODULE_LOG: Edit = (
+    r#"{"global":"console","fields":["log"]}"#,
+    r#"{"module":"m","name":"log"}"#,
+);
+
+const LOCAL_LOG: Edit = (
+    r#"{"global":"console","fields":["log"]}"#,
+    r#"{"local":"a.js","name":"log"}"#,
+);
+
+const INLINE_LOG: Edit = (
+    r#"{"global":"console","fields":["log"]}"#,
+    r#"{"inline":"c","index":0,"name":"log"}"#,
+);
+
+const GLUE_LOG: Edit = (
+    r#"{"global":"console","fields":["log"]}"#,
+    r#"{"module":"./out_bg.js","name":"log"}"#,
+);
+
+/// The adapter of the import changes the value.
+const UNSIGNED_LOG: Edit = (
+    r#"["WasmToInt32",false],["CallAdapter",2]"#,
+    r#"["WasmToInt32",true],["CallAdapter",2]"#,
+);
+
+/// It calls another import.
+const CALLING_MORE: Edit = (r#"["CallAdapter",2]"#, r#"["CallAdapter",3]"#);
+
+const MORE_LOG: Edit = (
+    r#""what":["Bare",{"global":"console","fields":["log"]}]}"#,
+    r#""what":["Bare",{"module":"m","name":"log"}]},{"adapter":3,"what":["Bare",{"global":"g"}]}"#,
+);
+
+const MORE_ADAPTERS: Edit = (
+    r#"{"id":2,"args":["s32"],"import":"normal"}"#,
+    r#"{"id":2,"args":["s32"],"import":"normal"},{"id":3,"args":["s32"],"import":"normal"}"#,
+);
+
+/// Names of modules: the import itself, behind an adapter that changes the value, called by none, and of a module that clashes.
+const HANDED: &[Case] = &[
+    (ADD, &[MODULE_LOG], ""),
+    (ADD, &[LOCAL_LOG], ""),
+    (ADD, &[INLINE_LOG], ""),
+    (ADD, &[MODULE_LOG, UNSIGNED_LOG], "NotBuilt imports"),
+    (ADD, &[CALLING_MORE, MORE_LOG, MORE_ADAPTERS], ""),
+    (ADD, &[GLUE_LOG], "ModuleClash ./out_bg.js"),
+];
+
+#[test]
+fn a_name_of_a_module_is_built_where_it_is_the_import_itself(
+    rt: HostRuntime,
+) -> Result<(), AllocError> {
+    assert_cases(&rt, rt.alloc(), HANDED)
 }
 
 /// `ADD` with this name for the function at a place. A name of more than 100 bytes is left out.

@@ -1,5 +1,5 @@
 -- The names that the proofs of this crate cite, passed on from one place. Declares nothing.
-pub use Rattle.std.proofs.Common.{All, Bool, Bor, IsPermutation, List, None, Option, Ordering, Some, [], ap, append-nil, arith, bytes_eq, codes, false, filter_map, flat_map, fold, inl, inr, is_some, map, option_map, refl, rules, subst, suc, sym, take, true, true≢false, zero, ℕ, ◌++◌, ◌+◌, ◌-◌, ◌<◌, ◌==◌, ◌∙◌, ◌∷◌, ◌≡◌}
+pub use Rattle.std.proofs.Common.{All, Bool, Bor, IsPermutation, List, None, Option, Ordering, Some, [], ap, append-nil, arith, bytes_eq, codes, false, filter_map, flat_map, fold, inl, inr, is_some, length, map, option_map, refl, rules, subst, suc, sym, take, true, true≢false, zero, ℕ, ◌++◌, ◌+◌, ◌-◌, ◌<◌, ◌==◌, ◌∙◌, ◌∷◌, ◌≡◌}
 pub use Rattle.std.proofs.lemmas.Grind.{common_steps, flat_map-append}
 pub use Rattle.std.proofs.lemmas.List.Concat.{flat_map_single}
 pub use Rattle.std.proofs.lemmas.List.Elements.{All-head, All-nil, All-tail, filter_map-append}
@@ -12,15 +12,16 @@ pub use Rattle.glue_check.specs.Unbuilt.{global_of}
 unfoldable pub use Rattle.glue_check.specs.Verdict.{unbuilt, verdict}
 pub use Rattle.glue_check.specs.declared.files.FileFlags.{FileFlags}
 pub use Rattle.glue_check.proofs.BuiltForm.{IsBuiltExport}
-pub use Rattle.glue_check.proofs.Steps.{HasSteps, AreDescribed, IsThere, some_of}
+pub use Rattle.glue_check.proofs.Steps.{HasSteps, IsDescribed, IsThere, some_of}
 pub use Rattle.glue_steps.specs.Exported.{export_name, export_names}
 pub use Rattle.glue_context.specs.Defined.{IsDefined, defined_by, defined_places}
 pub use Rattle.glue_context.specs.Edits.{AreFit, with_added, with_moved}
-pub use Rattle.glue_context.specs.Items.{IsArranged, IsDeclareItem, IsDefineItem, IsFunctionOf, IsGlue, all_items, declaration_back, declaration_front, default_names, definition_back, definition_front, export_order, is_bindable, is_definable, pair_name, pair_order}
+pub use Rattle.glue_context.specs.Foreign.{foreign_lines, foreign_modules, module_at, modules_from}
+pub use Rattle.glue_context.specs.Items.{IsArranged, IsDeclareItem, IsDefineItem, IsFunctionOf, IsGlue, all_items, front_items, declaration_back, declaration_front, default_names, definition_back, definition_front, export_order, is_bindable, is_definable}
 pub use Rattle.glue_context.specs.Linked.{IsLinked, IsPrescribed}
 pub use Rattle.glue_context.specs.Rewritten.{edits_of, move_of, rewritten}
-pub use Rattle.glue_shared.specs.Names.{described_hosts, fixed_public, global_names, helper_names, import_names, is_one_of, js_import, live_count, names_of}
-unfoldable pub use Rattle.glue_shared.specs.Names.{fixed_names, host_names, own_imports}
+pub use Rattle.glue_shared.specs.Names.{described_hosts, fixed_public, global_names, import_names, is_one_of, js_import, live_count, names_of}
+unfoldable pub use Rattle.glue_shared.specs.Names.{fixed_names, helper_names, host_names, own_imports}
 pub use Rattle.glue_shared.specs.declared.aux.AuxExport.{AuxExport}
 pub use Rattle.glue_shared.specs.declared.description.Lowered.{Lowered}
 pub use Rattle.glue_shared.specs.declared.import.AuxImport.{AuxImport}

@@ -1,12 +1,24 @@
 -- The module that is written: what is changed names its entries, its exports stay and a start function is one more, and an import
 -- that moves keeps its name.
-use Rattle.glue_context.proofs.Common.{◌≡◌, ℕ, List, [], ◌∷◌, ◌++◌, Bool, true, false, refl, sym, ap, ◌∙◌, fold, All, Option, Some, None, is_some, option_map, filter_map, filter_map-append, append-nil, All-nil, All-head, All-tail, export_name, arith, common_steps, Contents, Import, ImportId, Settings, Lowered, own_imports, entry_at, export_names, with_moved, AreFit, move_of, edits_of, rewritten, with_import, some_of}
+use Rattle.glue_context.proofs.Common.{◌≡◌, ℕ, List, [], ◌∷◌, ◌++◌, map, Bool, true, false, true≢false, refl, sym, ap, ◌∙◌, fold, flat_map, All, Option, Some, None, is_some, option_map, filter_map, filter_map-append, append-nil, All-nil, All-head, All-tail, export_name, arith, common_steps, Contents, Import, ImportId, Settings, Lowered, own_imports, entry_at, export_names, with_moved, AreFit, move_of, edits_of, rewritten, with_import, some_of}
+use Rattle.std.specs.Prelude.{◌≢◌, cond, slice_get, option_and_then}
+use Rattle.std.specs.List.{cons_option}
+use Rattle.std.proofs.lemmas.List.Elements.{All-append, All-cons, All-weaker}
+use Rattle.std.proofs.lemmas.List.Sums.{fold-append}
 use Rattle.std.proofs.lemmas.Option.{same_Some, slice_get_cases}
-use Rattle.wasm_core.specs.Edits.{with_export, without_start}
+use Rattle.wasm_core.specs.Contents.{IsLive}
+use Rattle.wasm_core.specs.Edits.{with_export, without_start, IsLiveItem}
 use Rattle.wasm_core.specs.entries.ExportItem.TheVariants.{Func}
+use Rattle.glue_shared.specs.declared.import.JsImportName.{JsImportName}
+use Rattle.glue_shared.specs.Names.{has_number}
+use Rattle.glue_steps.specs.Resolving.{live}
+use Rattle.glue_lines.specs.Grouped.{source_of}
+use Rattle.glue_naming.specs.Imported.{called_names}
+use Rattle.glue_naming.specs.Handed.{handed_pair, handed_imports}
 use Rattle.glue_targets.proofs.FixedTexts.{call_takes}
 use Rattle.glue_context.specs.declared.edits.TheConstants.{START}
 use Rattle.glue_context.specs.Edits.{has_start, HasStart, with_start_moved}
+use Rattle.glue_context.specs.Rewritten.{handed_move}
 
 -- what no change of a list takes away, all of them leave
 fold_keeps : {A : Type 0} (P : Contents → Type 0) (Q : A → Type 0) (f : Contents → A → Contents)
@@ -27,11 +39,75 @@ are_moves : (stem : List ℕ) (imports : List (Option Import)) (places : List �
 are_moves stem imports [] = All-nil (λ e. name_at imports e.0.0 ≡ Some e.2)
 are_moves stem imports (place ∷ places) = let rest = are_moves stem imports places in grind (arith, common_steps)
 
+-- ---- imports that become described names
+
+module _ (imports : List (Option Import)) where
+  -- such an import stands
+  handed_live : (handed : List (ImportId × JsImportName)) → All (λ e. IsLive imports e.0.0) (filter_map (handed_move imports) handed)
+  handed_live [] = All-nil (λ e. IsLive imports e.0.0)
+  handed_live (h ∷ hs) = by (slice_get imports h.0.0) refl (source_of h.1) (filter_map (handed_move imports) hs) (handed_live hs)
+    where
+      by : (o : Option (Option Import)) → slice_get imports h.0.0 ≡ o → (source : Option (List ℕ × List ℕ)) (rest : List (ImportId × List ℕ × List ℕ))
+          → All (λ e. IsLive imports e.0.0) rest
+          → All (λ e. IsLive imports e.0.0) (cons_option (option_and_then (λ (i : Import). option_map (λ (s : List ℕ × List ℕ). (h.0, s.0, s.1)) source) (live o)) rest)
+      by None q source rest r = r
+      by (Some None) q source rest r = r
+      by (Some (Some i)) q None rest r = r
+      by (Some (Some i)) q (Some s) rest r = All-cons (λ e. IsLive imports e.0.0) (h.0, s.0, s.1) rest (rw q tt) r
+
+  module _ (k : ℕ) where
+    -- an import is none at a place
+    abbrev IsOther : ImportId × JsImportName → Type 0
+    IsOther h = h.0.0 ≢ k
+
+    abbrev MovesOther : ImportId × List ℕ × List ℕ → Type 0
+    MovesOther e = e.0.0 ≢ k
+
+    handed_away : (handed : List (ImportId × JsImportName)) → All IsOther handed → All MovesOther (filter_map (handed_move imports) handed)
+    handed_away [] h = All-nil MovesOther
+    handed_away (h ∷ hs) a = by (entry_at imports h.0.0) (source_of h.1) (filter_map (handed_move imports) hs)
+        (handed_away hs (All-tail IsOther h hs a))
+      where
+        by : (o : Option Import) (source : Option (List ℕ × List ℕ)) (rest : List (ImportId × List ℕ × List ℕ)) → All MovesOther rest
+            → All MovesOther (cons_option (option_and_then (λ (i : Import). option_map (λ (s : List ℕ × List ℕ). (h.0, s.0, s.1)) source) o) rest)
+        by None source rest r = r
+        by (Some i) None rest r = r
+        by (Some i) (Some s) rest r = All-cons MovesOther (h.0, s.0, s.1) rest (All-head IsOther h hs a) r
+
+-- what adapters call of imports that the glue file doesn't define is away from one that it defines
+module _ (own : List ℕ) (l : Lowered) (k : ℕ) (mine : has_number k own ≡ true) where
+  abbrev NotMine : ImportId × JsImportName → Type 0
+  NotMine h = h.0.0 ≢ k
+
+  names_away : (pair : ImportId × ℕ) (names : List JsImportName) → pair.0.0 ≢ k → All NotMine (map (λ (n : JsImportName). (pair.0, n)) names)
+  names_away pair [] other = All-nil NotMine
+  names_away pair (n ∷ names) other =
+      All-cons NotMine (pair.0, n) (map (λ (n : JsImportName). (pair.0, n)) names) other (names_away pair names other)
+
+  pair_away : (pair : ImportId × ℕ) → All NotMine (handed_pair own l pair)
+  pair_away pair = by (has_number pair.0.0 own) refl
+    where
+      by : (b : Bool) → has_number pair.0.0 own ≡ b → All NotMine (cond b [] (map (λ (n : JsImportName). (pair.0, n)) (called_names l pair.1)))
+      by true q = All-nil NotMine
+      by false q = names_away pair (called_names l pair.1) (λ same. true≢false (sym mine ∙ ap (λ (n : ℕ). has_number n own) (sym same) ∙ q))
+
+  pairs_away : (pairs : List (ImportId × ℕ)) → All NotMine (flat_map (handed_pair own l) pairs)
+  pairs_away [] = All-nil NotMine
+  pairs_away (pair ∷ pairs) = All-append NotMine (handed_pair own l pair) (flat_map (handed_pair own l) pairs) (pair_away pair) (pairs_away pairs)
+
 -- what is changed names entries
 pub edits_fit : (s : Settings) (l : Lowered) → AreFit (edits_of s l) l.«module»
 edits_fit s l =
-    let moves = are_moves s.stem l.«module».imports (own_imports s l.«module» l.wit l.aux) in
-    let start : HasStart (has_start l.«module») l.«module» = grind arith in grind (arith, start)
+    let imports = l.«module».imports in
+    let own = filter_map (move_of s.stem imports) (own_imports s l.«module» l.wit l.aux) in
+    let moves = are_moves s.stem imports (own_imports s l.«module» l.wit l.aux) in
+    let live : All (λ e. IsLive imports e.0.0) own = All-weaker (λ e. name_at imports e.0.0 ≡ Some e.2) (λ e. IsLive imports e.0.0)
+    (λ e q. grind (arith, q)) own moves in
+    let start : HasStart (has_start l.«module») l.«module» = grind arith in record {
+      imports = All-append (λ e. IsLive imports e.0.0) own (filter_map (handed_move imports) (handed_imports s l)) live (handed_live imports (handed_imports s l));
+      exports = All-nil (λ e. IsLiveItem l.«module» e.1);
+      start = start;
+    }
 
 -- imports move, and nothing else changes
 moved_alone : (m : Contents) (moves : List (ImportId × List ℕ × List ℕ))
@@ -41,7 +117,7 @@ moved_alone m [] = (refl, refl, refl)
 moved_alone m (e ∷ moves) = moved_alone (with_moved m e) moves
 
 -- imports stay where a start function becomes an export
-start_imports : (b : Bool) (m : Contents) → m.imports ≡ (with_start_moved b m).imports
+pub start_imports : (b : Bool) (m : Contents) → m.imports ≡ (with_start_moved b m).imports
 unfolding with_export without_start
 start_imports b m = grind arith
 
@@ -65,11 +141,22 @@ module _ (s : Settings) (l : Lowered) where
       let alone = moved_alone l.«module» (edits_of s l).imports in
       let there = start_exports (has_start l.«module») moved (rw (alone.1, alone.2) refl) in rw alone.0 at there
 
-  -- an import keeps its name, whether it moves or not
-  pub moved_keeps : (k : ℕ) (i : Import) → entry_at l.«module».imports k ≡ Some i → (j : Import) × (entry_at (rewritten s l).imports k ≡ Some j) × (j.name ≡ i.name)
+  -- an import that the glue file defines keeps its name
+  pub moved_keeps : (k : ℕ) (i : Import) → has_number k (own_imports s l.«module» l.wit l.aux) ≡ true → entry_at l.«module».imports k ≡ Some i
+      → (j : Import) × (entry_at (rewritten s l).imports k ≡ Some j) × (j.name ≡ i.name)
   unfolding with_import
-  moved_keeps k i is = named (entry_at (rewritten s l).imports k) i.name (
+  moved_keeps k i mine is =
+      let imports = l.«module».imports in
+      let places = own_imports s l.«module» l.wit l.aux in
+      let own = filter_map (move_of s.stem imports) places in
+      let handed = filter_map (handed_move imports) (handed_imports s l) in
+      let first : name_at (fold with_moved l.«module» own).imports k ≡ Some i.name =
+      fold_keeps (λ n. name_at n.imports k ≡ Some i.name) (λ e. name_at imports e.0.0 ≡ Some e.2) with_moved
+      (λ n e q h. grind (arith, common_steps, slice_get_cases)) own l.«module» (are_moves s.stem imports places) (rw is refl) in
+      let both : name_at (fold with_moved (fold with_moved l.«module» own) handed).imports k ≡ Some i.name =
+      fold_keeps (λ n. name_at n.imports k ≡ Some i.name) (λ e. e.0.0 ≢ k) with_moved
+      (λ n e q h. grind (arith, common_steps, slice_get_cases)) handed (fold with_moved l.«module» own)
+      (handed_away imports k (handed_imports s l) (pairs_away places l k mine l.wit.implements)) first in
+      named (entry_at (rewritten s l).imports k) i.name (
       ap (λ (is : List (Option Import)). name_at is k) (sym (start_imports (has_start l.«module») moved))
-      ∙ fold_keeps (λ n. name_at n.imports k ≡ Some i.name) (λ e. name_at l.«module».imports e.0.0 ≡ Some e.2) with_moved
-      (λ n e q h. grind (arith, common_steps, slice_get_cases)) (edits_of s l).imports l.«module»
-      (are_moves s.stem l.«module».imports (own_imports s l.«module» l.wit l.aux)) (rw is refl))
+      ∙ ap (λ (m : Contents). name_at m.imports k) (fold-append with_moved l.«module» own handed) ∙ both)

@@ -1,7 +1,9 @@
 -- What is known of a description whose items are made, however it was checked, and that the check gives it.
-use Rattle.glue_context.proofs.Common.{◌≡◌, true, arith, list_all, is_bindable, is_definable, ℕ, List, [], map, false, None, Some, IsIn, IsAway, AreDistinct, ImportId, AuxExport, AuxImport, Settings, Deno, Lowered, fixed_names, own_imports, IsBuiltExport, HasSteps, global_of, FileFlags, unbuilt, verdict}
+use Rattle.glue_context.proofs.Common.{◌≡◌, true, arith, list_all, is_bindable, is_definable, ℕ, List, [], map, false, None, IsIn, AreDistinct, ImportId, AuxExport, AuxImport, Settings, Deno, Lowered, fixed_names, own_imports, IsBuiltExport, HasSteps, FileFlags, unbuilt, verdict}
 use Rattle.glue_check.proofs.{BuiltForm.target_built, BuiltForm.settings_built, BuiltForm.imports_built, BuiltForm.exports_built, BuiltForm.only_functions}
-use Rattle.glue_check.proofs.{ExportNames.distinct_functions, ExportNames.names_of, OwnPairs.own_pairs, Passed.global_apart, Passed.pairs_fit, Steps.export_steps, Steps.pair_steps, Globals.NamesAway, Globals.named_away}
+use Rattle.glue_check.proofs.{ExportNames.distinct_functions, ExportNames.names_of, OwnPairs.are_own_pairs, OwnPairs.kept_pair, Passed.global_apart, Passed.pairs_fit, Steps.export_steps, Steps.pair_steps, Globals.NamesAway, Embedded.names_away}
+use Rattle.glue_naming.specs.Pairs.{is_among, own_pairs}
+use Rattle.glue_shared.specs.Names.{has_number}
 use Rattle.glue_context.proofs.Lists.{all_by}
 
 -- the places of imports that adapters implement
@@ -13,27 +15,32 @@ pub record Facts (s : Settings) (l : Lowered) : Type 0 where
   pub kept : s.omit_imports ≡ false
   pub no_reset : s.reset_state ≡ false
   pub plain_files : (s.debug ≡ false) × (s.export_wasm ≡ false)
-  -- no two exports have one name, and no two pairs one import
+  -- no two exports have one name, and no two pairs of own imports one import
   pub names : AreDistinct (names_of l.aux.exports)
-  pub places : AreDistinct (places_of l.wit.implements)
-  -- the imports of pairs are the own ones
-  pub paired : (place : ℕ) → IsIn place (own_imports s l.«module» l.wit l.aux) → IsIn place (places_of l.wit.implements)
-  pub own : (place : ℕ) → IsIn place (places_of l.wit.implements) → IsIn place (own_imports s l.«module» l.wit l.aux)
-  -- nothing but functions is published, and values of globals alone are imported, which the file doesn't bind itself
+  pub places : AreDistinct (places_of (own_pairs s l))
+  -- the imports of such pairs are the own ones
+  pub paired : (place : ℕ) → IsIn place (own_imports s l.«module» l.wit l.aux) → IsIn place (places_of (own_pairs s l))
+  pub own : (place : ℕ) → IsIn place (places_of (own_pairs s l)) → IsIn place (own_imports s l.«module» l.wit l.aux)
+  -- nothing but functions is published, and values of globals, which the file doesn't bind itself, and of modules alone are imported
   pub structs : l.aux.structs ≡ []
   pub enums : l.aux.enums ≡ []
   pub reexports : l.aux.reexports ≡ []
   pub globals : (e : ℕ × AuxImport) → IsIn e l.aux.imports → NamesAway (fixed_names s l.«module») e.1
-  -- each export is a function that may be declared, and its adapter and that of each pair has steps
+  -- each export is a function that may be declared, and its adapter and that of each own import has steps
   pub exports : (e : AuxExport) → IsIn e l.aux.exports → IsBuiltExport s l e
   pub export_steps : (e : AuxExport) → IsIn e l.aux.exports → HasSteps s l e.adapter
-  pub pair_steps : (pair : ImportId × ℕ) → IsIn pair l.wit.implements → HasSteps s l pair.1
+  pub pair_steps : (pair : ImportId × ℕ) → IsIn pair (own_pairs s l) → HasSteps s l pair.1
+
+-- a pair of an own import is described, and its import is an own one
+pub own_pair : (s : Settings) (l : Lowered) (pair : ImportId × ℕ) → IsIn pair (own_pairs s l)
+    → IsIn pair l.wit.implements × (has_number pair.0.0 (own_imports s l.«module» l.wit l.aux) ≡ true)
+own_pair s l pair k = kept_pair (is_among (own_imports s l.«module» l.wit l.aux)) l.wit.implements pair k
 
 pub built : (f : FileFlags) (s : Settings) (l : Lowered) → unbuilt f s l ≡ None → verdict s l ≡ None → Facts s l
 built f s l whole passed =
     let asked = settings_built f s l whole in
     let only = only_functions f s l whole in
-    let own = own_pairs f s l whole passed in
+    let own = are_own_pairs f s l whole passed in
     let imports = imports_built f s l whole in record {
       deno = target_built f s l whole;
       kept = imports.kept;
@@ -46,10 +53,10 @@ built f s l whole passed =
       structs = only.structs;
       enums = only.enums;
       reexports = only.reexports;
-      globals = λ e k. named_away (fixed_names s l.«module») e.1 (imports.expressions e k) (global_apart s l passed e k);
+      globals = λ e k. names_away s l imports passed (fixed_names s l.«module») e k (global_apart s l passed e k);
       exports = exports_built f s l whole;
       export_steps = export_steps f s l whole passed;
-      pair_steps = pair_steps f s l whole passed;
+      pair_steps = λ pair k. let h = own_pair s l pair k in pair_steps f s l whole passed pair h.0 h.1;
     }
 
 module _ (f : FileFlags) (s : Settings) (l : Lowered) (whole : unbuilt f s l ≡ None) (passed : verdict s l ≡ None) where
@@ -58,6 +65,7 @@ module _ (f : FileFlags) (s : Settings) (l : Lowered) (whole : unbuilt f s l ≡
   bindable_built = all_by (is_bindable l) l.aux.exports (λ e k. let h = export_steps f s l whole passed e k in grind arith)
 
   -- and an import that is defined stands
-  pub definable_built : list_all (is_definable l) l.wit.implements ≡ true
-  definable_built = all_by (is_definable l) l.wit.implements (λ pair k.
-      let stands = (pairs_fit s l passed pair k).stands in let h = pair_steps f s l whole passed pair k in grind arith)
+  pub definable_built : list_all (is_definable l) (own_pairs s l) ≡ true
+  definable_built = all_by (is_definable l) (own_pairs s l) (λ pair k.
+      let own = own_pair s l pair k in
+      let stands = (pairs_fit s l passed pair own.0).stands in let h = pair_steps f s l whole passed pair own.0 own.1 in grind arith)

@@ -1,6 +1,6 @@
 -- What the check of a description gives of its exports and imports: their items belong into the file, and what they declare and publish.
-use Rattle.glue_context.proofs.Common.{◌≡◌, ℕ, List, [], ◌∷◌, ◌++◌, Bool, true, false, refl, ◌∙◌, subst, arith, rules, AllByRecursion, codes, list_all, list_any, filter_map-append, AreAmong, IsIn, in_left, ImportId, Item, bound_name, bound_in, used_in, hosted_in, wasm_in, spliced_in, is_export_key, Context, Belongs, IsFrame, is_exported, published_by, Step, AuxExport, AuxImport, Settings, Lowered, host_names, export_names, IsDeclareItem, IsDefineItem, IsFunctionOf, declaration_front, declaration_back, definition_front, definition_back, IsBuiltExport, IsThere, AreDescribed, HasSteps, HOSTS, map}
-use Rattle.std.proofs.Common.{append_assoc, ap}
+use Rattle.glue_context.proofs.Common.{◌≡◌, ℕ, List, [], ◌∷◌, ◌++◌, Bool, true, false, refl, ◌∙◌, subst, arith, rules, AllByRecursion, codes, list_all, list_any, filter_map-append, AreAmong, IsIn, in_left, ImportId, Item, bound_name, bound_in, used_in, hosted_in, wasm_in, spliced_in, is_export_key, Context, Belongs, IsFrame, is_exported, published_by, Step, AuxExport, AuxImport, Settings, Lowered, host_names, export_names, IsDeclareItem, IsDefineItem, IsFunctionOf, declaration_front, declaration_back, definition_front, definition_back, IsBuiltExport, IsThere, IsDescribed, HasSteps, HOSTS, map}
+use Rattle.std.proofs.Common.{append_assoc, ap, sym}
 use Rattle.std.specs.Prelude.{filter}
 use Rattle.std.proofs.lemmas.{List.Folds.list_any-append, List.Folds.list_all-append}
 use Rattle.glue_words.specs.declared.item.Thing.TheVariants as thing
@@ -11,16 +11,17 @@ use Rattle.glue_words.specs.Tables.{punct_text}
 use Rattle.glue_words.proofs.Among.{apart_none, among_both, among_by, among_left}
 use Rattle.glue_tree.proofs.Fit.{is_inner}
 use Rattle.glue_targets.proofs.FixedTexts.{call_takes}
-use Rattle.glue_binding.specs.Spelling.{path_words}
-use Rattle.glue_binding.proofs.Fits.{step_fit}
+use Rattle.glue_binding.specs.Spelling.{path_words, chained_words}
+use Rattle.glue_binding.proofs.Standing.{step_fit}
 use Rattle.glue_binding.proofs.Outside.{outside_words, outside_of}
 use Rattle.glue_steps.specs.declared.step.Step.TheVariants.{CallImport}
-use Rattle.glue_binding.proofs.Parts.{outer_parts, property_tells, parts_declare}
-use Rattle.glue_binding.proofs.Paths.{TellsKeys, path_tells}
+use Rattle.glue_binding.proofs.Parts.{outer_parts, outer_expression, expression_none, parts_declare}
+use Rattle.glue_binding.proofs.Paths.{TellsKeys, path_tells, property_tells, chained_tells}
 use Rattle.glue_scope.specs.Properties.{property_parts}
 use Rattle.glue_imports.specs.declared.part.Part.{Part}
 use Rattle.glue_imports.specs.declared.part.Part.TheVariants as part
-use Rattle.glue_context.proofs.Expressions.{HasPart, expression_fit, expression_has}
+use Rattle.glue_imports.specs.declared.part.Expression.{Expression}
+use Rattle.glue_context.proofs.Expressions.{HasPart, HasExpression, expression_fit, expression_has}
 use Rattle.glue_binding.proofs.Linked.{StandsBeside, bound_local, bound_resolved, bound_keyed, bound_alone, bound_exported, bound_inner, bound_binds}
 use Rattle.glue_check.proofs.Globals.{in_flat}
 use Rattle.glue_context.specs.Edits.{has_start}
@@ -30,7 +31,7 @@ use Rattle.glue_context.specs.Keys.{described_keys, import_properties, imported_
 
 -- no step declares a name of the file
 step_binds : (step : Step) → bound_in (outside_words step) ≡ []
-step_binds (CallImport adapter n has_result parts) = parts_declare parts
+step_binds (CallImport adapter n has_result e) = expression_none bound_name parts_declare e
 step_binds other = refl
 
 binds_none : (steps : List Step) → bound_in (outside_of steps) ≡ []
@@ -60,7 +61,17 @@ has_parts c (part.Exports ∷ parts) words k h = let rest = has_parts c parts wo
 has_parts c (part.Property name ∷ parts) words k h =
     rw (append_assoc (property_parts name) (outer_parts parts) words)
     (has_keys c (property_parts name) (outer_parts parts ++ words) (filter is_computed (name ∷ [])) (property_tells name) k.0 (has_parts c parts words k.1 h))
+has_parts c (part.Name name ∷ parts) words k h = let rest = has_parts c parts words k.1 h in ((k.0, rest.0), rest.1, rest.2, rest.3, rest.4)
+has_parts c (part.Chained name ∷ parts) words k h =
+    subst (HasNames c) (sym (append_assoc (chained_words name) (outer_parts parts) words))
+    (has_keys c (chained_words name) (outer_parts parts ++ words) (filter is_computed (name ∷ [])) (chained_tells name) k.0 (has_parts c parts words k.1 h))
 has_parts c (other ∷ parts) words k h = has_parts c parts words k.1 h
+
+-- and those that an expression with the statements before it uses
+has_expression_names : (c : Context) (e : Expression) (words : List Word) → HasExpression c e → HasNames c words → HasNames c (outer_expression e ++ words)
+has_expression_names c e words k h =
+    subst (HasNames c) (sym (append_assoc (outer_parts e.prelude) (outer_parts e.value) words))
+    (has_parts c e.prelude (outer_parts e.value ++ words) k.above (has_parts c e.value words k.value h))
 
 -- what passes a test among items passes it among more items
 passes_in : {A : Type 0} (test : A → Bool) (x : A) (ys : List A) → test x ≡ true → IsIn x ys → IsIn x (filter test ys)
@@ -90,10 +101,14 @@ module _ (s : Settings) (l : Lowered) where
       kept_in is_computed (import_properties e.1) (all ++ rest) (among_left (import_properties e.1) all rest named)
 
   -- names that expressions use beside those that are described
-  fixed_hosts : AreAmong (codes "undefined" ∷ codes "Error" ∷ codes "Uint8Array" ∷ []) (host_names s l.aux)
+  abbrev used_hosts : List (List ℕ)
+  used_hosts =
+      codes "undefined" ∷ codes "Error" ∷ codes "Uint8Array" ∷ codes "RangeError" ∷ codes "URL" ∷ codes "encodeURIComponent" ∷ codes "Blob" ∷ []
+
+  fixed_hosts : AreAmong used_hosts (host_names s l.aux)
   unfolding host_names
   fixed_hosts =
-      let used = codes "undefined" ∷ codes "Error" ∷ codes "Uint8Array" ∷ [] in
+      let used = used_hosts in
       let known : AreAmong used (map (λ w. w.now) HOSTS) = grind arith in
       among_left used (map (λ w. w.now) HOSTS) _ known
 
@@ -102,13 +117,17 @@ module _ (s : Settings) (l : Lowered) where
 
   -- where what each step names is there, a file that declares `wasm` has the names of the steps
   module _ (declared : List (List ℕ)) (wasm : IsIn (codes "wasm") declared) where
-    described_parts : (parts : List Part) → AreDescribed s l parts → AllByRecursion (HasPart (names_with declared)) parts
-    described_parts parts d = expression_has (names_with declared) d.call d.spread d.bound d.entry.1 parts (record {
+    described_text : (e : Expression) → IsDescribed s l e → HasExpression (names_with declared) e
+    described_text e d = expression_has (names_with declared) d.call d.spread d.bound d.entry.1 e (record {
       host = d.host;
       keys = keys_described d.entry d.among;
       undefined = fixed_hosts.0;
       error = fixed_hosts.1.0;
       array = fixed_hosts.1.1.0;
+      range_error = fixed_hosts.1.1.1.0;
+      url = fixed_hosts.1.1.1.1.0;
+      encoder = fixed_hosts.1.1.1.1.1.0;
+      blob = fixed_hosts.1.1.1.1.1.1.0;
       exports = wasm;
     }) d.is
 
@@ -116,7 +135,7 @@ module _ (s : Settings) (l : Lowered) where
     has_names [] h = (tt, tt, tt, tt, refl)
     has_names (step ∷ steps) h =
         let k = has_names steps h.1 in
-        let parts = λ (parts : List Part) (d : AreDescribed s l parts). has_parts (names_with declared) parts (outside_of steps) (described_parts parts d) k in
+        let text = λ (e : Expression) (d : IsDescribed s l e). has_expression_names (names_with declared) e (outside_of steps) (described_text e d) k in
         grind (arith, in_left)
 
   -- and their texts are spaced
@@ -124,7 +143,7 @@ module _ (s : Settings) (l : Lowered) where
   are_fit [] h = refl
   are_fit (step ∷ steps) h =
       let rest = are_fit steps h.1 in
-      let fit = λ (parts : List Part) (d : AreDescribed s l parts). expression_fit d.call d.spread d.bound d.entry.1 parts d.ident d.is in
+      let fit = λ (e : Expression) (d : IsDescribed s l e). expression_fit d.call d.spread d.bound d.entry.1 e d.ident d.is in
       grind arith
 
 -- ---- the item of a function, with words before and behind it
@@ -155,7 +174,7 @@ module _ (s : Settings) {l : Lowered} {id : ℕ} {names : List (List ℕ)} {f : 
         let fit = are_fit s l d.steps (there h) in
         rw d.bound.words (record {
           resolved = bound_resolved d.steps _ f d.bound front back c.hosts c.declared (search h') (search i) (search k);
-          local = bound_local d.steps _ f d.bound front back m n;
+          local = bound_local d.steps _ f d.bound front back fit m n;
           exported = bound_exported d.steps _ f d.bound front back fit frame c.exports h'.2 i.2 k.2;
           described = bound_keyed d.steps _ f d.bound front back c.keys (search h') (search i) (search k);
           alone = bound_alone d.steps _ f d.bound front back fit frame;

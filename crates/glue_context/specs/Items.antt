@@ -1,8 +1,9 @@
--- The items of the glue file: what the description declares, the frame with the definitions of imports, and loading.
-use Rattle.std.specs.Prelude.{◌≡◌, ℕ, zero, suc, ◌+◌, Bool, ◌&&◌, is_some, List, [], ◌∷◌, ◌++◌, length, codes, Option, Some, None}
+-- The items of the glue file: lines of foreign modules, what the description declares, the frame with the definitions of imports, helpers,
+-- and loading.
+use Rattle.std.specs.Prelude.{◌≡◌, ℕ, zero, suc, ◌+◌, ◌<◌, ◌^◌, Bool, ◌&&◌, is_some, List, [], ◌∷◌, ◌++◌, length, codes, Option, Some, None}
 use Rattle.std.specs.List.{AllZip, flat_map}
 use Rattle.std.specs.Fmt.{decimal}
-use Rattle.std.specs.Ordering.{nat_cmp, ordering_then}
+use Rattle.std.specs.Ordering.{nat_cmp}
 use Rattle.std.specs.declared.cmp.Ordering.{Ordering}
 use Rattle.values.specs.Map.{look_up}
 use Rattle.wasm_core.specs.ids.ImportId.{ImportId}
@@ -25,7 +26,11 @@ use Rattle.glue_words.specs.declared.punct.TheConstants as punct
 use Rattle.glue_words.specs.declared.key.TheConstants as key
 use Rattle.glue_targets.specs.Targets.{frame_start, frame_end, loading_item}
 pub use Rattle.glue_naming.specs.Arranged.{IsArranged, text_order}
+use Rattle.glue_naming.specs.Pairs.{own_pairs, pair_order}
+use Rattle.helper_table.specs.Closed.{AreAsked}
 use Rattle.glue_context.specs.Edits.{has_start}
+use Rattle.glue_context.specs.Foreign.{foreign_modules, foreign_lines}
+use Rattle.glue_context.specs.Parts.{helper_parts}
 
 -- `export function name`, and what stands behind the function
 abbrev pub declaration_front : List ℕ → List Word
@@ -105,37 +110,33 @@ is_definable l pair = is_some (entry_at l.«module».imports pair.0.0) && is_som
 abbrev pub export_order : AuxExport → AuxExport → Ordering
 export_order a b = text_order a.name b.name
 
--- the name of the import of a pair, where one stands
-abbrev pub name_of : Option Import → List ℕ
-name_of None = []
-name_of (Some i) = i.name
+-- the items up to loading but for helpers, one group behind the other, in the order in which they are printed: the lines of foreign modules,
+-- the declarations of exports, the frame's start, the definitions of imports, and the frame's end
+abbrev pub front_groups : List ℕ → List (List ℕ) → List Item → List Item → List (List Item)
+front_groups stem modules declares defines =
+    foreign_lines 1 modules ∷ declares ∷ (frame_start stem ∷ []) ∷ defines ∷ (frame_end stem modules ∷ []) ∷ []
 
-abbrev pub pair_name : Lowered → ImportId × ℕ → List ℕ
-pair_name l pair = name_of (import_at l pair)
+abbrev pub front_items : List ℕ → List (List ℕ) → List Item → List Item → List Item
+front_items stem modules declares defines = flat_map (λ (group : List Item). group) (front_groups stem modules declares defines)
 
--- pairs by the import's name, and then by the adapter's id
-abbrev pub pair_order : Lowered → ImportId × ℕ → ImportId × ℕ → Ordering
-pair_order l a b = ordering_then (text_order (pair_name l a) (pair_name l b)) (nat_cmp a.1 b.1)
+-- all of them: helpers stand before loading, which goes by whether the module has a start function
+abbrev pub all_items : List ℕ → Bool → List (List ℕ) → (declares defines helpers : List Item) → List Item
+all_items stem starts modules declares defines helpers =
+    front_items stem modules declares defines ++ (helpers ++ loading_item stem starts ∷ [])
 
--- the items by groups, in the order in which they are printed: the declarations of exports, the frame's start, the definitions of
--- imports, the frame's end, and loading, by whether the module has a start function
-abbrev pub item_groups : List ℕ → Bool → List Item → List Item → List (List Item)
-item_groups stem starts declares defines =
-    declares ∷ (frame_start stem ∷ []) ∷ defines ∷ (frame_end stem ∷ []) ∷ (loading_item stem starts ∷ []) ∷ []
-
--- all of them, one group behind the other
-abbrev pub all_items : List ℕ → Bool → List Item → List Item → List Item
-all_items stem starts declares defines = flat_map (λ (group : List Item). group) (item_groups stem starts declares defines)
-
--- the items that settings and a description ask for: the declarations stand by name, the definitions by the import's name and then
--- by the adapter's id
+-- the items that settings and a description ask for: the declarations stand by name, the definitions of own imports by the import's name
+-- and then by the adapter's id; the helpers are those for which the other items ask, and those for which these ask
 pub record IsGlue (settings : Settings) (l : Lowered) (items : List Item) : Type 0 where
   pub exports : List AuxExport
   pub by_name : IsArranged export_order l.aux.exports exports
   pub pairs : List (ImportId × ℕ)
-  pub by_import : IsArranged (pair_order l) l.wit.implements pairs
+  pub by_import : IsArranged (pair_order l) (own_pairs settings l) pairs
   pub declares : List Item
   pub defines : List Item
+  pub helpers : List Item
   pub declared : AllZip (IsDeclareItem l) exports declares
   pub defined : AllZip (IsDefineItem l) pairs defines
-  pub all : items ≡ all_items settings.stem (has_start l.«module») declares defines
+  pub numbered : length (foreign_modules settings l) < 2 ^ 32
+  pub asked : AreAsked (helper_parts settings)
+      (all_items settings.stem (has_start l.«module») (foreign_modules settings l) declares defines []) helpers
+  pub all : items ≡ all_items settings.stem (has_start l.«module») (foreign_modules settings l) declares defines helpers

@@ -1,12 +1,15 @@
 -- The module that is written: what is changed in the collected one is told by settings and description.
-use Rattle.std.specs.Prelude.{ℕ, List, [], Option, None, option_map, filter_map}
+use Rattle.std.specs.Prelude.{ℕ, List, [], ◌++◌, Option, None, option_map, option_and_then, filter_map}
 use Rattle.wasm_core.specs.ids.ImportId.{ImportId}
 use Rattle.wasm_core.specs.Contents.{Contents}
 use Rattle.wasm_core.specs.declared.types.Import.{Import}
 use Rattle.glue_shared.specs.declared.settings.Settings.{Settings}
 use Rattle.glue_shared.specs.declared.description.Lowered.{Lowered}
+use Rattle.glue_shared.specs.declared.import.JsImportName.{JsImportName}
 use Rattle.glue_shared.specs.Names.{own_imports}
 use Rattle.glue_steps.specs.Resolving.{entry_at}
+use Rattle.glue_lines.specs.Grouped.{source_of}
+use Rattle.glue_naming.specs.Handed.{handed_imports}
 pub use Rattle.glue_check.specs.Modules.{glue_module}
 use Rattle.glue_context.specs.declared.edits.Edits.{Edits}
 use Rattle.glue_context.specs.Edits.{has_start, edited}
@@ -15,10 +18,22 @@ use Rattle.glue_context.specs.Edits.{has_start, edited}
 abbrev pub move_of : List ℕ → List (Option Import) → ℕ → Option (ImportId × List ℕ × List ℕ)
 move_of stem imports place = option_map (λ (i : Import). (record { 0 = place }, glue_module stem, i.name)) (entry_at imports place)
 
--- what is changed: own imports move to the glue file's module, and a start function becomes an export
+-- an import that stands comes from the module of a described name, under its name there, where it has one
+abbrev pub handed_move : List (Option Import) → ImportId × JsImportName → Option (ImportId × List ℕ × List ℕ)
+handed_move imports handed =
+    option_and_then (λ (i : Import). option_map (λ source. (handed.0, source.0, source.1)) (source_of handed.1)) (entry_at imports handed.0.0)
+
+-- own imports move to the glue file's module, and those that the glue file doesn't define although an adapter stands for them become the
+-- described name that it calls
+abbrev pub all_moves : Settings → Lowered → List (ImportId × List ℕ × List ℕ)
+all_moves settings l =
+    filter_map (move_of settings.stem l.«module».imports) (own_imports settings l.«module» l.wit l.aux)
+    ++ filter_map (handed_move l.«module».imports) (handed_imports settings l)
+
+-- what is changed: imports move, and a start function becomes an export
 abbrev pub edits_of : Settings → Lowered → Edits
 edits_of settings l = record {
-  imports = filter_map (move_of settings.stem l.«module».imports) (own_imports settings l.«module» l.wit l.aux);
+  imports = all_moves settings l;
   exports = [];
   shim = None;
   start = has_start l.«module»;

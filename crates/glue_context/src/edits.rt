@@ -4,10 +4,12 @@ ghost use Rattle.wasm_core.specs.declared.types.Import as declared;
 ghost use Rattle.glue_shared.specs.Names.{own_imports};
 ghost use Rattle.glue_steps.specs.Resolving.{entry_at};
 ghost use Rattle.glue_context.specs.Edits as spec;
-ghost use Rattle.glue_context.specs.Rewritten.{move_of, edits_of};
+ghost use Rattle.glue_context.specs.Rewritten.{move_of, handed_move, all_moves, edits_of};
 
 use glue_check::{glue_module_name, has_start};
-use glue_shared::{Lowered, Settings};
+use glue_lines::source_of;
+use glue_naming::handed_imports;
+use glue_shared::{JsImportName, Lowered, Settings};
 use std::alloc::{AllocError, Global};
 use values::{Duplicate, Seq, Text};
 use wasm_core::{Body, ExportItem, FuncType, GlobalId, ImportId, Module, Op, ValType};
@@ -97,10 +99,60 @@ fn move_imports(
     Ok(moves)
 }
 
-/// What settings and a description ask to be changed in the collected module. Want of memory is the only error.
-pub fn edits_of(alloc: Global, settings: &Settings, lowered: &Lowered) -> Result<Edits, AllocError>
-    ensures edits { IfOk result (λ edits. edits ≡ edits_of settings.now lowered.now) }
-    ensures fit { IfOk result (λ edits. spec.AreFit edits lowered.now.«module») }
+// The move of an import to the module of a described name, where it stands and the name has one.
+fn hand_on(
+    alloc: Global,
+    module: &Module,
+    handed: &(ImportId, JsImportName),
+) -> Result<Option<(ImportId, Text, Text)>, AllocError>
+    ensures found { IfOk result (λ found. found ≡ handed_move «module».now.imports handed.now) }
+{
+    match module.imports().get(handed.0.0 as usize) {
+        Some(Some(_)) => match source_of(alloc, &handed.1)? {
+            Some((path, name)) => Ok(Some((handed.0, path, name))),
+            None => Ok(None),
+        },
+        _ => Ok(None),
+    }
+}
+
+// Adds that move.
+fn push_handed(
+    alloc: Global,
+    module: &Module,
+    handed: &(ImportId, JsImportName),
+    moves: &mut Seq<(ImportId, Text, Text)>,
+) -> Result<(), AllocError>
+    ensures pushed { OnOk result (moves.new ≡ moves.old ++ filter_map (handed_move «module».now.imports) (handed.now ∷ [])) }
+{
+    if let Some(found) = hand_on(alloc, module, handed)? {
+        moves.push(found)?;
+    }
+    Ok(())
+}
+
+// Those of these imports.
+fn push_handed_on(
+    alloc: Global,
+    module: &Module,
+    handed: &[(ImportId, JsImportName)],
+    moves: &mut Seq<(ImportId, Text, Text)>,
+) -> Result<(), AllocError>
+    ensures pushed { OnOk result (moves.new ≡ moves.old ++ filter_map (handed_move «module».now.imports) handed.now) }
+{
+    for import in handed {
+        push_handed(alloc, module, import, moves)?;
+    }
+    Ok(())
+}
+
+// The moves of own imports, and of those that become described names.
+fn all_moves(
+    alloc: Global,
+    settings: &Settings,
+    lowered: &Lowered,
+) -> Result<Seq<(ImportId, Text, Text)>, AllocError>
+    ensures moves { IfOk result (λ moves. moves ≡ all_moves settings.now lowered.now) }
 {
     let places = glue_shared::own_imports(
         alloc,
@@ -109,12 +161,23 @@ pub fn edits_of(alloc: Global, settings: &Settings, lowered: &Lowered) -> Result
         &lowered.wit,
         &lowered.aux,
     )?;
-    let imports = move_imports(
+    let mut moves = move_imports(
         alloc,
         settings.stem.as_str(),
         &lowered.module,
         places.as_slice(),
     )?;
+    let handed = handed_imports(alloc, settings, lowered)?;
+    push_handed_on(alloc, &lowered.module, handed.as_slice(), &mut moves)?;
+    Ok(moves)
+}
+
+/// What settings and a description ask to be changed in the collected module. Want of memory is the only error.
+pub fn edits_of(alloc: Global, settings: &Settings, lowered: &Lowered) -> Result<Edits, AllocError>
+    ensures edits { IfOk result (λ edits. edits ≡ edits_of settings.now lowered.now) }
+    ensures fit { IfOk result (λ edits. spec.AreFit edits lowered.now.«module») }
+{
+    let imports = all_moves(alloc, settings, lowered)?;
     Ok(Edits {
         imports,
         exports: Seq::new(alloc),

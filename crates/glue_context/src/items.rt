@@ -1,22 +1,27 @@
-//! The items of the glue file, group by group: what the description declares, the frame with the definitions of imports, and loading.
-ghost use Rattle.std.specs.Prelude.{◌≡◌, ◌++◌, ◌∷◌, [], ◌+◌, length, codes, map, IfOk, OnOk, Some, None, is_some, true};
+//! The items of the glue file, group by group: the lines of foreign modules, what the description declares, the frame with the definitions
+//! of imports, the helpers for which these ask, and loading.
+ghost use Rattle.std.specs.Prelude.{◌≡◌, List, ◌++◌, ◌∷◌, [], ◌+◌, length, codes, map, IfOk, OnOk, Some, None, is_some, true};
 ghost use Rattle.std.specs.Fmt.{decimal};
 ghost use Rattle.std.specs.List.{AllZip, list_all};
 ghost use Rattle.glue_steps.specs.Resolving as resolving;
+ghost use Rattle.helper_table.specs.Closed as closed;
 ghost use Rattle.glue_naming.specs.Naming as naming;
+ghost use Rattle.glue_naming.specs.Pairs.{own_pairs};
 ghost use Rattle.glue_context.specs.Items as spec;
 
+use crate::foreign::{foreign_lines, foreign_modules};
+use crate::parts::helper_parts;
 use glue_binding::bind;
 use glue_check::has_start;
-use glue_naming::function_name;
+use glue_naming::{function_name, own_pairs_by_import};
 use glue_scope::Names;
 use glue_shared::{AdapterId, AuxExport, Lowered, NameMap, Settings};
 use glue_steps::{Indexed, Step, adapter_steps};
 use glue_targets::{frame_end, frame_start, loading_item};
 use glue_tree::JsFunction;
 use glue_words::{Item, Role, Thing, Word, WordBuilder, key, punct};
+use helper_table::{HelperParts, close_over};
 use std::alloc::{AllocError, Global};
-use std::cmp::Ordering;
 use values::{Duplicate, Seq, Text};
 use wasm_core::{Import, ImportId};
 
@@ -214,38 +219,6 @@ fn exports_by_name(alloc: Global, exports: &[AuxExport]) -> Result<Vec<&AuxExpor
     Ok(sorted)
 }
 
-// The name of the import of a pair, where one stands.
-fn pair_name<'a>(lowered: &'a Lowered, pair: &(ImportId, AdapterId)) -> &'a str
-    ensures name { result.now ≡ spec.pair_name lowered.now pair.now }
-{
-    match lowered.module.imports().get(pair.0.0 as usize) {
-        Some(Some(import)) => import.name.as_str(),
-        _ => "",
-    }
-}
-
-// Whether a pair comes before another, or after it.
-fn pair_order(lowered: &Lowered, a: &(ImportId, AdapterId), b: &(ImportId, AdapterId)) -> Ordering
-    ensures order { result ≡ spec.pair_order lowered.now a.now b.now }
-{
-    match pair_name(lowered, a).cmp(pair_name(lowered, b)) {
-        Ordering::Equal => a.1.0.cmp(&b.1.0),
-        order => order,
-    }
-}
-
-// The pairs by the import's name, and then by the adapter's id.
-fn pairs_by_import(
-    alloc: Global,
-    lowered: &Lowered,
-) -> Result<Vec<(ImportId, AdapterId)>, AllocError>
-    ensures sorted { IfOk result (λ sorted. spec.IsArranged (spec.pair_order lowered.now) lowered.now.wit.implements sorted.items) }
-{
-    let mut sorted = Vec::from_slice(alloc, lowered.wit.implements.as_slice())?;
-    sorted.sort_by(|a, b| pair_order(lowered, a, b))?;
-    Ok(sorted)
-}
-
 // The declarations of these exports.
 #[tactic(auto, using(crate::proofs::Lists::item_steps))]
 fn declare_exports<N: Names>(
@@ -282,26 +255,46 @@ fn define_imports<N: Names>(
     Ok(items)
 }
 
-// The items of all groups, one group behind the other.
+// The items up to loading, but for helpers, one group behind the other.
 fn put_together(
+    foreign: Seq<Item>,
     declares: Seq<Item>,
     start: Item,
     defines: Seq<Item>,
     end: Item,
-    loading: Item,
 ) -> Result<Seq<Item>, AllocError>
-    ensures items { IfOk result (λ items. items ≡ declares ++ (start ∷ (defines ++ (end ∷ loading ∷ [])))) }
+    ensures items { IfOk result (λ items. items ≡ foreign ++ (declares ++ (start ∷ (defines ++ end ∷ [])))) }
 {
-    let mut items = declares;
+    let mut items = foreign;
+    items.append(declares)?;
     items.push(start)?;
     items.append(defines)?;
     items.push(end)?;
+    Ok(items)
+}
+
+// These items, and before the last of them the helpers for which they ask.
+fn with_helpers(
+    alloc: Global,
+    parts: &HelperParts,
+    front: Seq<Item>,
+    last: Item,
+) -> Result<Seq<Item>, AllocError>
+    ensures items { IfOk result (λ items. (group : List Item) × (closed.AreAsked parts.now (front ++ last ∷ []) group × (items ≡ front ++ (group ++ last ∷ [])))) }
+{
+    let mut items = front;
+    items.push(last)?;
+    let helpers = close_over(alloc, parts, items.as_slice())?;
+    let Some(loading) = items.pop() else {
+        unreachable!();
+    };
+    items.append(helpers)?;
     items.push(loading)?;
     Ok(items)
 }
 
-/// The items that settings and a description ask for, where the check has found steps for each adapter that becomes a function, and
-/// each export was given its own name. Want of memory is the only error.
+/// The items that settings and a description ask for, where the check has found steps for each adapter that becomes a function, that of
+/// an export and that of an own import, and each export was given its own name. Want of memory is the only error.
 pub fn glue_items<N: Names>(
     alloc: Global,
     settings: &Settings,
@@ -309,17 +302,21 @@ pub fn glue_items<N: Names>(
     names: &NameMap,
 ) -> Result<Seq<Item>, AllocError>
     requires bindable { list_all (spec.is_bindable lowered.now) lowered.now.aux.exports ≡ true }
-    requires definable { list_all (spec.is_definable lowered.now) lowered.now.wit.implements ≡ true }
+    requires definable { list_all (spec.is_definable lowered.now) (own_pairs settings.now lowered.now) ≡ true }
     requires named { list_all (naming.is_own_name names.now) lowered.now.aux.exports ≡ true }
     ensures items { IfOk result (λ items. spec.IsGlue settings.now lowered.now items) }
 {
     let exports = exports_by_name(alloc, lowered.aux.exports.as_slice())?;
-    let pairs = pairs_by_import(alloc, lowered)?;
+    let pairs = own_pairs_by_import(alloc, settings, lowered)?;
     let indexed = Indexed::new(alloc, lowered)?;
+    let modules = foreign_modules(alloc, settings, lowered)?;
+    let foreign = foreign_lines(alloc, modules.as_slice())?;
     let declares = declare_exports::<N>(alloc, &indexed, names, exports.as_slice())?;
     let start = frame_start(alloc, settings)?;
     let defines = define_imports::<N>(alloc, &indexed, pairs.as_slice())?;
-    let end = frame_end(alloc, settings)?;
+    let end = frame_end(alloc, settings, modules.as_slice())?;
+    let front = put_together(foreign, declares, start, defines, end)?;
     let loading = loading_item(alloc, settings, has_start(&lowered.module))?;
-    put_together(declares, start, defines, end, loading)
+    let items = with_helpers(alloc, &helper_parts(alloc, settings), front, loading)?;
+    Ok(items)
 }

@@ -1,5 +1,5 @@
 -- Whether an import has an expression doesn't depend on how it is called.
-use Rattle.std.proofs.Common.{◌≡◌, List, [], ◌∷◌, ◌++◌, refl, sym, ◌∙◌, Bool, true, false, Option, Some, None}
+use Rattle.std.proofs.Common.{◌≡◌, List, [], ◌∷◌, ◌++◌, refl, sym, ◌∙◌, Bool, false, Option, Some, None}
 use Rattle.std.specs.Prelude.{is_some, option_map, codes}
 use Rattle.glue_shared.specs.declared.adapter.AdapterJsImportKind.{AdapterJsImportKind}
 use Rattle.glue_shared.specs.declared.adapter.AdapterJsImportKind.TheVariants as calls
@@ -11,8 +11,8 @@ use Rattle.glue_shared.specs.declared.import.Intrinsic.TheVariants as i
 use Rattle.glue_shared.specs.declared.import.JsImport.{JsImport}
 use Rattle.glue_imports.specs.declared.part.Part.{Part}
 use Rattle.glue_imports.specs.declared.part.Part.TheVariants as p
-use Rattle.glue_imports.specs.Intrinsics.{intrinsic_parts}
-use Rattle.glue_imports.specs.Expressions.{global_name, around, called, new_front, expression, has_expression}
+use Rattle.glue_imports.specs.Preludes.{plain}
+use Rattle.glue_imports.specs.Expressions.{global_name, around, called, new_front, parts_of, intrinsic_expression, expression, has_expression}
 
 mapped : {A B : Type 0} (f : A → B) (o : Option A) → is_some (option_map f o) ≡ is_some o
 mapped f None = refl
@@ -29,16 +29,27 @@ any_called calls.Normal spread js = alike js [] (p.Arguments spread ∷ []) [] (
 any_called calls.Method spread js = alike js [] (p.Property (codes "call") ∷ p.Arguments spread ∷ []) [] (p.Arguments false ∷ [])
 any_called calls.Constructor spread js = alike js new_front (p.Arguments spread ∷ []) [] (p.Arguments false ∷ [])
 
-any_intrinsic : (bound : Bool) (name : Intrinsic) → is_some (intrinsic_parts bound name) ≡ is_some (intrinsic_parts false name)
+any_intrinsic : (bound : Bool) (name : Intrinsic) → is_some (intrinsic_expression bound name) ≡ is_some (intrinsic_expression false name)
 any_intrinsic bound i.Add = refl
 any_intrinsic bound other = refl
 
-pub any_call : (call : AdapterJsImportKind) (spread bound : Bool) (what : AuxImport) → is_some (expression call spread bound what) ≡ has_expression what
-any_call call spread bound (w.Value (v.Bare js)) = any_called call spread js
-any_call call spread bound (w.Value other) = refl
-any_call call spread bound (w.ValueWithThis js name) =
+any_parts : (call : AdapterJsImportKind) (spread : Bool) (what : AuxImport) → is_some (parts_of call spread what) ≡ is_some (parts_of calls.Normal false what)
+any_parts call spread (w.Value (v.Bare js)) = any_called call spread js
+any_parts call spread (w.Value other) = refl
+any_parts call spread (w.ValueWithThis js name) =
     alike js [] (p.Property name ∷ p.Arguments spread ∷ []) [] (p.Property name ∷ p.Arguments false ∷ [])
-any_call call spread bound (w.Static js true) = refl
-any_call call spread bound (w.Static js false) = refl
+any_parts call spread other = refl
+
+any_plain : (call : AdapterJsImportKind) (spread : Bool) (what : AuxImport)
+    → is_some (option_map plain (parts_of call spread what)) ≡ is_some (option_map plain (parts_of calls.Normal false what))
+any_plain call spread what =
+    mapped plain (parts_of call spread what) ∙ any_parts call spread what ∙ sym (mapped plain (parts_of calls.Normal false what))
+
+pub any_call : (call : AdapterJsImportKind) (spread bound : Bool) (what : AuxImport) → is_some (expression call spread bound what) ≡ has_expression what
+any_call call spread bound (w.Instanceof js) = refl
+any_call call spread bound (w.Cast comment) = refl
+any_call call spread bound (w.LinkTo path content) = refl
 any_call call spread bound (w.Intrinsic name) = any_intrinsic bound name
+any_call call spread bound (w.Value value) = any_plain call spread (w.Value value)
+any_call call spread bound (w.ValueWithThis js name) = any_plain call spread (w.ValueWithThis js name)
 any_call call spread bound other = refl

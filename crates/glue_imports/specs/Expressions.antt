@@ -8,12 +8,15 @@ use Rattle.glue_shared.specs.declared.import.AuxImport.{AuxImport}
 use Rattle.glue_shared.specs.declared.import.AuxImport.TheVariants as w
 use Rattle.glue_shared.specs.declared.import.AuxValue.{AuxValue}
 use Rattle.glue_shared.specs.declared.import.AuxValue.TheVariants as v
+use Rattle.glue_shared.specs.declared.import.Intrinsic.{Intrinsic}
 use Rattle.glue_shared.specs.declared.import.JsImport.{JsImport}
 use Rattle.glue_shared.specs.declared.import.JsImportName.{JsImportName}
 use Rattle.glue_shared.specs.declared.import.JsImportName.TheVariants as names
 use Rattle.glue_imports.specs.declared.part.Part.{Part}
 use Rattle.glue_imports.specs.declared.part.Part.TheVariants as p
-use Rattle.glue_imports.specs.Intrinsics.{intrinsic_parts}
+use Rattle.glue_imports.specs.declared.part.Expression.{Expression}
+use Rattle.glue_imports.specs.Intrinsics.{or_else, intrinsic_parts}
+use Rattle.glue_imports.specs.Preludes.{plain, instance_of, intrinsic_prelude, cast, link, present}
 
 -- the name of a global
 abbrev pub global_name : JsImportName → Option (List ℕ)
@@ -50,10 +53,10 @@ abbrev pub value_parts : AdapterJsImportKind → (spread : Bool) → AuxValue �
 value_parts call spread (v.Bare js) = called call spread js
 value_parts call spread other = None
 
--- a static value; one that may be absent isn't built
+-- a static value, which may be absent
 abbrev pub static_parts : JsImport → (optional : Bool) → Option (List Part)
 static_parts js false = around [] js []
-static_parts js true = None
+static_parts js true = option_map (λ name. present name js.fields) (global_name js.name)
 
 -- what is named by a value and something of it
 abbrev pub of_value : (spread : Bool) → AuxImport → Option (List Part)
@@ -75,19 +78,34 @@ of_operand spread w.IndexingSetterOfObject = Some (p.Operand 0 ∷ index 1 ++ as
 of_operand spread w.IndexingDeleterOfObject = Some (delete_front ++ p.Operand 0 ∷ index 1)
 of_operand spread other = None
 
+-- the expression of an import that has no statements before it
+abbrev pub parts_of : AdapterJsImportKind → (spread : Bool) → AuxImport → Option (List Part)
+parts_of call spread (w.Value value) = value_parts call spread value
+parts_of call spread (w.Static js optional) = static_parts js optional
+parts_of call spread (w.String text) = Some (p.Literal text ∷ [])
+parts_of call spread (w.ValueWithThis js name) = of_value spread (w.ValueWithThis js name)
+parts_of call spread (w.StructuralClassGetter js name) = of_value spread (w.StructuralClassGetter js name)
+parts_of call spread (w.StructuralClassSetter js name) = of_value spread (w.StructuralClassSetter js name)
+parts_of call spread (w.IndexingGetterOfClass js) = of_value spread (w.IndexingGetterOfClass js)
+parts_of call spread (w.IndexingSetterOfClass js) = of_value spread (w.IndexingSetterOfClass js)
+parts_of call spread (w.IndexingDeleterOfClass js) = of_value spread (w.IndexingDeleterOfClass js)
+parts_of call spread other = of_operand spread other
+
+-- whether the operand is an instance of what an import names
+abbrev pub instance_test : JsImport → Option Expression
+instance_test js = option_map (λ name. instance_of (p.Host name js.fields)) (global_name js.name)
+
+-- an intrinsic
+abbrev pub intrinsic_expression : (bound : Bool) → Intrinsic → Option Expression
+intrinsic_expression bound name = or_else (option_map plain (intrinsic_parts bound name)) (intrinsic_prelude name)
+
 -- the expression of an import that is called in this way, the last argument spread or not, its answer bound to a local or not
-abbrev pub expression : AdapterJsImportKind → (spread bound : Bool) → AuxImport → Option (List Part)
-expression call spread bound (w.Value value) = value_parts call spread value
-expression call spread bound (w.Static js optional) = static_parts js optional
-expression call spread bound (w.String text) = Some (p.Literal text ∷ [])
-expression call spread bound (w.Intrinsic name) = intrinsic_parts bound name
-expression call spread bound (w.ValueWithThis js name) = of_value spread (w.ValueWithThis js name)
-expression call spread bound (w.StructuralClassGetter js name) = of_value spread (w.StructuralClassGetter js name)
-expression call spread bound (w.StructuralClassSetter js name) = of_value spread (w.StructuralClassSetter js name)
-expression call spread bound (w.IndexingGetterOfClass js) = of_value spread (w.IndexingGetterOfClass js)
-expression call spread bound (w.IndexingSetterOfClass js) = of_value spread (w.IndexingSetterOfClass js)
-expression call spread bound (w.IndexingDeleterOfClass js) = of_value spread (w.IndexingDeleterOfClass js)
-expression call spread bound other = of_operand spread other
+abbrev pub expression : AdapterJsImportKind → (spread bound : Bool) → AuxImport → Option Expression
+expression call spread bound (w.Instanceof js) = instance_test js
+expression call spread bound (w.Cast comment) = Some (cast bound comment)
+expression call spread bound (w.LinkTo path content) = option_map link content
+expression call spread bound (w.Intrinsic name) = intrinsic_expression bound name
+expression call spread bound other = option_map plain (parts_of call spread other)
 
 -- an import has an expression, however it is called
 abbrev pub has_expression : AuxImport → Bool

@@ -103,9 +103,9 @@ other_intrinsic bound i.Throw = Some thrown_error
 other_intrinsic bound i.Rethrow = Some (p.Key key.THROW ∷ p.Space ∷ p.Operand 0 ∷ [])
 other_intrinsic bound other = None
 
--- the parts, or those that another table has
-abbrev pub or_else : Option (List Part) → Option (List Part) → Option (List Part)
-or_else (Some parts) other = Some parts
+-- what one table has, or else another
+abbrev pub or_else : {A : Type 0} → Option A → Option A → Option A
+or_else (Some found) other = Some found
 or_else None other = other
 
 -- the expression of an intrinsic

@@ -1,2 +1,3 @@
 pub mod Intrinsics
+pub mod Preludes
 pub mod Expressions

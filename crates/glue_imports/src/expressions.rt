@@ -5,8 +5,9 @@ ghost use Rattle.glue_imports.specs.Expressions as spec;
 ghost use Rattle.glue_imports.specs.declared.part.Part.TheVariants as p;
 
 use crate::intrinsic::{has_parts, intrinsic_parts};
-use crate::part::Part;
-use glue_shared::{AdapterJsImportKind, AuxImport, AuxValue, JsImport, JsImportName};
+use crate::part::{Expression, Part};
+use crate::prelude::{cast, instance_of, intrinsic_prelude, link, plain, present};
+use glue_shared::{AdapterJsImportKind, AuxImport, AuxValue, Intrinsic, JsImport, JsImportName};
 use glue_words::{key, punct};
 use std::alloc::{AllocError, Global};
 use values::{Duplicate, Seq, Text};
@@ -123,7 +124,7 @@ fn value_parts(
     }
 }
 
-// A static value; one that may be absent isn't built.
+// A static value, which may be absent.
 fn static_parts(
     alloc: Global,
     js: &JsImport,
@@ -131,10 +132,12 @@ fn static_parts(
 ) -> Result<Option<Seq<Part>>, AllocError>
     ensures parts { IfOk result (λ parts. parts ≡ spec.static_parts js.now optional) }
 {
-    if optional {
-        Ok(None)
-    } else {
-        before(alloc, js, Seq::new(alloc))
+    if !optional {
+        return before(alloc, js, Seq::new(alloc));
+    }
+    match &js.name {
+        JsImportName::Global { name } => { Ok(Some(present(alloc, name, js.fields.as_slice())?)) }
+        _ => Ok(None),
     }
 }
 
@@ -215,6 +218,56 @@ fn of_operand(
     Ok(Some(parts))
 }
 
+// The expression of an import that has no statements before it.
+fn parts_of(
+    alloc: Global,
+    call: AdapterJsImportKind,
+    spread: bool,
+    what: &AuxImport,
+) -> Result<Option<Seq<Part>>, AllocError>
+    ensures parts { IfOk result (λ parts. parts ≡ spec.parts_of call spread what.now) }
+{
+    match what {
+        AuxImport::Value(value) => value_parts(alloc, call, spread, value),
+        AuxImport::Static(js, optional) => static_parts(alloc, js, *optional),
+        AuxImport::String(text) => Ok(Some(one(alloc, Part::Literal(text.copy(alloc)?))?)),
+        AuxImport::ValueWithThis(_, _)
+        | AuxImport::StructuralClassGetter(_, _)
+        | AuxImport::StructuralClassSetter(_, _)
+        | AuxImport::IndexingGetterOfClass(_)
+        | AuxImport::IndexingSetterOfClass(_)
+        | AuxImport::IndexingDeleterOfClass(_) => of_value(alloc, spread, what),
+        _ => of_operand(alloc, spread, what),
+    }
+}
+
+// Whether the operand is an instance of what an import names.
+fn instance_test(alloc: Global, js: &JsImport) -> Result<Option<Expression>, AllocError>
+    ensures expression { IfOk result (λ e. e ≡ spec.instance_test js.now) }
+{
+    match &js.name {
+        JsImportName::Global { name } => {
+            let value = Part::Host(name.copy(alloc)?, js.fields.copy(alloc)?);
+            Ok(Some(instance_of(alloc, value)?))
+        }
+        _ => Ok(None),
+    }
+}
+
+// The expression of an intrinsic.
+fn intrinsic_expression(
+    alloc: Global,
+    bound: bool,
+    intrinsic: Intrinsic,
+) -> Result<Option<Expression>, AllocError>
+    ensures expression { IfOk result (λ e. e ≡ spec.intrinsic_expression bound intrinsic) }
+{
+    match plain(alloc, intrinsic_parts(alloc, bound, intrinsic)?) {
+        Some(expression) => Ok(Some(expression)),
+        None => intrinsic_prelude(alloc, intrinsic),
+    }
+}
+
 /// The expression of an import that is called in this way, its last argument spread or not, its answer bound to a local or not; none
 /// where it isn't built. Want of memory is the only error.
 pub fn expression(
@@ -223,21 +276,15 @@ pub fn expression(
     spread: bool,
     bound: bool,
     what: &AuxImport,
-) -> Result<Option<Seq<Part>>, AllocError>
-    ensures parts { IfOk result (λ parts. parts ≡ spec.expression call spread bound what.now) }
+) -> Result<Option<Expression>, AllocError>
+    ensures expression { IfOk result (λ e. e ≡ spec.expression call spread bound what.now) }
 {
     match what {
-        AuxImport::Value(value) => value_parts(alloc, call, spread, value),
-        AuxImport::Static(js, optional) => static_parts(alloc, js, *optional),
-        AuxImport::String(text) => Ok(Some(one(alloc, Part::Literal(text.copy(alloc)?))?)),
-        AuxImport::Intrinsic(intrinsic) => intrinsic_parts(alloc, bound, *intrinsic),
-        AuxImport::ValueWithThis(_, _)
-        | AuxImport::StructuralClassGetter(_, _)
-        | AuxImport::StructuralClassSetter(_, _)
-        | AuxImport::IndexingGetterOfClass(_)
-        | AuxImport::IndexingSetterOfClass(_)
-        | AuxImport::IndexingDeleterOfClass(_) => of_value(alloc, spread, what),
-        _ => of_operand(alloc, spread, what),
+        AuxImport::Instanceof(js) => instance_test(alloc, js),
+        AuxImport::Cast(comment) => Ok(Some(cast(alloc, bound, comment)?)),
+        AuxImport::LinkTo(_, content) => link(alloc, content),
+        AuxImport::Intrinsic(intrinsic) => intrinsic_expression(alloc, bound, *intrinsic),
+        _ => Ok(plain(alloc, parts_of(alloc, call, spread, what)?)),
     }
 }
 
@@ -255,13 +302,16 @@ pub fn has_expression(what: &AuxImport) -> bool
     match what {
         AuxImport::Value(AuxValue::Bare(js))
         | AuxImport::ValueWithThis(js, _)
+        | AuxImport::Instanceof(js)
+        | AuxImport::Static(js, _)
         | AuxImport::StructuralClassGetter(js, _)
         | AuxImport::StructuralClassSetter(js, _)
         | AuxImport::IndexingGetterOfClass(js)
         | AuxImport::IndexingSetterOfClass(js)
         | AuxImport::IndexingDeleterOfClass(js) => names_global(js),
-        AuxImport::Static(js, optional) => !*optional && names_global(js),
+        AuxImport::LinkTo(_, content) => content.is_some(),
         AuxImport::String(_)
+        | AuxImport::Cast(_)
         | AuxImport::StructuralMethod(_)
         | AuxImport::StructuralGetter(_)
         | AuxImport::StructuralSetter(_)

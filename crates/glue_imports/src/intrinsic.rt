@@ -1,6 +1,7 @@
 //! The expressions of intrinsics.
 ghost use Rattle.std.specs.Prelude.{◌≡◌, ◌∷◌, [], false, is_some, IfOk, option_map};
 ghost use Rattle.glue_imports.specs.declared.part.Part.TheVariants as p;
+ghost use Rattle.glue_imports.specs.Expressions as exprs;
 ghost use Rattle.glue_imports.specs.Intrinsics as spec;
 
 use crate::part::Part;
@@ -107,8 +108,8 @@ fn compared(alloc: Global, op: u8, other: Part) -> Result<Seq<Part>, AllocError>
     Ok(Seq::from_vec(parts))
 }
 
-// A name of the host, without a property.
-fn host(alloc: Global, name: &str) -> Result<Part, AllocError>
+/// A name of the host, without a property.
+pub fn host(alloc: Global, name: &str) -> Result<Part, AllocError>
     ensures part { IfOk result (λ part. part ≡ spec.host name.now) }
 {
     Ok(Part::Host(Text::from_str(alloc, name)?, Seq::new(alloc)))
@@ -128,8 +129,8 @@ fn one(alloc: Global, part: Part) -> Result<Seq<Part>, AllocError>
     Ok(Seq::from_vec(vec![in alloc; part]?))
 }
 
-// An operand by itself: as it is on the right side of `=`.
-fn same(alloc: Global, bound: bool) -> Result<Seq<Part>, AllocError>
+/// An operand by itself: as it is on the right side of `=`.
+pub fn same(alloc: Global, bound: bool) -> Result<Seq<Part>, AllocError>
     ensures parts { IfOk result (λ parts. parts ≡ spec.same bound) }
 {
     one(
@@ -265,25 +266,18 @@ pub fn intrinsic_parts(
 
 /// Whether an intrinsic has an expression here.
 pub fn has_parts(intrinsic: Intrinsic) -> bool
-    ensures test { result ≡ is_some (spec.intrinsic_parts false intrinsic) }
+    ensures test { result ≡ is_some (exprs.intrinsic_expression false intrinsic) }
 {
     match intrinsic {
-        Intrinsic::BigIntGetAsI64
-        | Intrinsic::BooleanGet
-        | Intrinsic::CheckedDiv
-        | Intrinsic::DebugString
+        Intrinsic::DebugString
         | Intrinsic::ExternrefHeapLiveCount
         | Intrinsic::FunctionTable
         | Intrinsic::InitExternrefTable
         | Intrinsic::Instance
-        | Intrinsic::IsObject
         | Intrinsic::Memory
         | Intrinsic::Module
-        | Intrinsic::NumberGet
         | Intrinsic::PanicError
-        | Intrinsic::StringFromUtf8Lossy
-        | Intrinsic::StringGet
-        | Intrinsic::TryIntoNumber => false,
+        | Intrinsic::StringFromUtf8Lossy => false,
         _ => true,
     }
 }

@@ -1,10 +1,11 @@
 //! The JavaScript expression that a description asks for where an import is called.
 //!
-//! `expression` gives it as parts: words that are known from the description, and places for the operands. Promised: exactly the parts
-//! of `expression` in `specs/Expressions.antt`, and of intrinsics those of the tables in `specs/Intrinsics.antt`; nothing but want of
-//! memory fails. Whether an import has an expression doesn't depend on how it is called (`proofs/Any.antt`). That the parts of each
-//! stand well beside one another is shown above, in `glue_context`. Values of another root than a global, accessors, static values that
-//! may be absent, and what needs a helper, a local of its own, a note or another export have no parts here yet.
+//! `expression` gives it as parts: words that are known from the description, and places for the operands, and for the locals of the
+//! statements before it, where it has some. Promised: exactly the parts of `expression` in `specs/Expressions.antt`, of intrinsics those
+//! of the tables in `specs/Intrinsics.antt`, and with statements those of `specs/Preludes.antt`; nothing but want of memory fails. Whether
+//! an import has an expression doesn't depend on how it is called (`proofs/Any.antt`). That the parts of each stand well beside one
+//! another is shown above, in `glue_context`. Values of another root than a global, accessors, and what needs a helper or another export
+//! have no parts here yet.
 //!
 //! A kind of import more is a line of the definition and an arm of the function; an intrinsic more is a line of a table in both.
 //!
@@ -14,6 +15,7 @@
 mod expressions;
 mod intrinsic;
 mod part;
+mod prelude;
 
 pub use expressions::{expression, global_name, has_expression};
-pub use part::Part;
+pub use part::{Expression, Part};

@@ -2,9 +2,11 @@
 use Rattle.std.proofs.Common.{◌≡◌, ℕ, suc, ◌+◌, ◌<◌, min, Bool, true, false, List, [], ◌∷◌, ◌++◌, length, take, get_or, refl, sym, ap, subst, ◌∙◌, cond, arith, inl, inr, ◌⊎◌}
 use Rattle.std.specs.Prelude.{Some, None, unwrap_or, map}
 use Rattle.std.specs.List.{list_all}
-use Rattle.std.specs.Ordering.{nat_cmp, eq_by_cmp, is_eq}
-use Rattle.std.specs.Cmp.{Equal-is, tied_itself}
-use Rattle.std.specs.Cmp.Lexicographic.{slice_cmp, nat_list_cmp_total}
+use Rattle.std.specs.declared.cmp.Ordering.{Ordering}
+use Rattle.std.specs.BTreeMap.{insert_entry}
+use Rattle.std.specs.Ordering.{eq_by_cmp, is_eq}
+use Rattle.std.specs.Cmp.{Equal-is, IsTotalOrder, tied_itself}
+use Rattle.std.specs.Cmp.Lexicographic.{nat_list_cmp_total}
 use Rattle.std.specs.FinSet as set
 use Rattle.std.proofs.lemmas.Bool.{and_parts}
 use Rattle.std.proofs.lemmas.List.{take_more, length-take}
@@ -16,11 +18,14 @@ use Rattle.glue_words.specs.Ident.{is_ident, to_ident}
 use Rattle.glue_scope.specs.Scope.{AreDrawn, IsFirstFree}
 use Rattle.glue_scope.proofs.Drawn.{drawn-append, drawn_distinct, drawn_idents, drawn_new}
 use Rattle.glue_naming.specs.declared.named.Named.{Named}
-use Rattle.glue_naming.specs.declared.named.Named.TheVariants.{Class, Registry, Enum, Function}
+use Rattle.glue_naming.specs.declared.named.Named.TheVariants.{Class, Registry, Enum, Import, Function}
 use Rattle.glue_naming.specs.declared.named.Wanted.{Wanted}
+use Rattle.glue_shared.specs.declared.import.JsImportName.{JsImportName}
 use Rattle.glue_shared.specs.declared.name_map.NameMap.{NameMap}
 use Rattle.glue_shared.specs.NameMap.{no_names}
-use Rattle.glue_naming.specs.Drawing.{name_wanted, turn_names, put_at, put_name, name_in, map_of, AreGood}
+use Rattle.glue_naming.specs.Arranged.{import_order, text_order}
+use Rattle.glue_naming.specs.Drawing.{name_wanted, turn_names, put_name, name_in, map_of, AreGood}
+use Rattle.glue_naming.proofs.ImportOrder.{import_order_total, import_same}
 
 -- ---- the loops
 
@@ -76,8 +81,8 @@ filled_next m list names i w name e lt is named =
 
 -- ---- one name in the maps
 
-same_text : (x y : List ℕ) → eq_by_cmp (slice_cmp nat_cmp) x y ≡ true → x ≡ y
-same_text x y h = set.slice_cmp-IsAntisymmetric set.nat_cmp-IsAntisymmetric x y ((Equal-is (slice_cmp nat_cmp x y)).0 h)
+same_text : (x y : List ℕ) → eq_by_cmp text_order x y ≡ true → x ≡ y
+same_text x y h = set.slice_cmp-IsAntisymmetric set.nat_cmp-IsAntisymmetric x y ((Equal-is (text_order x y)).0 h)
 
 some_apart : (x y : List ℕ) → Some x ≡ Some y → x ≡ y
 some_apart x y e = ap (λ o. unwrap_or o x) e
@@ -88,26 +93,47 @@ none_is x e = cc
 HasName : NameMap → Named → Type 0
 HasName m thing = (name : List ℕ) × (name_in m thing ≡ Some name)
 
-module _ (es : List (List ℕ × List ℕ)) (key name : List ℕ) where
-  told_case : (q k : List ℕ) (b : Bool) → (b ≡ true → q ≡ key) → cond b (Some name) (look_up (slice_cmp nat_cmp) es q) ≡ Some k → ((q ≡ key) × (k ≡ name)) ⊎ (look_up (slice_cmp nat_cmp) es q ≡ Some k)
-  told_case q k true same e = inl (same refl, sym (some_apart name k e))
-  told_case q k false same e = inr e
+module _ {K : Type 0} (R : K → K → Ordering) (total : IsTotalOrder R) (same : (x y : K) → eq_by_cmp R x y ≡ true → x ≡ y) (es : List (K × List ℕ)) (key : K) (name : List ℕ) where
+  told_case : (q : K) (k : List ℕ) (b : Bool) → (b ≡ true → q ≡ key) → cond b (Some name) (look_up R es q) ≡ Some k → ((q ≡ key) × (k ≡ name)) ⊎ (look_up R es q ≡ Some k)
+  told_case q k true is e = inl (is refl, sym (some_apart name k e))
+  told_case q k false is e = inr e
 
-  at : (q : List ℕ) → look_up (slice_cmp nat_cmp) (put_at es key name) q ≡ cond (eq_by_cmp (slice_cmp nat_cmp) q key) (Some name) (look_up (slice_cmp nat_cmp) es q)
-  at q = look_up_inserted (slice_cmp nat_cmp) nat_list_cmp_total es key name q
+  at : (q : K) → look_up R (insert_entry R es key name) q ≡ cond (eq_by_cmp R q key) (Some name) (look_up R es q)
+  at q = look_up_inserted R total es key name q
 
-  told_at : (q k : List ℕ) → look_up (slice_cmp nat_cmp) (put_at es key name) q ≡ Some k → ((q ≡ key) × (k ≡ name)) ⊎ (look_up (slice_cmp nat_cmp) es q ≡ Some k)
-  told_at q k e = told_case q k (eq_by_cmp (slice_cmp nat_cmp) q key) (same_text q key) (sym (at q) ∙ e)
+  told_at : (q : K) (k : List ℕ) → look_up R (insert_entry R es key name) q ≡ Some k → ((q ≡ key) × (k ≡ name)) ⊎ (look_up R es q ≡ Some k)
+  told_at q k e = told_case q k (eq_by_cmp R q key) (same q key) (sym (at q) ∙ e)
 
-  here_at : look_up (slice_cmp nat_cmp) (put_at es key name) key ≡ Some name
-  here_at = at key ∙ ap (λ b. cond b (Some name) (look_up (slice_cmp nat_cmp) es key)) (ap is_eq (tied_itself nat_list_cmp_total key))
+  here_at : look_up R (insert_entry R es key name) key ≡ Some name
+  here_at = at key ∙ ap (λ b. cond b (Some name) (look_up R es key)) (ap is_eq (tied_itself total key))
 
-  kept_case : (q k : List ℕ) (b : Bool) → look_up (slice_cmp nat_cmp) es q ≡ Some k → (j : List ℕ) × (cond b (Some name) (look_up (slice_cmp nat_cmp) es q) ≡ Some j)
+  kept_case : (q : K) (k : List ℕ) (b : Bool) → look_up R es q ≡ Some k → (j : List ℕ) × (cond b (Some name) (look_up R es q) ≡ Some j)
   kept_case q k true e = (name, refl)
   kept_case q k false e = (k, e)
 
-  kept_at : (q k : List ℕ) → look_up (slice_cmp nat_cmp) es q ≡ Some k → (j : List ℕ) × (look_up (slice_cmp nat_cmp) (put_at es key name) q ≡ Some j)
-  kept_at q k e = let c = kept_case q k (eq_by_cmp (slice_cmp nat_cmp) q key) e in (c.0, at q ∙ c.1)
+  kept_at : (q : K) (k : List ℕ) → look_up R es q ≡ Some k → (j : List ℕ) × (look_up R (insert_entry R es key name) q ≡ Some j)
+  kept_at q k e = let c = kept_case q k (eq_by_cmp R q key) e in (c.0, at q ∙ c.1)
+
+-- the same at texts, and at names that imports begin with
+module _ (es : List (List ℕ × List ℕ)) (key name : List ℕ) where
+  abbrev text_told : (q k : List ℕ) → look_up text_order (insert_entry text_order es key name) q ≡ Some k → ((q ≡ key) × (k ≡ name)) ⊎ (look_up text_order es q ≡ Some k)
+  text_told = told_at text_order nat_list_cmp_total same_text es key name
+
+  abbrev text_here : look_up text_order (insert_entry text_order es key name) key ≡ Some name
+  text_here = here_at text_order nat_list_cmp_total same_text es key name
+
+  abbrev text_kept : (q k : List ℕ) → look_up text_order es q ≡ Some k → (j : List ℕ) × (look_up text_order (insert_entry text_order es key name) q ≡ Some j)
+  text_kept = kept_at text_order nat_list_cmp_total same_text es key name
+
+module _ (es : List (JsImportName × List ℕ)) (key : JsImportName) (name : List ℕ) where
+  abbrev import_told : (q : JsImportName) (k : List ℕ) → look_up import_order (insert_entry import_order es key name) q ≡ Some k → ((q ≡ key) × (k ≡ name)) ⊎ (look_up import_order es q ≡ Some k)
+  import_told = told_at import_order import_order_total import_same es key name
+
+  abbrev import_here : look_up import_order (insert_entry import_order es key name) key ≡ Some name
+  import_here = here_at import_order import_order_total import_same es key name
+
+  abbrev import_kept : (q : JsImportName) (k : List ℕ) → look_up import_order es q ≡ Some k → (j : List ℕ) × (look_up import_order (insert_entry import_order es key name) q ≡ Some j)
+  import_kept = kept_at import_order import_order_total import_same es key name
 
 none_in : (thing : Named) (name : List ℕ) → name_in no_names thing ≡ Some name → ⊥
 none_in (Class key) name e = none_is name e
@@ -115,25 +141,28 @@ none_in thing name e = none_is name e
 
 -- a name that is found is the one that was put, or was there
 told : (m : NameMap) (t u : Named) (name k : List ℕ) → name_in (put_name m t name) u ≡ Some k → ((u ≡ t) × (k ≡ name)) ⊎ (name_in m u ≡ Some k)
-told m (Class i) (Class j) name k e = elim (told_at m.classes i name j k e) [ inl p ↦ inl (ap Class p.0, p.1) | inr p ↦ inr p ]
-told m (Registry i) (Registry j) name k e = elim (told_at m.registries i name j k e) [ inl p ↦ inl (ap Registry p.0, p.1) | inr p ↦ inr p ]
-told m (Enum i) (Enum j) name k e = elim (told_at m.enums i name j k e) [ inl p ↦ inl (ap Enum p.0, p.1) | inr p ↦ inr p ]
-told m (Function i) (Function j) name k e = elim (told_at m.functions i name j k e) [ inl p ↦ inl (ap Function p.0, p.1) | inr p ↦ inr p ]
+told m (Class i) (Class j) name k e = elim (text_told m.classes i name j k e) [ inl p ↦ inl (ap Class p.0, p.1) | inr p ↦ inr p ]
+told m (Registry i) (Registry j) name k e = elim (text_told m.registries i name j k e) [ inl p ↦ inl (ap Registry p.0, p.1) | inr p ↦ inr p ]
+told m (Enum i) (Enum j) name k e = elim (text_told m.enums i name j k e) [ inl p ↦ inl (ap Enum p.0, p.1) | inr p ↦ inr p ]
+told m (Import i) (Import j) name k e = elim (import_told m.imports i name j k e) [ inl p ↦ inl (ap Import p.0, p.1) | inr p ↦ inr p ]
+told m (Function i) (Function j) name k e = elim (text_told m.functions i name j k e) [ inl p ↦ inl (ap Function p.0, p.1) | inr p ↦ inr p ]
 told m t u name k e = inr e
 
 -- a name that was put is found
 here : (m : NameMap) (t : Named) (name : List ℕ) → name_in (put_name m t name) t ≡ Some name
-here m (Class i) name = here_at m.classes i name
-here m (Registry i) name = here_at m.registries i name
-here m (Enum i) name = here_at m.enums i name
-here m (Function i) name = here_at m.functions i name
+here m (Class i) name = text_here m.classes i name
+here m (Registry i) name = text_here m.registries i name
+here m (Enum i) name = text_here m.enums i name
+here m (Import i) name = import_here m.imports i name
+here m (Function i) name = text_here m.functions i name
 
 -- what had a name has one
 kept : (m : NameMap) (t u : Named) (name k : List ℕ) → name_in m u ≡ Some k → (j : List ℕ) × (name_in (put_name m t name) u ≡ Some j)
-kept m (Class i) (Class j) name k e = kept_at m.classes i name j k e
-kept m (Registry i) (Registry j) name k e = kept_at m.registries i name j k e
-kept m (Enum i) (Enum j) name k e = kept_at m.enums i name j k e
-kept m (Function i) (Function j) name k e = kept_at m.functions i name j k e
+kept m (Class i) (Class j) name k e = text_kept m.classes i name j k e
+kept m (Registry i) (Registry j) name k e = text_kept m.registries i name j k e
+kept m (Enum i) (Enum j) name k e = text_kept m.enums i name j k e
+kept m (Import i) (Import j) name k e = import_kept m.imports i name j k e
+kept m (Function i) (Function j) name k e = text_kept m.functions i name j k e
 kept m t u name k e = (k, e)
 
 -- ---- all names in the maps

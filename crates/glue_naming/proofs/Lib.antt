@@ -1,5 +1,8 @@
 pub mod Arranged
 mod Draws
+mod Globals
+mod ImportOrder
 mod Kept
+mod Once
 pub mod Own
 mod Reserved

@@ -30,10 +30,12 @@ use Rattle.glue_naming.specs.declared.named.Named.TheVariants.{Function}
 use Rattle.glue_naming.specs.declared.named.Wanted.{Wanted}
 use Rattle.glue_naming.specs.Drawing.{AreKept, turn_names, name_in, map_of}
 use Rattle.glue_naming.specs.Given.{given_names, reserved_names}
+use Rattle.glue_naming.specs.Imported.{imports_wanted}
 use Rattle.glue_naming.specs.Naming.{AreNames, function_name, is_own_name}
 use Rattle.glue_naming.specs.Wanted.{enum_name, enum_key, class_names, function_names, function_wanted}
-use Rattle.glue_naming.proofs.Arranged.{moved_from, distinct_moved}
+use Rattle.glue_naming.proofs.Arranged.{moved_from, arranged_from, distinct_moved}
 use Rattle.glue_naming.proofs.Draws.{IsAt, stands, not_there}
+use Rattle.glue_naming.proofs.Globals.{none_asked}
 
 -- ---- functions of distinct names that are free identifiers
 
@@ -97,11 +99,13 @@ module _ (f : FileFlags) (s : Settings) (l : Lowered) (built : unbuilt f s l ≡
   only_functions_asked [] h = refl
   only_functions_asked (e ∷ es) h = let b = h e (inl refl) in rw (b.function, plain e b, only_functions_asked es (λ x i. h x (inr i))) refl
 
-  asked_alone : (classes : List AuxStruct) (enums : List (List ℕ)) (es : List AuxExport) → classes ≡ [] → enums ≡ [] → ((e : AuxExport) → IsIn e es → IsBuiltExport s l e)
-      → flat_map class_names classes ++ (map enum_name enums ++ flat_map function_names es) ≡ map function_wanted (names_of es)
-  asked_alone classes enums es no_classes none h =
-      ap (λ (xs : List AuxStruct). flat_map class_names xs ++ (map enum_name enums ++ flat_map function_names es)) no_classes
-      ∙ ap (λ (ks : List (List ℕ)). map enum_name ks ++ flat_map function_names es) none
+  asked_alone : (classes : List AuxStruct) (enums : List (List ℕ)) (imports : List Wanted) (es : List AuxExport) → classes ≡ [] → enums ≡ [] → imports ≡ []
+      → ((e : AuxExport) → IsIn e es → IsBuiltExport s l e)
+      → flat_map class_names classes ++ (map enum_name enums ++ (imports ++ flat_map function_names es)) ≡ map function_wanted (names_of es)
+  asked_alone classes enums imports es no_classes no_enums no_imports h =
+      ap (λ (xs : List AuxStruct). flat_map class_names xs ++ (map enum_name enums ++ (imports ++ flat_map function_names es))) no_classes
+      ∙ ap (λ (ks : List (List ℕ)). map enum_name ks ++ (imports ++ flat_map function_names es)) no_enums
+      ∙ ap (λ (ws : List Wanted). ws ++ flat_map function_names es) no_imports
       ∙ only_functions_asked es h
 
   module _ (m : NameMap) (n : AreNames s l m) where
@@ -120,7 +124,10 @@ module _ (f : FileFlags) (s : Settings) (l : Lowered) (built : unbuilt f s l ≡
     each_built e i = exports_built f s l built e (moved_from l.aux.exports asked_for n.wanted.by_debug.same e i)
 
     list_is : n.list ≡ map function_wanted keys
-    list_is = n.wanted.all ∙ asked_alone l.aux.structs n.wanted.enums asked_for (only_functions f s l built).structs no_enums each_built
+    list_is =
+        n.wanted.all
+        ∙ asked_alone l.aux.structs n.wanted.enums (imports_wanted s l n.wanted.pairs) asked_for (only_functions f s l built).structs no_enums
+        (none_asked f s l built passed n.wanted.pairs (λ pair k. arranged_from n.wanted.by_import pair k)) each_built
 
     distinct : AreDistinct keys
     distinct = distinct_moved bytes_eq bytes_eq-Decides (names_of l.aux.exports) keys

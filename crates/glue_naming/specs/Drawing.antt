@@ -10,11 +10,11 @@ use Rattle.glue_scope.specs.Scope.{AreDrawn}
 use Rattle.glue_shared.specs.declared.name_map.NameMap.{NameMap}
 use Rattle.glue_shared.specs.NameMap.{no_names}
 use Rattle.glue_naming.specs.declared.named.Named.{Named}
-use Rattle.glue_naming.specs.declared.named.Named.TheVariants.{Class, Registry, Enum, Function}
+use Rattle.glue_naming.specs.declared.named.Named.TheVariants.{Class, Registry, Enum, Import, Function}
 use Rattle.glue_naming.specs.declared.named.WantedName.{WantedName}
 use Rattle.glue_naming.specs.declared.named.WantedName.TheVariants.{Plain, After}
 use Rattle.glue_naming.specs.declared.named.Wanted.{Wanted}
-use Rattle.glue_naming.specs.Arranged.{text_order}
+use Rattle.glue_naming.specs.Arranged.{import_order, text_order}
 
 -- ---- the names that are wanted
 
@@ -38,22 +38,20 @@ AreKept bound (wanted ∷ others) (name ∷ names) =
 
 -- ---- the maps
 
--- a map with one name more
-abbrev pub put_at : List (List ℕ × List ℕ) → List ℕ → List ℕ → List (List ℕ × List ℕ)
-put_at entries key name = insert_entry text_order entries key name
-
 -- the maps with the name of one thing more
 abbrev pub put_name : NameMap → Named → List ℕ → NameMap
-put_name m (Class key) name = record m { classes = put_at m.classes key name }
-put_name m (Registry key) name = record m { registries = put_at m.registries key name }
-put_name m (Enum key) name = record m { enums = put_at m.enums key name }
-put_name m (Function key) name = record m { functions = put_at m.functions key name }
+put_name m (Class key) name = record m { classes = insert_entry text_order m.classes key name }
+put_name m (Registry key) name = record m { registries = insert_entry text_order m.registries key name }
+put_name m (Enum key) name = record m { enums = insert_entry text_order m.enums key name }
+put_name m (Import key) name = record m { imports = insert_entry import_order m.imports key name }
+put_name m (Function key) name = record m { functions = insert_entry text_order m.functions key name }
 
 -- the name that a thing was given
 abbrev pub name_in : NameMap → Named → Option (List ℕ)
 name_in m (Class key) = look_up text_order m.classes key
 name_in m (Registry key) = look_up text_order m.registries key
 name_in m (Enum key) = look_up text_order m.enums key
+name_in m (Import key) = look_up import_order m.imports key
 name_in m (Function key) = look_up text_order m.functions key
 
 -- the maps with the names of a list's things

@@ -1,5 +1,5 @@
 -- Names that no drawn one may be: those that the glue file may not declare as they are, and those that others give to what it declares.
-use Rattle.std.specs.Prelude.{ℕ, List, [], ◌∷◌, ◌++◌, Option, Some, None, map, codes, slice_get, if◌then◌else◌}
+use Rattle.std.specs.Prelude.{ℕ, List, [], ◌∷◌, ◌++◌, Option, Some, map, codes, slice_get, if◌then◌else◌}
 use Rattle.std.specs.List.{flat_map}
 use Rattle.values.specs.TextSet.{TextSet, with_texts}
 use Rattle.wasm_core.specs.entries.Export.{Export}

@@ -3,10 +3,12 @@ use Rattle.std.specs.Prelude.{◌≡◌, ℕ, List, [], ◌∷◌, ◌++◌, map
 use Rattle.std.specs.List.{flat_map}
 use Rattle.std.specs.Ordering.{nat_cmp, ordering_then}
 use Rattle.std.specs.declared.cmp.Ordering.{Ordering}
+use Rattle.wasm_core.specs.ids.ImportId.{ImportId}
 use Rattle.glue_shared.specs.declared.aux.AuxEnum.{AuxEnum}
 use Rattle.glue_shared.specs.declared.aux.AuxExport.{AuxExport}
 use Rattle.glue_shared.specs.declared.aux.AuxStruct.{AuxStruct}
-use Rattle.glue_shared.specs.declared.aux.WasmBindgenAux.{WasmBindgenAux}
+use Rattle.glue_shared.specs.declared.description.Lowered.{Lowered}
+use Rattle.glue_shared.specs.declared.settings.Settings.{Settings}
 use Rattle.glue_shared.specs.Paths.{qualified_name}
 use Rattle.glue_check.specs.Publishing.{qualified}
 use Rattle.glue_check.specs.Unbuilt.{is_function_kind}
@@ -14,6 +16,8 @@ use Rattle.glue_naming.specs.declared.named.Named.TheVariants.{Class, Registry, 
 use Rattle.glue_naming.specs.declared.named.WantedName.TheVariants.{Plain, After}
 use Rattle.glue_naming.specs.declared.named.Wanted.{Wanted}
 use Rattle.glue_naming.specs.Arranged.{IsArranged, text_order}
+use Rattle.glue_naming.specs.Imported.{imports_wanted}
+use Rattle.glue_naming.specs.Pairs.{pair_order}
 
 -- the qualified name of a class, and of an enum
 abbrev pub class_key : AuxStruct → List ℕ
@@ -45,10 +49,13 @@ function_names e = if is_function_kind e.kind then function_wanted (qualified e)
 abbrev pub debug_order : AuxExport → AuxExport → Ordering
 debug_order a b = ordering_then (text_order a.debug b.debug) (nat_cmp a.adapter b.adapter)
 
--- classes as they are described, each with its registry, enums by qualified name, and functions by debug name and then by id
-pub record AreWanted (aux : WasmBindgenAux) (list : List Wanted) : Type 0 where
+-- classes as they are described, each with its registry, enums by qualified name, what own imports call by the import's name and then by
+-- the adapter's id, and functions by debug name and then by id
+pub record AreWanted (s : Settings) (l : Lowered) (list : List Wanted) : Type 0 where
   pub enums : List (List ℕ)
-  pub by_name : IsArranged text_order (map enum_key aux.enums) enums
+  pub by_name : IsArranged text_order (map enum_key l.aux.enums) enums
+  pub pairs : List (ImportId × ℕ)
+  pub by_import : IsArranged (pair_order l) l.wit.implements pairs
   pub functions : List AuxExport
-  pub by_debug : IsArranged debug_order aux.exports functions
-  pub all : list ≡ flat_map class_names aux.structs ++ (map enum_name enums ++ flat_map function_names functions)
+  pub by_debug : IsArranged debug_order l.aux.exports functions
+  pub all : list ≡ flat_map class_names l.aux.structs ++ (map enum_name enums ++ (imports_wanted s l pairs ++ flat_map function_names functions))

@@ -4,9 +4,11 @@ ghost use Rattle.std.specs.List.{flat_map};
 ghost use Rattle.glue_naming.specs.Arranged.{IsArranged, text_order};
 ghost use Rattle.glue_naming.specs.Wanted as spec;
 
+use crate::imported::push_imports;
 use crate::named::{Named, Wanted, WantedName};
+use crate::pairs::pairs_by_import;
 use glue_check::{is_function_kind, qualified, qualified_name};
-use glue_shared::{AuxEnum, AuxExport, AuxStruct, WasmBindgenAux};
+use glue_shared::{AuxEnum, AuxExport, AuxStruct, Lowered, Settings};
 use std::alloc::{AllocError, Global};
 use std::cmp::Ordering;
 use values::{Duplicate, Seq, Text};
@@ -132,15 +134,21 @@ fn push_functions(
     Ok(())
 }
 
-/// The names that are asked for by what stands beside the adapters. Want of memory is the only error.
-pub fn wanted(alloc: Global, aux: &WasmBindgenAux) -> Result<Seq<Wanted>, AllocError>
-    ensures wanted { IfOk result (λ list. spec.AreWanted aux.now list) }
+/// The names that settings and a description ask for, in the order in which they are drawn. Want of memory is the only error.
+pub fn wanted(
+    alloc: Global,
+    settings: &Settings,
+    lowered: &Lowered,
+) -> Result<Seq<Wanted>, AllocError>
+    ensures wanted { IfOk result (λ list. spec.AreWanted settings.now lowered.now list) }
 {
-    let enums = enums_by_name(alloc, aux.enums.as_slice())?;
-    let functions = exports_by_debug(alloc, aux.exports.as_slice())?;
+    let enums = enums_by_name(alloc, lowered.aux.enums.as_slice())?;
+    let pairs = pairs_by_import(alloc, lowered)?;
+    let functions = exports_by_debug(alloc, lowered.aux.exports.as_slice())?;
     let mut list = Seq::new(alloc);
-    push_classes(alloc, aux.structs.as_slice(), &mut list)?;
+    push_classes(alloc, lowered.aux.structs.as_slice(), &mut list)?;
     push_enums(alloc, enums.as_slice(), &mut list)?;
+    push_imports(alloc, settings, lowered, pairs.as_slice(), &mut list)?;
     push_functions(alloc, functions.as_slice(), &mut list)?;
     Ok(list)
 }

@@ -2,14 +2,18 @@
 //!
 //! A name that no drawn one may be is bound first (`reserved_names` in `specs/Given.antt`): names of the outside, names that helpers
 //! and texts of targets bind, and names that are given by others. Then one name is drawn for each thing in turn (`AreWanted` in
-//! `specs/Wanted.antt`): classes as they are described, each with its registry, enums by qualified name, and functions by debug name
-//! and then by their adapter's id. What is one more kind is one more list of `AreWanted`. Names of imports, which come behind those of
-//! enums, and of re-exports, of `inspect` on Node and of namespaces, which come behind those of functions, aren't drawn: no description
-//! that is built has any.
+//! `specs/Wanted.antt`): classes as they are described, each with its registry, enums by qualified name, imports, and functions by debug
+//! name and then by their adapter's id. Of imports, those draw a name that begin with a module's export or a vendor's name
+//! (`imports_wanted` in `specs/Imported.antt`): each once, over what the adapters of own imports call, by the import's name and then by
+//! the adapter's id (`pair_order` in `specs/Pairs.antt`). A direct import is its name itself (`handed_imports`), and a global goes by its own. What is one
+//! more kind is one more list of `AreWanted`. Names of re-exports, of `inspect` on Node and of namespaces, which come behind those of
+//! functions, aren't drawn: no description that is built has any.
 //!
 //! Promised of `draw_names` (`names`, by the record `AreNames` in `specs/Naming.antt`): the maps have the names that any scope
 //! (`glue_scope::Names`) draws for that list; each is an identifier and none that is reserved, and two things have two names
-//! (`AreGood` in `specs/Drawing.antt`). And (`own`): each exported function of a description that is checked draws its own name.
+//! (`AreGood` in `specs/Drawing.antt`). And (`own`): each exported function of a description that is checked draws its own name; of
+//! imports it draws none, since all that they begin with are globals (`proofs/Globals.antt`). `function_name` and `import_name` read the
+//! maps. `pairs_by_import` (`sorted`) gives the pairs in the order in which imports are named, and defined in the crate above.
 //!
 //! Stands on `glue_check`, `glue_scope`, `glue_words`, `glue_shared` and `wasm_core`. It knows no item.
 #![tactic(auto)]
@@ -17,12 +21,17 @@
 mod asked;
 mod drawing;
 mod given;
+mod handed;
+mod imported;
 mod named;
 mod naming;
+mod pairs;
 #[cfg(test)]
 mod tests;
 
 pub use asked::wanted;
 pub use drawing::name_all;
+pub use handed::handed_imports;
 pub use named::{Named, Wanted, WantedName, name_in};
-pub use naming::{draw_names, function_name, names_of};
+pub use naming::{draw_names, function_name, import_name, names_of};
+pub use pairs::{own_pairs_by_import, pairs_by_import};

@@ -1,19 +1,22 @@
 //! What names are drawn for, and how they are kept.
-ghost use Rattle.std.specs.Prelude.{◌≡◌, OnOk};
+ghost use Rattle.std.specs.Prelude.{◌≡◌, IfOk, OnOk};
+ghost use Rattle.std.specs.BTreeMap.{insert_entry};
 ghost use Rattle.std.specs.Option.{option_copied};
 ghost use Rattle.glue_naming.specs.Drawing as spec;
 
-use glue_shared::NameMap;
+use glue_shared::{JsImportName, NameMap};
 use std::alloc::{AllocError, Global};
 use values::{Duplicate, Map, Text};
 
-/// What a name is drawn for, by its qualified name.
+/// What a name is drawn for: what is declared by its qualified name, and what is imported by the name that it begins with.
 #[derive(Debug, Drop)]
 pub enum Named {
     Class(Text),
     /// The registry of finalizers of the class of this name.
     Registry(Text),
     Enum(Text),
+    /// The export of a module, or the constant that a vendor's name becomes. For a global no name is drawn.
+    Import(JsImportName),
     Function(Text),
 }
 
@@ -33,16 +36,46 @@ pub struct Wanted {
     pub name: WantedName,
 }
 
-// Keeps a name at a key.
-fn put_at(
+/// A copy of the name that an import begins with. Want of memory is the only error.
+pub(crate) fn copied_import(
     alloc: Global,
-    map: &mut Map<Text, Text>,
-    key: &Text,
-    name: Text,
-) -> Result<(), AllocError>
-    ensures put { OnOk result (map.new ≡ spec.put_at map.old key.now name) }
+    import: &JsImportName,
+) -> Result<JsImportName, AllocError>
+    ensures equal { IfOk result (λ copy. copy ≡ import.now) }
 {
-    drop(map.insert(key.copy(alloc)?, name)?);
+    match import {
+        JsImportName::Global { name } => Ok(JsImportName::Global {
+            name: name.copy(alloc)?,
+        }),
+        JsImportName::Module { module, name } => Ok(JsImportName::Module {
+            module: module.copy(alloc)?,
+            name: name.copy(alloc)?,
+        }),
+        JsImportName::LocalModule { module, name } => Ok(JsImportName::LocalModule {
+            module: module.copy(alloc)?,
+            name: name.copy(alloc)?,
+        }),
+        JsImportName::InlineJs {
+            crate_name,
+            index,
+            name,
+        } => Ok(JsImportName::InlineJs {
+            crate_name: crate_name.copy(alloc)?,
+            index: *index,
+            name: name.copy(alloc)?,
+        }),
+        JsImportName::VendorPrefixed { name, prefixes } => Ok(JsImportName::VendorPrefixed {
+            name: name.copy(alloc)?,
+            prefixes: prefixes.copy(alloc)?,
+        }),
+    }
+}
+
+// Keeps a name at a key.
+fn put_at<K: Ord + Drop>(map: &mut Map<K, Text>, key: K, name: Text) -> Result<(), AllocError>
+    ensures put { OnOk result (map.new ≡ insert_entry K.cmp map.old key name) }
+{
+    drop(map.insert(key, name)?);
     Ok(())
 }
 
@@ -56,10 +89,11 @@ pub(crate) fn put_name(
     ensures put { OnOk result (map.new ≡ spec.put_name map.old thing.now name) }
 {
     match thing {
-        Named::Class(key) => put_at(alloc, &mut map.classes, key, name),
-        Named::Registry(key) => put_at(alloc, &mut map.registries, key, name),
-        Named::Enum(key) => put_at(alloc, &mut map.enums, key, name),
-        Named::Function(key) => put_at(alloc, &mut map.functions, key, name),
+        Named::Class(key) => put_at(&mut map.classes, key.copy(alloc)?, name),
+        Named::Registry(key) => put_at(&mut map.registries, key.copy(alloc)?, name),
+        Named::Enum(key) => put_at(&mut map.enums, key.copy(alloc)?, name),
+        Named::Import(key) => put_at(&mut map.imports, copied_import(alloc, key)?, name),
+        Named::Function(key) => put_at(&mut map.functions, key.copy(alloc)?, name),
     }
 }
 
@@ -71,6 +105,7 @@ pub fn name_in<'a>(map: &'a NameMap, thing: &Named) -> Option<&'a Text>
         Named::Class(key) => map.classes.get(key),
         Named::Registry(key) => map.registries.get(key),
         Named::Enum(key) => map.enums.get(key),
+        Named::Import(key) => map.imports.get(key),
         Named::Function(key) => map.functions.get(key),
     }
 }

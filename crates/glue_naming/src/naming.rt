@@ -10,7 +10,7 @@ use crate::given::reserved_scope;
 use crate::named::{Named, name_in};
 use glue_check::{Checked, qualified};
 use glue_scope::Names;
-use glue_shared::{AuxExport, Lowered, NameMap, Settings};
+use glue_shared::{AuxExport, JsImportName, Lowered, NameMap, Settings};
 use std::alloc::{AllocError, Global};
 use values::Text;
 
@@ -22,7 +22,7 @@ pub fn names_of<N: Names>(
 ) -> Result<NameMap, AllocError>
     ensures names { IfOk result (λ map. spec.AreNames settings.now lowered.now map) }
 {
-    let list = wanted(alloc, &lowered.aux)?;
+    let list = wanted(alloc, settings, lowered)?;
     let scope: N = reserved_scope(alloc, settings, lowered)?;
     name_all(alloc, scope, list.as_slice())
 }
@@ -45,4 +45,12 @@ pub fn function_name<'a>(
 {
     let thing = Named::Function(qualified(alloc, export)?);
     Ok(name_in(map, &thing))
+}
+
+/// The name that stands for what an import begins with: that of a module's export, or of the constant that a vendor's name becomes.
+/// None where none was drawn, as for a global.
+pub fn import_name<'a>(map: &'a NameMap, name: &JsImportName) -> Option<&'a Text>
+    ensures name { option_copied result ≡ spec.import_name map.now name.now }
+{
+    map.imports.get(name)
 }

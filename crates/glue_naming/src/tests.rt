@@ -1,4 +1,6 @@
 //! Names of a few things, drawn where a few names are taken.
+mod imports;
+
 use crate::drawing::name_all;
 use crate::named::{Named, Wanted, WantedName, name_in};
 use glue_scope::{IdentScope, Names};

@@ -110,7 +110,7 @@ const REFUSED: &[(&str, &str)] = &[
         "fault Parse\n",
     ),
     // A shared memory, an imported function that is exported and that nothing describes, two exports of one name, an
-    // import of another module.
+    // imported memory.
     ("0061736d01000000050401030101", "fault Threads\n"),
     (
         "0061736d0100000001050160017f00022001185f5f7762696e6467656e5f706c616365686f6c6465725f5f036c6f670000070701036c6f670000",
@@ -121,7 +121,7 @@ const REFUSED: &[(&str, &str)] = &[
         "fault NameClash\n",
     ),
     (
-        "0061736d0100000001050160017f0002090103656e760174000007050101740000",
+        "0061736d01000000020a0103656e76016d020001070501016d0200",
         "fault NotBuilt\n",
     ),
     // Another version, a version that is a text, none, no JSON, no UTF-8, and another version beside an import.

@@ -40,7 +40,7 @@ act Unchanged args stack trace answers = pushes (top Null stack ∷ below stack)
 act (CallExport name n has_result) args stack trace answers =
     goes_on (step (Calls (OfExport name) (operands Null n stack [])) trace answers) (λ v.
     pushes (after_call has_result v (without n stack)))
-act (CallImport adapter n has_result parts) args stack trace answers =
+act (CallImport adapter n has_result expression) args stack trace answers =
     goes_on (step (CallsAdapter adapter (operands Null n stack [])) trace answers) (λ v.
     pushes (after_call has_result v (without n stack)))
 act ToUnsigned args stack trace answers = pushes (unsigned (top Null stack) ∷ below stack) trace answers

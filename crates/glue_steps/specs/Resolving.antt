@@ -16,7 +16,7 @@ use Rattle.glue_shared.specs.declared.adapter.Instruction.TheVariants as instr
 use Rattle.glue_shared.specs.declared.import.AuxImport.{AuxImport}
 use Rattle.glue_shared.specs.declared.description.Lowered.{Lowered}
 use Rattle.glue_shared.specs.Names.{has_number}
-use Rattle.glue_imports.specs.declared.part.Part.{Part}
+use Rattle.glue_imports.specs.declared.part.Expression.{Expression}
 use Rattle.glue_imports.specs.Expressions.{expression}
 use Rattle.glue_steps.specs.declared.step.Step.{Step}
 use Rattle.glue_steps.specs.declared.step.Step.TheVariants as steps
@@ -52,9 +52,9 @@ call_of m name (items.Tag tag) = None
 abbrev pub export_step : Contents → ℕ → Option Step
 export_step m id = option_and_then (λ (e : Export). call_of m e.name e.item) (entry_at m.exports id)
 
--- the call of an import adapter of these parts
-abbrev pub parts_step : ℕ → Adapter → List Part → Step
-parts_step id a parts = steps.CallImport id (length a.args) (is_some_item a.results) parts
+-- the call of an import adapter of this expression
+abbrev pub expression_step : ℕ → Adapter → Expression → Step
+expression_step id a e = steps.CallImport id (length a.args) (is_some_item a.results) e
 
 -- the last argument of the import adapter is spread
 abbrev pub is_spread : Lowered → ℕ → Bool
@@ -62,7 +62,7 @@ is_spread l id = has_number id l.aux.imports_with_variadic
 
 -- the call of an import adapter that is called in this way, by what it is described as
 abbrev pub import_step_of : Lowered → ℕ → Adapter → AdapterJsImportKind → AuxImport → Option Step
-import_step_of l id a call what = option_map (parts_step id a) (expression call (is_spread l id) (is_some_item a.results) what)
+import_step_of l id a call what = option_map (expression_step id a) (expression call (is_spread l id) (is_some_item a.results) what)
 
 -- what the description says of an import adapter
 abbrev pub described_import : List (ℕ × AuxImport) → ℕ → Option AuxImport

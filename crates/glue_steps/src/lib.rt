@@ -6,7 +6,7 @@
 //! stack of operands, with a trace of all that it does to the outside. `specs/Exported.antt` has the names under which a module exports,
 //! of which a call names one.
 //!
-//! Stands on `wasm_core`, `glue_shared`, `glue_imports` and `values`. It draws no names, and of an import's text it knows that it has parts.
+//! Stands on `wasm_core`, `glue_shared`, `glue_imports` and `values`. It draws no names, and of an import's text it knows nothing.
 #![tactic(auto)]
 
 mod indexed;

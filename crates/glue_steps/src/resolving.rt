@@ -5,7 +5,7 @@ ghost use Rattle.glue_steps.specs.Resolving as spec;
 
 use crate::indexed::Indexed;
 use crate::step::Step;
-use glue_imports::{Part, expression};
+use glue_imports::{Expression, expression};
 use glue_shared::{Adapter, AdapterId, AdapterJsImportKind, AdapterKind, AuxImport, Instruction};
 use std::alloc::{AllocError, Global};
 use values::{Duplicate, Seq, Text};
@@ -53,15 +53,15 @@ fn export_step(alloc: Global, module: &Module, id: ExportId) -> Result<Option<St
     }
 }
 
-// The call of an import adapter of these parts.
-fn parts_step(id: AdapterId, adapter: &Adapter, parts: Seq<Part>) -> Step
-    ensures step { result ≡ spec.parts_step id adapter.now parts }
+// The call of an import adapter of this expression.
+fn expression_step(id: AdapterId, adapter: &Adapter, expression: Expression) -> Step
+    ensures step { result ≡ spec.expression_step id adapter.now expression }
 {
     Step::CallImport {
         adapter: id.0,
         params: adapter.args.len(),
         has_result: !adapter.results.is_empty(),
-        parts,
+        expression,
     }
 }
 
@@ -79,7 +79,7 @@ fn described_step(
     let has_result = !adapter.results.is_empty();
     match expression(alloc, call, indexed.is_spread(id), has_result, import)? {
         None => Ok(None),
-        Some(parts) => Ok(Some(parts_step(id, adapter, parts))),
+        Some(expression) => Ok(Some(expression_step(id, adapter, expression))),
     }
 }
 

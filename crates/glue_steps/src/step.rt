@@ -1,6 +1,6 @@
 //! The steps of an adapter.
-use glue_imports::Part;
-use values::{Seq, Text};
+use glue_imports::Expression;
+use values::Text;
 
 /// A step of an adapter, with what its ids name.
 #[derive(Drop)]
@@ -26,8 +26,8 @@ pub enum Step {
         params: usize,
         /// Whether it has a result, which is pushed.
         has_result: bool,
-        /// The parts of the import's expression.
-        parts: Seq<Part>,
+        /// The import's expression.
+        expression: Expression,
     },
     /// Reads the newest operand, a 32-bit integer from WebAssembly, as unsigned.
     ToUnsigned,

@@ -1,4 +1,4 @@
--- What the fixed texts of Deno hold and publish, and where they fit, whatever the stem is.
+-- What the fixed texts of Deno but the frame's end hold and publish, and where they fit, whatever the stem is.
 use Rattle.std.proofs.Common.{◌≡◌, ℕ, inl, inr, Bool, List, [], ◌∷◌, ◌++◌, refl, true, false, ap, subst}
 use Rattle.std.specs.Prelude.{codes, is_ok}
 use Rattle.values.specs.Lists.{IsIn}
@@ -19,7 +19,7 @@ use Rattle.glue_shared.specs.declared.settings.Target.{Target}
 use Rattle.glue_shared.specs.declared.settings.Target.TheVariants as target
 use Rattle.glue_targets.specs.declared.deno.TheConstants as deno
 use Rattle.glue_targets.specs.Published.{is_exported, published_by, fixed_by, texts_of, IsAssigned}
-use Rattle.glue_targets.specs.Targets.{FixedText, file_names, frame_start, frame_end, loading_item, frame_texts}
+use Rattle.glue_targets.specs.Targets.{FixedText, file_names, frame_start, loading_item, frame_texts}
 use Rattle.glue_targets.specs.Targets.{loading_texts}
 
 -- ---- the texts are read
@@ -27,6 +27,14 @@ use Rattle.glue_targets.specs.Targets.{loading_texts}
 pub start_reads : is_ok (read_marked deno.FRAME_START.now) ≡ true
 unfolding reading
 start_reads = refl
+
+pub modules_read : is_ok (read_marked deno.FRAME_MODULES.now) ≡ true
+unfolding reading
+modules_read = refl
+
+pub module_reads : is_ok (read_marked deno.FRAME_MODULE.now) ≡ true
+unfolding reading
+module_reads = refl
 
 pub end_reads : is_ok (read_marked deno.FRAME_END.now) ≡ true
 unfolding reading
@@ -69,18 +77,6 @@ module _ (stem : List ℕ) where
   unfolding reading
   start_hosted = refl
 
-  pub end_bound : bound_in (frame_end stem).words ≡ []
-  unfolding reading
-  end_bound = refl
-
-  pub end_used : used_in (frame_end stem).words ≡ codes "import0" ∷ []
-  unfolding reading
-  end_used = refl
-
-  pub end_hosted : hosted_in (frame_end stem).words ≡ []
-  unfolding reading
-  end_hosted = refl
-
   pub loading_bound : (starts : Bool) → bound_in (loading_item stem starts).words
       ≡ codes "wasmUrl" ∷ codes "wasmInstantiated" ∷ codes "wasmInstance" ∷ codes "wasm" ∷ []
   unfolding reading
@@ -117,17 +113,6 @@ module _ (stem : List ℕ) where
   unfolding reading
   start_fixed = refl
 
-  pub end_exported : is_exported (frame_end stem) ≡ false
-  unfolding reading
-  end_exported = refl
-
-  pub end_publishes : published_by (frame_end stem) ≡ []
-  end_publishes = refl
-
-  pub end_fixed : fixed_by (frame_end stem) ≡ []
-  unfolding reading
-  end_fixed = refl
-
   pub loading_exported : (starts : Bool) → is_exported (loading_item stem starts) ≡ false
   unfolding reading
   loading_exported false = refl
@@ -141,10 +126,10 @@ module _ (stem : List ℕ) where
   loading_fixed false = refl
   loading_fixed true = refl
 
-frame_assigns : (t : Target) (stem : List ℕ) (text : FixedText) → t ≡ target.Deno → IsIn text (frame_texts t stem)
-    → text.assigns ≡ []
-frame_assigns t stem text e h =
-    elim (subst (λ (u : Target). IsIn text (frame_texts u stem)) e h) [
+frame_assigns : (t : Target) (stem : List ℕ) (modules : List (List ℕ)) (text : FixedText) → t ≡ target.Deno
+    → IsIn text (frame_texts t stem modules) → text.assigns ≡ []
+frame_assigns t stem modules text e h =
+    elim (subst (λ (u : Target). IsIn text (frame_texts u stem modules)) e h) [
       | inl same ↦ ap (λ (x : FixedText). x.assigns) same
       | inr (inl same) ↦ ap (λ (x : FixedText). x.assigns) same
       | inr (inr none) ↦ absurd none
@@ -159,16 +144,16 @@ loading_assigns t stem text e h =
       | inr (inr none) ↦ absurd none
     ]
 
-text_assigns : (s : Settings) (r : Role) (text : FixedText) → s.target ≡ target.Deno → IsIn text (texts_of s r)
-    → text.assigns ≡ []
-text_assigns s role.Fixed text e h = frame_assigns s.target s.stem text e h
-text_assigns s role.Loading text e h = loading_assigns s.target s.stem text e h
-text_assigns s r text e h = absurd h
+text_assigns : (s : Settings) (modules : List (List ℕ)) (r : Role) (text : FixedText) → s.target ≡ target.Deno
+    → IsIn text (texts_of s modules r) → text.assigns ≡ []
+text_assigns s modules role.Fixed text e h = frame_assigns s.target s.stem modules text e h
+text_assigns s modules role.Loading text e h = loading_assigns s.target s.stem text e h
+text_assigns s modules r text e h = absurd h
 
 -- no text of Deno publishes a name otherwise than by an export clause
 pub nothing_assigned : (s : Settings) (items : List Item) (name : List ℕ) → s.target ≡ target.Deno
     → IsAssigned s items name → ⊥
-nothing_assigned s items name e a = subst (IsIn name) (text_assigns s a.item.role a.text e a.known) a.assigns
+nothing_assigned s items name e a = subst (IsIn name) (text_assigns s a.modules a.item.role a.text e a.known) a.assigns
 
 -- ---- they fit where the names that they use are declared, and those of the host and the exports that they take known
 
@@ -178,12 +163,6 @@ module _ (c : Context) (stem : List ℕ) where
   start_fits =
       renamed_text_fits c (words_in deno.FRAME_START.now) [] (file_names stem) refl
       (record { idents = refl; no_locals = tt; no_module = tt; marked = refl }) tt tt tt
-
-  pub end_fits : IsIn (codes "import0") c.declared → Fits c (facts (frame_end stem).words)
-  unfolding reading
-  end_fits object =
-      renamed_text_fits c (words_in deno.FRAME_END.now) [] (file_names stem) refl
-      (record { idents = refl; no_locals = tt; no_module = tt; marked = refl }) (object, tt) tt tt
 
   pub loading_fits : (starts : Bool) → AreAmong (loading_uses starts) c.declared
       → AreAmong (codes "URL" ∷ codes "WebAssembly" ∷ codes "fetch" ∷ []) c.hosts

@@ -56,21 +56,21 @@ is_nil [] = true
 is_nil (x ∷ xs) = false
 
 module _ (settings : Settings) where
-  reexported_right : is_one_of (codes "ns1.inner ||= {};\n") (role_words settings false (reexported_root ∷ []) inner [])
+  reexported_right : is_one_of (codes "ns1.inner ||= {};\n") (role_words settings false [] (reexported_root ∷ []) inner [])
       ≡ true
   unfolding spelling
   reexported_right = refl
 
-  reexported_refused : is_one_of (codes "ns1.inner = {};\n") (role_words settings false (reexported_root ∷ []) inner [])
+  reexported_refused : is_one_of (codes "ns1.inner = {};\n") (role_words settings false [] (reexported_root ∷ []) inner [])
       ≡ false
   unfolding spelling
   reexported_refused = refl
 
-  own_right : is_one_of (codes "ns.inner = {};\n") (role_words settings false (own_root ∷ []) inner []) ≡ true
+  own_right : is_one_of (codes "ns.inner = {};\n") (role_words settings false [] (own_root ∷ []) inner []) ≡ true
   unfolding spelling
   own_right = refl
 
-  own_refused : is_one_of (codes "ns.inner ||= {};\n") (role_words settings false (own_root ∷ []) inner []) ≡ false
+  own_refused : is_one_of (codes "ns.inner ||= {};\n") (role_words settings false [] (own_root ∷ []) inner []) ≡ false
   unfolding spelling
   own_refused = refl
 
@@ -372,11 +372,11 @@ script_refused settings global e = rw e (inr (inr (inr (inr (inr (inl refl))))))
 -- ---- an assignment is one to a property
 
 assigned_root_refused : (settings : Settings) → is_one_of (codes "ns = f;\n")
-    (role_words settings false (own_root ∷ []) (role.Assign (codes "ns" ∷ []) thing.Reset (codes "f")) []) ≡ false
+    (role_words settings false [] (own_root ∷ []) (role.Assign (codes "ns" ∷ []) thing.Reset (codes "f")) []) ≡ false
 assigned_root_refused settings = refl
 
 assigned_right : (settings : Settings) → is_one_of (codes "ns.f = f1;\n")
-    (role_words settings false (own_root ∷ []) (role.Assign (codes "ns" ∷ codes "f" ∷ []) thing.Reset (codes "f1")) [])
+    (role_words settings false [] (own_root ∷ []) (role.Assign (codes "ns" ∷ codes "f" ∷ []) thing.Reset (codes "f1")) [])
     ≡ true
 unfolding spelling
 assigned_right settings = refl

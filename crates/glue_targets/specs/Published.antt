@@ -149,19 +149,20 @@ fixed_by item = fixed_of item.role (is_exported item) item.words
 abbrev pub fixed_published : List Item → List (List ℕ)
 fixed_published items = flat_map fixed_by items
 
--- the texts that an item of a role may be
-abbrev pub texts_of : Settings → Role → List FixedText
-texts_of settings role.Fixed = frame_texts settings.target settings.stem
-texts_of settings role.Loading =
+-- the texts that an item of a role may be, where imports come from these modules too
+abbrev pub texts_of : Settings → List (List ℕ) → Role → List FixedText
+texts_of settings modules role.Fixed = frame_texts settings.target settings.stem modules
+texts_of settings modules role.Loading =
     loading_texts settings.target settings.stem false ++ loading_texts settings.target settings.stem true
-texts_of settings role = []
+texts_of settings modules role = []
 
 -- an item is a fixed text that publishes a name otherwise than by an export clause
 pub record IsAssigned (settings : Settings) (items : List Item) (name : List ℕ) : Type 0 where
   pub item : Item
   pub stands : IsIn item items
+  pub modules : List (List ℕ)
   pub text : FixedText
-  pub known : IsIn text (texts_of settings item.role)
+  pub known : IsIn text (texts_of settings modules item.role)
   pub same : item.words ≡ text.words
   pub assigns : IsIn name text.assigns
 

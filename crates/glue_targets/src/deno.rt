@@ -1,7 +1,7 @@
 //! The fixed texts of Deno, in the marked notation of `glue_marked`.
 //!
-//! Two texts stand for names of files: `$module` for the path of the module that own imports come from, and `$file` for
-//! the name of the WebAssembly file.
+//! Two texts stand for others: `$module` for the path of a module that imports come from, and `$file` for the name of the
+//! WebAssembly file. The name `$import` stands for the one that such a module has.
 
 /// The frame of imports up to the first member: a function that answers the imports, and their object.
 pub const FRAME_START: &str = "\
@@ -10,12 +10,20 @@ const b@import0 = {
 p@__proto__: null,
 ";
 
-/// The frame from the end of the members on: the module that the members are given to.
-pub const FRAME_END: &str = "\
+/// The frame from the end of the members on, up to the modules that imports come from.
+pub const FRAME_MODULES: &str = "\
 };
 return {
 p@__proto__: null,
-\"$module\": u@import0,
+";
+
+/// A module that imports come from.
+pub const FRAME_MODULE: &str = "\
+\"$module\": u@$import,
+";
+
+/// The frame from the end of these modules on.
+pub const FRAME_END: &str = "\
 };
 }
 ";

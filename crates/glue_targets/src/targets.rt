@@ -10,7 +10,7 @@ use glue_marked::{renamed_words, shipped};
 use glue_shared::Settings;
 use glue_words::{Item, Role, Word};
 use std::alloc::{AllocError, Global};
-use values::{Seq, Text};
+use values::{Duplicate, Seq, Text};
 
 // The stem between two texts.
 fn file_name_of(alloc: Global, before: &str, stem: &str, after: &str) -> Result<Text, AllocError>
@@ -28,15 +28,11 @@ fn fixed_words(alloc: Global, stem: &str, text: &str) -> Result<Seq<Word>, Alloc
     ensures words { IfOk result (λ words. words ≡ spec.fixed_words stem.now text.now) }
 {
     let words = shipped(alloc, text)?;
-    let path = (
-        Text::from_str(alloc, "$module")?,
-        file_name_of(alloc, "./", stem, "_bg.js")?,
-    );
     let file = (
         Text::from_str(alloc, "$file")?,
         file_name_of(alloc, "", stem, "_bg.wasm")?,
     );
-    renamed_words(alloc, &[], &[path, file], words.as_slice())
+    renamed_words(alloc, &[], &[file], words.as_slice())
 }
 
 /// The item of the frame up to the first member. The only error is want of memory, as of the other calls.
@@ -51,12 +47,42 @@ pub fn frame_start(alloc: Global, settings: &Settings) -> Result<Item, AllocErro
     })
 }
 
-/// The item of the frame from the end of the members on.
-#[tactic(auto, using(crate::proofs::FixedTexts::end_reads))]
-pub fn frame_end(alloc: Global, settings: &Settings) -> Result<Item, AllocError>
-    ensures item { IfOk result (λ item. item ≡ spec.frame_end settings.now.stem) }
+// The module of a number under its path.
+#[tactic(auto, using(crate::proofs::FixedTexts::module_reads))]
+fn module_words(alloc: Global, number: usize, path: Text) -> Result<Seq<Word>, AllocError>
+    ensures words { IfOk result (λ words. words ≡ spec.module_words number path) }
 {
-    let words = fixed_words(alloc, settings.stem.as_str(), deno::FRAME_END)?;
+    let words = shipped(alloc, deno::FRAME_MODULE)?;
+    let name = (
+        Text::from_str(alloc, "$import")?,
+        Text::new(format!(in alloc; "import{number}")?),
+    );
+    let given = (Text::from_str(alloc, "$module")?, path);
+    renamed_words(alloc, &[name], &[given], words.as_slice())
+}
+
+// The other modules under their paths, numbered from 1 on.
+fn other_modules(alloc: Global, modules: &[Text]) -> Result<Seq<Word>, AllocError>
+    ensures words { IfOk result (λ words. words ≡ spec.modules_words 1 modules.now) }
+{
+    let mut words = Seq::new(alloc);
+    for place in 0..modules.len() {
+        words.append(module_words(alloc, place + 1, modules[place].copy(alloc)?)?)?;
+    }
+    Ok(words)
+}
+
+/// The item of the frame from the end of the members on, which hands on these modules too: as `import1`, `import2` and so on, in
+/// their order.
+#[tactic(auto, using(crate::proofs::FixedTexts::modules_read, crate::proofs::FixedTexts::end_reads))]
+pub fn frame_end(alloc: Global, settings: &Settings, modules: &[Text]) -> Result<Item, AllocError>
+    ensures item { IfOk result (λ item. item ≡ spec.frame_end settings.now.stem modules.now) }
+{
+    let mut words = shipped(alloc, deno::FRAME_MODULES)?;
+    let own = file_name_of(alloc, "./", settings.stem.as_str(), "_bg.js")?;
+    words.append(module_words(alloc, 0, own)?)?;
+    words.append(other_modules(alloc, modules)?)?;
+    words.append(shipped(alloc, deno::FRAME_END)?)?;
     Ok(Item {
         role: Role::Fixed,
         words,

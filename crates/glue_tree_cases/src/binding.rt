@@ -1,9 +1,10 @@
 use crate::compare::assert_told;
 use glue_binding::bind;
-use glue_imports::Part;
+use glue_imports::{Expression, Part};
 use glue_inputs::{printed, texts};
 use glue_scope::IdentScope;
 use glue_steps::Step;
+use glue_words::{key, punct};
 use std::alloc::{AllocError, Global};
 use values::{Seq, Text};
 
@@ -145,7 +146,11 @@ fn import_call(alloc: Global, import: &Import) -> Result<Step, AllocError> {
         adapter: import.adapter,
         params: import.params as usize,
         has_result: import.has_result,
-        parts: Seq::from_vec(parts),
+        expression: Expression {
+            locals: Seq::new(alloc),
+            prelude: Seq::new(alloc),
+            value: Seq::from_vec(parts),
+        },
     })
 }
 
@@ -165,6 +170,51 @@ fn imports(rt: HostRuntime) -> Result<(), AllocError> {
         &rt,
         max,
         "(globalThis2, y) {\nconst ret = globalThis.Math.max(globalThis2, y);\nreturn ret;\n}",
+    )
+}
+
+/// A call of an import whose statement `const val = a;` stands before its expression `val.x`.
+fn kept_call(alloc: Global) -> Result<Step, AllocError> {
+    let prelude = vec![in alloc;
+        Part::Key(key::CONST),
+        Part::Space,
+        Part::Binding(0),
+        Part::Space,
+        Part::Punct(punct::ASSIGN),
+        Part::Space,
+        Part::Whole(0),
+        Part::Punct(punct::SEMICOLON),
+        Part::LineFeed,
+    ]?;
+    let property = Part::Property(Text::from_str(alloc, "x")?);
+    let value = vec![in alloc; Part::Local(0), property]?;
+    Ok(Step::CallImport {
+        adapter: 7,
+        params: 1,
+        has_result: true,
+        expression: Expression {
+            locals: texts(alloc, &["val"])?,
+            prelude: Seq::from_vec(prelude),
+            value: Seq::from_vec(value),
+        },
+    })
+}
+
+/// Two such calls, the second with what the first gives.
+fn kept_twice(alloc: Global) -> Result<String, AllocError> {
+    let first = kept_call(alloc)?;
+    let second = kept_call(alloc)?;
+    let steps = vec![in alloc; Step::Parameter(0), first, second]?;
+    bound(alloc, &steps, &["val"])
+}
+
+#[test]
+fn locals_of_statements_are_drawn_before_the_answer(rt: HostRuntime) -> Result<(), AllocError> {
+    let kept = kept_twice(rt.alloc());
+    assert_told(
+        &rt,
+        kept,
+        "(val) {\nconst val2 = val;\nconst ret = val2.x;\nconst val3 = ret;\nconst ret2 = val3.x;\nreturn ret2;\n}",
     )
 }
 

@@ -1,2 +1,4 @@
 pub mod Own
 pub mod Steps
+pub mod Entries
+pub mod Held

@@ -1,10 +1,11 @@
 -- Each held item is that of a helper that is there, with its key.
-use Rattle.std.proofs.Common.{◌≡◌, ℕ, ◌-◌, Bool, true, false, true≢false, List, refl, sym, ap, ◌∙◌, cond, arith}
+use Rattle.std.proofs.Common.{◌≡◌, ℕ, ◌-◌, ◌<◌, Bool, true, false, true≢false, List, refl, sym, ap, ◌∙◌, cond, arith}
 use Rattle.std.specs.Prelude.{nat_eq, nat_lt, codes, Option, Some, None, slice_get}
 use Rattle.std.specs.Ordering.{nat_cmp}
 use Rattle.std.specs.Cmp.Lexicographic.{slice_cmp}
 use Rattle.std.proofs.lemmas.Bool.{ltb-true}
 use Rattle.std.proofs.Math.Nat.{mod-lt}
+use Rattle.std.proofs.lemmas.List.Elements.{All-weaker}
 use Rattle.values.specs.Lists.{IsIn}
 use Rattle.values.specs.Map.{look_up}
 use Rattle.glue_words.specs.declared.word.Word.{Word}
@@ -36,10 +37,10 @@ use Rattle.helper_table.specs.declared.kinds.TheConstants.{SINGLES, SINGLE, FAMI
 use Rattle.helper_table.specs.Names.{single_key_at, family_name}
 use Rattle.helper_table.specs.Made.{decoder_form, encoder_form, error_handled, closure_made, single_item, values_got, values_passed}
 use Rattle.helper_table.specs.Made.{memory_item, added, taken, table_item, of_memory, of_table, family_item, helper_item}
-use Rattle.helper_table.specs.Made.{single_at, family_at, family_of, place_of, is_there, item_words, helper_words, helper_key}
-use Rattle.helper_table.specs.Closed.{binder, keyed, needed_helpers}
+use Rattle.helper_table.specs.Made.{single_at, family_at, family_of, place_of, is_there, item_words, helper_words, helper_key, count}
+use Rattle.helper_table.specs.Closed.{binder, ArePresent}
 use Rattle.helper_table.specs.Told.{Rows, row_at, before}
-use Rattle.helper_table.specs.Laws.{binds_law, read_printed}
+use Rattle.helper_table.specs.Laws.{binds_law}
 
 -- ---- an item's role is the helper of its key
 
@@ -206,14 +207,17 @@ binds_there (Some item) name h = refl
 abbrev is_node_there : HelperParts → ℕ → Bool
 is_node_there parts i = is_there (helper_item parts i)
 
-held_there : (parts : HelperParts) (keys : List (List ℕ)) (entries : List (List ℕ × List Word))
-    (helpers : AreHelpers helper_key (helper_words parts) (binder parts) (needed_helpers parts keys) entries) (i : ℕ) → helpers.held i ≡ true
+pub bound_there : (parts : HelperParts) (i : ℕ) (name : List ℕ) → IsIn name (bound_in (helper_words parts i)) → is_node_there parts i ≡ true
+bound_there parts i name h = binds_there (helper_item parts i) name h
+
+held_there : (parts : HelperParts) (needed : List ℕ) (entries : List (List ℕ × List Word))
+    (helpers : AreHelpers helper_key (helper_words parts) (binder parts) needed entries) → ArePresent parts needed → (i : ℕ) → helpers.held i ≡ true
     → is_node_there parts i ≡ true
-held_there parts keys entries helpers i h =
+held_there parts needed entries helpers present i h =
     helpers.least.least (is_node_there parts)
-    (all_found (λ j. is_node_there parts j ≡ true) (keyed parts) (λ key j e. (read_printed parts key j e).1) keys)
+    (All-weaker (λ j. (j < count parts) × (is_node_there parts j ≡ true)) (λ j. is_node_there parts j ≡ true) (λ j p. p.1) needed present)
     (λ x there. all_found (λ j. is_node_there parts j ≡ true) (binder parts)
-    (λ name j e. binds_there (helper_item parts j) name (binds_law parts name j e).1) (used_in (helper_words parts x))) i h
+    (λ name j e. bound_there parts j name (binds_law parts name j e).1) (used_in (helper_words parts x))) i h
 
 item_is : (item : Item) (key : List ℕ) (words : List Word) → item.role ≡ Helper key → words ≡ item.words → item ≡ held_item (key, words)
 item_is item key words e f =
@@ -227,10 +231,10 @@ own_case None own key words there role is same = absurd (true≢false (sym there
 own_case (Some item) own key words there role is same = ap Some (item_is item key words (role ∙ ap Helper (sym is)) same)
 
 -- each entry is the item of a helper that is there
-pub owned : (parts : HelperParts) (keys : List (List ℕ)) (entries : List (List ℕ × List Word))
-    → AreHelpers helper_key (helper_words parts) (binder parts) (needed_helpers parts keys) entries → (key : List ℕ) (words : List Word)
+pub owned : (parts : HelperParts) (needed : List ℕ) (entries : List (List ℕ × List Word))
+    → AreHelpers helper_key (helper_words parts) (binder parts) needed entries → ArePresent parts needed → (key : List ℕ) (words : List Word)
     → look_up (slice_cmp nat_cmp) entries key ≡ Some words → (i : ℕ) × (helper_item parts i ≡ Some (held_item (key, words)))
-owned parts keys entries helpers key words e =
+owned parts needed entries helpers present key words e =
     let found = helpers.entries_are.only key words e in
-    let there = held_there parts keys entries helpers found.0 found.1.0 in
+    let there = held_there parts needed entries helpers present found.0 found.1.0 in
     (found.0, own_case (helper_item parts found.0) (helper_key found.0) key words there (own_role parts found.0) found.1.1 found.1.2)

@@ -1,23 +1,25 @@
 -- Steps of loops over texts, words and names.
-use Rattle.std.proofs.Common.{◌≡◌, ℕ, ◌+◌, ◌<◌, ◌^◌, List, [], ◌∷◌, ◌++◌, length, take, get_or, map, refl, sym, ap, subst, ◌∙◌, arith, zero, suc}
+use Rattle.std.proofs.Common.{◌≡◌, ℕ, ◌+◌, ◌<◌, ◌^◌, List, [], ◌∷◌, ◌++◌, length, take, get_or, map, refl, sym, ap, subst, ◌∙◌, arith, zero, suc, Bool, true, false, cond, fold}
 use Rattle.std.proofs.Common.{Result, Ok, Err, IfOk, inl, inr}
-use Rattle.std.specs.Prelude.{Option, Some, None, MatchOption, All}
+use Rattle.std.specs.Prelude.{Option, Some, None, MatchOption}
 use Rattle.std.specs.List.{cons_option}
 use Rattle.std.specs.Fmt.{decimal}
 use Rattle.std.proofs.lemmas.List.{take_more}
-use Rattle.std.proofs.lemmas.List.Elements.{filter_map-append}
+use Rattle.std.proofs.lemmas.List.Elements.{filter_map-append, All-nil, All-push}
 use denote.Ref.{Bor}
 use Rattle.values.specs.Lists.{IsIn, IsAway}
 use Rattle.values.proofs.Members.{in_either}
 use Rattle.glue_words.specs.declared.word.Word.{Word}
-use Rattle.glue_words.specs.Names.{bound_name, bound_in}
+use Rattle.glue_words.specs.declared.item.Item.{Item}
+use Rattle.glue_words.specs.Names.{bound_name, bound_in, used_name, used_in}
 use Rattle.helper_set.proofs.Entries.{all_found}
 use Rattle.helper_table.specs.declared.parts.HelperParts.{HelperParts}
 use Rattle.helper_table.specs.Names.{printed}
-use Rattle.helper_table.specs.Made.{count}
-use Rattle.helper_table.specs.Closed.{keyed, needed_helpers}
-use Rattle.helper_table.specs.Laws.{read_printed}
+use Rattle.helper_table.specs.Made.{count, helper_item, is_there}
+use Rattle.helper_table.specs.Closed.{keyed, needed_helpers, binder, ArePresent, IsBinder, is_one, with_helper, with_binder, with_words, asked_helpers}
+use Rattle.helper_table.specs.Laws.{read_printed, binds_law, near}
 use Rattle.helper_table.specs.Prints.{cancel}
+use Rattle.helper_table.proofs.Own.{bound_there}
 
 -- the answer of a call, seen as another value
 pub onto : {A E : Type 0} (r : Result A E) (x y : A) → x ≡ y → IfOk r (λ v. v ≡ x) → IfOk r (λ v. v ≡ y)
@@ -88,5 +90,79 @@ needed_next parts keys i key now next lt is h k =
     (ap (needed_helpers parts) one ∙ filter_map-append (keyed parts) (take i keys) (key ∷ []))
 
 -- the helpers with these keys are there
-pub all_needed : (parts : HelperParts) (keys : List (List ℕ)) → All (λ node. node < count parts) (needed_helpers parts keys)
-all_needed parts keys = all_found (λ node. node < count parts) (keyed parts) (λ key i e. (read_printed parts key i e).0) keys
+pub all_needed : (parts : HelperParts) (keys : List (List ℕ)) → ArePresent parts (needed_helpers parts keys)
+all_needed parts keys =
+    all_found (λ node. (node < count parts) × (is_there (helper_item parts node) ≡ true)) (keyed parts)
+    (λ key i e. let r = read_printed parts key i e in (r.0, r.1)) keys
+
+-- ---- helpers that names ask for
+
+with_present : (parts : HelperParts) (nodes : List ℕ) (o : Option ℕ) → ((i : ℕ) → o ≡ Some i → (i < count parts) × (is_there (helper_item parts i) ≡ true))
+    → ArePresent parts nodes → ArePresent parts (with_helper nodes o)
+with_present parts nodes None there h = h
+with_present parts nodes (Some i) there h = by (is_one nodes i)
+  where
+    by : (b : Bool) → ArePresent parts (cond b nodes (nodes ++ i ∷ []))
+    by true = h
+    by false = All-push (λ j. (j < count parts) × (is_there (helper_item parts j) ≡ true)) nodes i h (there i refl)
+
+names_present : (parts : HelperParts) (names : List (List ℕ)) (nodes : List ℕ) → ArePresent parts nodes → ArePresent parts (fold (with_binder parts) nodes names)
+names_present parts [] nodes h = h
+names_present parts (name ∷ names) nodes h =
+    names_present parts names (with_binder parts nodes name) (with_present parts nodes (binder parts name)
+    (λ i e. let b = binds_law parts name i e in (b.0, bound_there parts i name b.1)) h)
+
+items_present : (parts : HelperParts) (items : List Item) (nodes : List ℕ) → ArePresent parts nodes
+    → ArePresent parts (fold (λ nodes (item : Item). with_words parts nodes item.words) nodes items)
+items_present parts [] nodes h = h
+items_present parts (item ∷ items) nodes h =
+    items_present parts items (with_words parts nodes item.words) (names_present parts (used_in item.words) nodes h)
+
+-- the helpers that items ask for are there
+pub all_asked : (parts : HelperParts) (items : List Item) → ArePresent parts (asked_helpers parts items)
+all_asked parts items = items_present parts items [] (All-nil _)
+
+-- a helper that is there is added no second time
+pub asked_again : (parts : HelperParts) (nodes : List ℕ) (name : List ℕ) (node : ℕ) → IsBinder name (Some node) → is_one nodes node ≡ true
+    → nodes ≡ with_binder parts nodes name
+asked_again parts nodes name node told one = by (binder parts name) refl
+  where
+    by : (o : Option ℕ) → binder parts name ≡ o → nodes ≡ with_helper nodes o
+    by None e = refl
+    by (Some i) e =
+        let b = binds_law parts name i e in
+        let same : i ≡ node = told.1 parts i (near parts i b.0) b.1 in
+        rw (ap (is_one nodes) same ∙ one) refl
+
+-- and one that isn't there is added
+pub asked_anew : (parts : HelperParts) (nodes : List ℕ) (name : List ℕ) (node found : ℕ) → IsBinder name (Some node) → is_one nodes node ≡ false
+    → Some found ≡ binder parts name → nodes ++ found ∷ [] ≡ with_binder parts nodes name
+asked_anew parts nodes name node found told none e =
+    let b = binds_law parts name found (sym e) in
+    let same : found ≡ node = told.1 parts found (near parts found b.0) b.1 in
+    ap (λ (c : Bool). cond c nodes (nodes ++ found ∷ [])) (sym (ap (is_one nodes) same ∙ none)) ∙ ap (with_helper nodes) e
+
+folded : {A B : Type 0} (f : B → A → B) (start : B) (xs ys : List A) → fold f start (xs ++ ys) ≡ fold f (fold f start xs) ys
+folded f start [] ys = refl
+folded f start (x ∷ xs) ys = folded f (f start x) xs ys
+
+-- one item more of a list that is folded
+fold_next : {A B : Type 0} (f : B → A → B) (start : B) (xs : List A) (i : ℕ) (x : A) → i < length xs → x ≡ get_or xs i x
+    → f (fold f start (take i xs)) x ≡ fold f start (take (i + 1) xs)
+fold_next f start xs i x lt is =
+    sym (ap (fold f start) (take_more xs i x lt ∙ ap (λ y. take i xs ++ y ∷ []) (sym is)) ∙ folded f start (take i xs) (x ∷ []))
+
+-- one word more
+pub words_next : (parts : HelperParts) (words : List Word) (i : ℕ) (w : Word) (start now next : List ℕ) → i < length words → w ≡ get_or words i w
+    → now ≡ with_words parts start (take i words) → next ≡ with_words parts now (w ∷ []) → next ≡ with_words parts start (take (i + 1) words)
+words_next parts words i w start now next lt is h k =
+    let one : take (i + 1) words ≡ take i words ++ w ∷ [] = take_more words i w lt ∙ ap (λ v. take i words ++ v ∷ []) (sym is) in
+    k ∙ ap (λ ns. with_words parts ns (w ∷ [])) h
+    ∙ sym (ap (with_words parts start) one ∙ ap (fold (with_binder parts) start) (filter_map-append used_name (take i words) (w ∷ []))
+    ∙ folded (with_binder parts) start (used_in (take i words)) (used_in (w ∷ [])))
+
+-- one item more
+pub items_next : (parts : HelperParts) (items : List Item) (i : ℕ) (item : Item) (now next : List ℕ) → i < length items → item ≡ get_or items i item
+    → now ≡ asked_helpers parts (take i items) → next ≡ with_words parts now item.words → next ≡ asked_helpers parts (take (i + 1) items)
+items_next parts items i item now next lt is h k =
+    k ∙ ap (λ ns. with_words parts ns item.words) h ∙ fold_next (λ nodes (x : Item). with_words parts nodes x.words) [] items i item lt is

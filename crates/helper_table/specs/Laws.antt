@@ -45,7 +45,7 @@ unfolding is_distinct
 distinct_from [] h = tt
 distinct_from (x ∷ xs) h = let p = and_parts (none_of x xs) (is_distinct xs) h in (away_from x xs p.0, distinct_from xs p.1)
 
-text_in : (xs : List (List ℕ)) (i : ℕ) → i < length xs → IsIn (slice_index_or xs i []) xs
+pub text_in : (xs : List (List ℕ)) (i : ℕ) → i < length xs → IsIn (slice_index_or xs i []) xs
 text_in [] i lt = absurd (omega (arith, lt))
 text_in (x ∷ xs) zero lt = inl refl
 text_in (x ∷ xs) (suc i) lt = inr (text_in xs i (omega (arith, lt)))

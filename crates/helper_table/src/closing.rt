@@ -1,6 +1,6 @@
 //! The helpers that needed keys ask for, as items.
 ghost use Rattle.std.specs.Prelude.{◌≡◌, ◌++◌, ◌∷◌, [], IfOk, OnOk};
-ghost use Rattle.helper_table.specs.Closed.{AreClosed, needed_helpers};
+ghost use Rattle.helper_table.specs.Closed.{AreClosed, AreHeld, ArePresent, needed_helpers};
 
 use crate::parts::HelperParts;
 use crate::table::{HelperTable, keyed};
@@ -39,6 +39,20 @@ fn needed_nodes(
     Ok(nodes)
 }
 
+/// The items of the least set that holds these helpers and each that a word of a held one refers to, by key in order of bytes. Want of memory
+/// is the only error.
+pub(crate) fn held_items(
+    alloc: Global,
+    parts: &HelperParts,
+    nodes: &[usize],
+) -> Result<Seq<Item>, AllocError>
+    requires bound { ArePresent parts.now nodes.now }
+    ensures held { IfOk result (λ items. AreHeld parts.now nodes.now items) }
+{
+    let held = helper_set::close(alloc, &HelperTable { parts }, nodes)?;
+    helper_items(alloc, &held)
+}
+
 /// The items of the helpers that the needed keys ask for: of the least set that holds the helpers with these keys, and each that a word of a
 /// held one refers to. Each stands once, by its key in order of bytes. A key that no helper has, or whose helper takes a part that is
 /// absent, is passed over; so is a helper that a word refers to and that takes one, whose name then stays unbound. Helpers of the object
@@ -47,6 +61,5 @@ pub fn close(alloc: Global, parts: &HelperParts, needed: &[Text]) -> Result<Seq<
     ensures closed { IfOk result (λ items. AreClosed parts.now needed.now items) }
 {
     let nodes = needed_nodes(alloc, parts, needed)?;
-    let held = helper_set::close(alloc, &HelperTable { parts }, nodes.as_slice())?;
-    helper_items(alloc, &held)
+    held_items(alloc, parts, nodes.as_slice())
 }

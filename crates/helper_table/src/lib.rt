@@ -5,6 +5,7 @@
 //!
 //! - `close` gives the items of the least set of helpers that has the needed keys and each helper that binds a name that a held one uses,
 //!   in order of the keys' bytes (clause `closed`: `AreClosed` in `specs/Closed.antt`).
+//! - `close_over` gives those that items ask for by the names to which their words refer (clause `asked`: `AreAsked`).
 //! - `HelperTable` is the table of `helper_set` with these helpers: each has a number, a key, and the words of its item (`specs/Made.antt`).
 //!   A helper that goes by a memory or a table has the place of it behind its key and its names.
 //! - Keys and names are read back: a name has one binder, a key one helper, and what is printed is read. `specs/Laws.antt` shows it, with
@@ -14,6 +15,7 @@
 //! and no target.
 #![tactic(auto)]
 
+mod asked;
 mod closing;
 mod items;
 mod kinds;
@@ -23,6 +25,7 @@ mod table;
 #[cfg(test)]
 mod tests;
 
+pub use asked::close_over;
 pub use closing::close;
 pub use parts::{EncoderForm, HelperParts, TableExport};
 pub use table::HelperTable;

@@ -16,8 +16,8 @@ pub struct HelperTable<'a> {
     pub parts: &'a HelperParts,
 }
 
-// The helper that binds a name.
-fn binder(alloc: Global, parts: &HelperParts, name: &str) -> Result<Option<usize>, AllocError>
+/// The helper that binds a name, where it is there. Want of memory is the only error.
+pub fn binder(alloc: Global, parts: &HelperParts, name: &str) -> Result<Option<usize>, AllocError>
     ensures binder { IfOk result (λ found. found ≡ closed.binder parts.now name.now) }
 {
     let Some(node) = find_binder(alloc, name)? else {

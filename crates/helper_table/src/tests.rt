@@ -1,7 +1,8 @@
 //! Which items needed keys ask for.
+use crate::asked::close_over;
 use crate::closing::close;
 use crate::parts::{EncoderForm, HelperParts, TableExport};
-use glue_words::{Item, Role, print};
+use glue_words::{Item, Role, Word, print};
 use std::alloc::{AllocError, Global};
 use std::process::Abort;
 use values::{Seq, Text};
@@ -126,5 +127,52 @@ fn a_helper_is_its_item(rt: HostRuntime) -> Result<(), AllocError> {
     let text = print(alloc, items.as_slice())?;
     let expected = "function getFromExternrefTable1(idx) { return wasm.refs.get(idx); }\n";
     assert!(rt; text.as_str() == expected);
+    Ok(())
+}
+
+// An item whose words refer to these names.
+fn referring(alloc: Global, names: &[&str]) -> Result<Item, AllocError> {
+    let mut words = Seq::new(alloc);
+    for name in names {
+        words.push(Word::Refer(Text::from_str(alloc, name)?, false))?;
+        words.push(Word::Local(Text::from_str(alloc, "heap")?))?;
+    }
+    Ok(Item {
+        role: Role::Body,
+        words,
+    })
+}
+
+/// Names to which two items refer, and the keys of the helpers that they ask for.
+const ASKED: &[(&[&str], &[&str], &str)] = &[
+    (&[], &["wasm", "import0", "take_object"], ""),
+    (
+        &["takeObject"],
+        &["heap_next", "takeObject"],
+        "drop_ref get_object heap heap_next take_object ",
+    ),
+    (
+        &["decodeText"],
+        &["PanicError"],
+        "panic_error text_decoder ",
+    ),
+    (
+        &["getStringFromWasm0", "cachedUint8ArrayMemory0"],
+        &["getUint8ArrayMemory1"],
+        "getStringFromWasm0 getUint8ArrayMemory0 text_decoder ",
+    ),
+    // helpers whose parts are absent
+    (&["handleError"], &["getStringFromWasm1"], ""),
+];
+
+#[test]
+fn items_ask_for_the_helpers_that_bind_their_names(rt: HostRuntime) -> Result<(), AllocError> {
+    let alloc = rt.alloc();
+    let parts = parts(alloc)?;
+    for (first, second, keys) in ASKED {
+        let items = [referring(alloc, first)?, referring(alloc, second)?];
+        let group = close_over(alloc, &parts, &items)?;
+        assert!(rt; keys_of(alloc, group.as_slice())?.as_str() == *keys);
+    }
     Ok(())
 }

@@ -1,4 +1,5 @@
-use crate::texts::{Case, INTRINSICS, PROPERTIES, VALUES};
+use crate::hostile::HOSTILE;
+use crate::texts::{Case, INTRINSICS, PRELUDES, PROPERTIES, VALUES};
 use glue_binding::bind;
 use glue_inputs::{CONFIG, printed, settings, texts, with_custom};
 use glue_lower::{JsonLowering, LowerFault, Lowering};
@@ -132,6 +133,11 @@ fn import_texts_of_values(rt: HostRuntime) -> Result<(), LowerFault> {
 }
 
 #[test]
+fn no_text_becomes_code(rt: HostRuntime) -> Result<(), LowerFault> {
+    assert_texts(&rt, rt.alloc(), HOSTILE)
+}
+
+#[test]
 fn import_texts_of_properties(rt: HostRuntime) -> Result<(), LowerFault> {
     assert_texts(&rt, rt.alloc(), PROPERTIES)
 }
@@ -139,4 +145,9 @@ fn import_texts_of_properties(rt: HostRuntime) -> Result<(), LowerFault> {
 #[test]
 fn import_texts_of_intrinsics(rt: HostRuntime) -> Result<(), LowerFault> {
     assert_texts(&rt, rt.alloc(), INTRINSICS)
+}
+
+#[test]
+fn import_texts_of_preludes(rt: HostRuntime) -> Result<(), LowerFault> {
+    assert_texts(&rt, rt.alloc(), PRELUDES)
 }

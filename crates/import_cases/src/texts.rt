@@ -586,3 +586,190 @@ return ret;"#,
 return ret;"#,
     ),
 ];
+
+/// Expressions with statements before them, and values that may be absent.
+pub const PRELUDES: &[Case] = &[
+    (
+        r#"["Instanceof",{"global":"Thing","fields":["a","b-c"]}]"#,
+        "normal bound",
+        "u",
+        r#"let result;
+try {
+result = (arg0 >>> 0) instanceof Thing.a["b-c"];
+} catch (_) {
+result = false;
+}
+const ret = result;
+return ret;"#,
+    ),
+    (
+        r#"["Instanceof",{"global":"Thing"}]"#,
+        "normal",
+        "i",
+        r#"let result;
+try {
+result = arg0 instanceof Thing;
+} catch (_) {
+result = false;
+}
+result;"#,
+    ),
+    // A global that is named as a local would be.
+    (
+        r#"["Instanceof",{"global":"result"}]"#,
+        "normal bound",
+        "i",
+        r#"let result2;
+try {
+result2 = arg0 instanceof result;
+} catch (_) {
+result2 = false;
+}
+const ret = result2;
+return ret;"#,
+    ),
+    (
+        r#"["Instanceof",{"global":"ret","fields":["_"]}]"#,
+        "normal bound",
+        "i",
+        r#"let result;
+try {
+result = arg0 instanceof ret._;
+} catch (_) {
+result = false;
+}
+const ret2 = result;
+return ret2;"#,
+    ),
+    (
+        r#"["Intrinsic","IsObject"]"#,
+        "normal bound",
+        "u",
+        r#"const val = arg0 >>> 0;
+const ret = typeof(val) === "object" && val !== null;
+return ret;"#,
+    ),
+    (
+        r#"["Intrinsic","IsObject"]"#,
+        "normal",
+        "i",
+        r#"const val = arg0;
+typeof(val) === "object" && val !== null;"#,
+    ),
+    (
+        r#"["Intrinsic","NumberGet"]"#,
+        "normal bound",
+        "u",
+        r#"const obj = arg0 >>> 0;
+const ret = typeof(obj) === "number" ? obj : undefined;
+return ret;"#,
+    ),
+    (
+        r#"["Intrinsic","StringGet"]"#,
+        "normal bound",
+        "i",
+        r#"const obj = arg0;
+const ret = typeof(obj) === "string" ? obj : undefined;
+return ret;"#,
+    ),
+    (
+        r#"["Intrinsic","BooleanGet"]"#,
+        "normal bound",
+        "i",
+        r#"const v = arg0;
+const ret = typeof(v) === "boolean" ? v : undefined;
+return ret;"#,
+    ),
+    (
+        r#"["Intrinsic","BigIntGetAsI64"]"#,
+        "normal",
+        "u",
+        r#"const v = arg0 >>> 0;
+typeof(v) === "bigint" ? v : undefined;"#,
+    ),
+    (
+        r#"["Intrinsic","TryIntoNumber"]"#,
+        "normal bound",
+        "u",
+        r#"let result;
+try { result = +(arg0 >>> 0) } catch (e) { result = e }
+const ret = result;
+return ret;"#,
+    ),
+    (
+        r#"["Intrinsic","TryIntoNumber"]"#,
+        "normal",
+        "i",
+        r#"let result;
+try { result = +arg0 } catch (e) { result = e }
+result;"#,
+    ),
+    (
+        r#"["Intrinsic","CheckedDiv"]"#,
+        "normal bound",
+        "ui",
+        r#"let result;
+try {
+result = (arg0 >>> 0) / arg1;
+} catch (e) {
+if (e instanceof RangeError) {
+result = e;
+} else {
+throw e;
+}
+}
+const ret = result;
+return ret;"#,
+    ),
+    (
+        r#"["LinkTo","a.js","let x = `1`;\n\"${y}\""]"#,
+        "normal bound",
+        "",
+        r#"const val = "let x = `1`;\n\"${y}\"";
+const ret = typeof URL.createObjectURL === "undefined" ? "data:application/javascript," + encodeURIComponent(val) : URL.createObjectURL(new Blob([val], { type: "text/javascript" }));
+return ret;"#,
+    ),
+    (
+        r#"["LinkTo","a.js",""]"#,
+        "normal",
+        "",
+        r#"const val = "";
+typeof URL.createObjectURL === "undefined" ? "data:application/javascript," + encodeURIComponent(val) : URL.createObjectURL(new Blob([val], { type: "text/javascript" }));"#,
+    ),
+    (
+        r#"["Cast","fn(u32) -> u32"]"#,
+        "normal bound",
+        "u",
+        r#"// Cast intrinsic for `fn(u32) -> u32`.
+const ret = arg0 >>> 0;
+return ret;"#,
+    ),
+    // A comment with line ends and with the end of another comment.
+    (
+        r#"["Cast","a\r\nb\u2028c\u2029 */ d"]"#,
+        "normal",
+        "u",
+        r#"// Cast intrinsic for `a  b c  * / d`.
+(arg0 >>> 0);"#,
+    ),
+    (
+        r#"["Static",{"global":"Thing"},true]"#,
+        "normal bound",
+        "",
+        r#"const ret = typeof Thing === "undefined" ? undefined : Thing;
+return ret;"#,
+    ),
+    (
+        r#"["Static",{"global":"Thing","fields":["a","b-c","d.e-f","[x]"]},true]"#,
+        "normal bound",
+        "",
+        r#"const ret = typeof Thing === "undefined" ? undefined : Thing?.a?.["b-c"]?.d["e-f"]?.[x];
+return ret;"#,
+    ),
+    (
+        r#"["Static",{"global":"Thing","fields":["a"]},true]"#,
+        "normal",
+        "",
+        r#"typeof Thing === "undefined" ? undefined : Thing?.a;"#,
+    ),
+];

@@ -7,7 +7,8 @@ use Rattle.glue_binding.proofs.import.push_parts.Goals as goal
 pub loop-part-preserved : goal.loop-part-preserved
 loop-part-preserved c =
     let args = map plain_operand c.args.operands.now in
+    let word = part_words c.args.locals.now args in
     c.in_ok-push_part.ensures.words
-    ∙ ap (λ l. l ++ part_words args c.part-item.result) c.loop-part.invariant
-    ∙ appended (part_words args) c.args.parts.now c.loop-part.part-index c.part-item.result _
+    ∙ ap (λ l. l ++ word c.part-item.result) c.loop-part.invariant
+    ∙ appended word c.args.parts.now c.loop-part.part-index c.part-item.result _
     c.loop-part-test.true c.part-item.is

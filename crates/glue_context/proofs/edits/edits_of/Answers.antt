@@ -2,6 +2,4 @@ use Rattle.glue_context.proofs.Edited.{edits_fit}
 use Rattle.glue_context.proofs.edits.edits_of.Goals as goal
 
 pub returns-clause-fit : goal.returns-clause-fit
-returns-clause-fit c =
-    rw (c.in_ok-imports.ensures.moves, c.new.ensures, c.as_str.ensures, c.as_slice.ensures, c.in_ok-places.ensures.places, c.has_start.ensures.test)
-    (edits_fit c.args.settings.now c.args.lowered.now)
+returns-clause-fit c = rw (c.in_ok-imports.ensures.moves, c.new.ensures, c.has_start.ensures.test) (edits_fit c.args.settings.now c.args.lowered.now)

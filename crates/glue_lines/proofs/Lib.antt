@@ -1,0 +1,7 @@
+mod ForeignNames
+pub mod GroupedFacts
+mod Grouping
+pub mod LineFacts
+mod Placing
+pub mod Shown
+pub mod VendorFacts

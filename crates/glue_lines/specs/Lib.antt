@@ -1,0 +1,3 @@
+pub mod Grouped
+pub mod Lines
+pub mod Vendor

@@ -1,0 +1,21 @@
+-- Imports with the adapters that stand for them, in the order in which they are gone through.
+use Rattle.std.specs.Prelude.{ℕ, List, [], Option, Some, slice_get}
+use Rattle.std.specs.Ordering.{nat_cmp, ordering_then}
+use Rattle.std.specs.declared.cmp.Ordering.{Ordering}
+use Rattle.wasm_core.specs.ids.ImportId.{ImportId}
+use Rattle.wasm_core.specs.declared.types.Import.{Import}
+use Rattle.glue_shared.specs.declared.description.Lowered.{Lowered}
+pub use Rattle.glue_check.specs.Handed.{is_among, own_pairs}
+use Rattle.glue_naming.specs.Arranged.{text_order}
+
+-- the name of the import of a pair, where one stands
+abbrev pub pair_name : Lowered → ImportId × ℕ → List ℕ
+pair_name l pair = name_of (slice_get l.«module».imports pair.0.0)
+  where
+    name_of : Option (Option Import) → List ℕ
+    name_of (Some (Some i)) = i.name
+    name_of other = []
+
+-- pairs by the import's name, and then by the adapter's id
+abbrev pub pair_order : Lowered → ImportId × ℕ → ImportId × ℕ → Ordering
+pair_order l a b = ordering_then (text_order (pair_name l a) (pair_name l b)) (nat_cmp a.1 b.1)

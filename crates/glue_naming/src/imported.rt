@@ -1,0 +1,278 @@
+//! The names that what own imports call begins with, each once, and those that are wanted for them.
+ghost use Rattle.std.specs.Prelude.{◌≡◌, ◌++◌, ◌∷◌, [], IfOk, OnOk, filter_map, if◌then◌else◌, map, is_some, option_and_then};
+ghost use Rattle.std.specs.BTreeMap.{insert_entry};
+ghost use Rattle.std.specs.List.{flat_map};
+ghost use Rattle.std.specs.Option.{option_copied};
+ghost use Rattle.values.specs.Map.{look_up};
+ghost use Rattle.glue_shared.specs.Names as names;
+ghost use Rattle.glue_naming.specs.Arranged.{import_order};
+ghost use Rattle.glue_naming.specs.Imported as spec;
+
+use crate::named::{Named, Wanted, WantedName, copied_import};
+use glue_shared::{
+    Adapter, AdapterId, AdapterKind, AuxImport, DescribedImports, IdSet, Instruction, JsImportName,
+    Lowered, Settings, Target, js_import, own_imports,
+};
+use std::alloc::{AllocError, Global};
+use values::{Map, Seq, Text};
+use wasm_core::ImportId;
+
+// ---- names that adapters call
+
+// Adds the name that what is described begins with, where it begins with one.
+fn push_described(
+    alloc: Global,
+    described: Option<&AuxImport>,
+    list: &mut Seq<JsImportName>,
+) -> Result<(), AllocError>
+    ensures pushed { OnOk result (list.new ≡ list.old ++ names.names_of (option_and_then names.js_import (option_copied described.entry))) }
+{
+    match described {
+        None => Ok(()),
+        Some(what) => match js_import(what) {
+            None => Ok(()),
+            Some(js) => {
+                list.push(copied_import(alloc, &js.name)?)?;
+                Ok(())
+            }
+        },
+    }
+}
+
+// Adds what an instruction calls.
+fn push_called(
+    alloc: Global,
+    entries: &DescribedImports<'_>,
+    instruction: &Instruction,
+    list: &mut Seq<JsImportName>,
+) -> Result<(), AllocError>
+    ensures pushed { OnOk result (list.new ≡ list.old ++ spec.called_name entries.now instruction.now) }
+{
+    match instruction {
+        Instruction::CallAdapter(id) => push_described(alloc, entries.get(*id), list),
+        _ => Ok(()),
+    }
+}
+
+// Adds what a code calls.
+pub(crate) fn push_code(
+    alloc: Global,
+    entries: &DescribedImports<'_>,
+    code: &[Instruction],
+    list: &mut Seq<JsImportName>,
+) -> Result<(), AllocError>
+    ensures pushed { OnOk result (list.new ≡ list.old ++ flat_map (spec.called_name entries.now) code.now) }
+{
+    for instruction in code {
+        push_called(alloc, entries, instruction, list)?;
+    }
+    Ok(())
+}
+
+// The code of an adapter, none where it is a call or isn't there.
+pub(crate) fn code_of(adapter: Option<&Adapter>) -> &[Instruction]
+    ensures code { result.now ≡ names.code_of (option_copied adapter.entry) }
+{
+    match adapter {
+        None => &[],
+        Some(adapter) => match &adapter.kind {
+            AdapterKind::Local(code) => code.as_slice(),
+            AdapterKind::Import(_) => &[],
+        },
+    }
+}
+
+// Adds what the adapter of a pair calls, where the import is an own one.
+fn push_pair(
+    alloc: Global,
+    own: &IdSet,
+    lowered: &Lowered,
+    entries: &DescribedImports<'_>,
+    pair: &(ImportId, AdapterId),
+    list: &mut Seq<JsImportName>,
+) -> Result<(), AllocError>
+    requires same { entries.now ≡ lowered.now.aux.imports }
+    ensures pushed { OnOk result (list.new ≡ list.old ++ spec.pair_names own.now lowered.now pair.now) }
+{
+    if own.has(pair.0.0) {
+        push_code(
+            alloc,
+            entries,
+            code_of(lowered.wit.adapters.get(&pair.1)),
+            list,
+        )
+    } else {
+        Ok(())
+    }
+}
+
+// The places of a list, as a set.
+fn place_set(alloc: Global, ids: &[ImportId]) -> Result<IdSet, AllocError>
+    ensures places { IfOk result (λ places. places ≡ map (λ id. id.0) ids.now) }
+{
+    let mut places = IdSet::new(alloc);
+    for id in ids {
+        places = places.with(id.0)?;
+    }
+    Ok(places)
+}
+
+// The places of own imports, as a set.
+pub(crate) fn own_places(
+    alloc: Global,
+    settings: &Settings,
+    lowered: &Lowered,
+) -> Result<IdSet, AllocError>
+    ensures places { IfOk result (λ places. places ≡ names.own_imports settings.now lowered.now.«module» lowered.now.wit lowered.now.aux) }
+{
+    let ids = own_imports(alloc, settings, &lowered.module, &lowered.wit, &lowered.aux)?;
+    place_set(alloc, ids.as_slice())
+}
+
+// What the adapters of these pairs call, where the imports are own ones.
+fn own_called(
+    alloc: Global,
+    own: &IdSet,
+    lowered: &Lowered,
+    pairs: &[(ImportId, AdapterId)],
+) -> Result<Seq<JsImportName>, AllocError>
+    ensures called { IfOk result (λ called. called ≡ flat_map (spec.pair_names own.now lowered.now) pairs.now) }
+{
+    let entries = DescribedImports::new(alloc, lowered.aux.imports.as_slice())?;
+    let mut list = Seq::new(alloc);
+    for pair in pairs {
+        push_pair(alloc, own, lowered, &entries, pair, &mut list)?;
+    }
+    Ok(list)
+}
+
+// What the adapters of own imports among these pairs call.
+fn names_called(
+    alloc: Global,
+    settings: &Settings,
+    lowered: &Lowered,
+    pairs: &[(ImportId, AdapterId)],
+) -> Result<Seq<JsImportName>, AllocError>
+    ensures called { IfOk result (λ called. called ≡ spec.names_called settings.now lowered.now pairs.now) }
+{
+    let own = own_places(alloc, settings, lowered)?;
+    own_called(alloc, &own, lowered, pairs)
+}
+
+// ---- each once
+
+// Adds a name, where it hasn't come yet.
+fn push_new(
+    alloc: Global,
+    seen: &mut Map<JsImportName, ()>,
+    name: &JsImportName,
+    once: &mut Seq<JsImportName>,
+) -> Result<(), AllocError>
+    ensures seen { OnOk result (seen.new ≡ insert_entry import_order seen.old name.now tt) }
+    ensures pushed { OnOk result (once.new ≡ once.old ++ (if is_some (look_up import_order seen.old name.now) then [] else name.now ∷ [])) }
+{
+    if seen.insert(copied_import(alloc, name)?, ())?.is_none() {
+        once.push(copied_import(alloc, name)?)?;
+    }
+    Ok(())
+}
+
+// Each of these names once, where it comes first.
+fn each_once(alloc: Global, list: &[JsImportName]) -> Result<Seq<JsImportName>, AllocError>
+    ensures once { IfOk result (λ once. once ≡ spec.each_once list.now) }
+{
+    let mut seen = Map::new(alloc);
+    let mut once = Seq::new(alloc);
+    for name in list {
+        push_new(alloc, &mut seen, name, &mut once)?;
+    }
+    Ok(once)
+}
+
+// ---- the names that are wanted
+
+// What stands before the name of a module's export.
+fn local_front(target: &Target) -> &str
+    ensures front { result.now ≡ spec.local_front target.now }
+{
+    match target {
+        Target::Emscripten => "__wbg_",
+        _ => "",
+    }
+}
+
+// A text behind another.
+fn joined(alloc: Global, front: &str, rest: &Text) -> Result<Text, AllocError>
+    ensures text { IfOk result (λ text. text ≡ front.now ++ rest.now) }
+{
+    let mut text = Text::from_str(alloc, front)?;
+    text.push_str(rest.as_str())?;
+    Ok(text)
+}
+
+// The name that is wanted for what an import begins with, unless that is a global.
+fn local_name(
+    alloc: Global,
+    target: &Target,
+    import: &JsImportName,
+) -> Result<Option<Text>, AllocError>
+    ensures name { IfOk result (λ name. name ≡ spec.local_name target.now import.now) }
+{
+    match import {
+        JsImportName::Global { .. } => Ok(None),
+        JsImportName::Module { name, .. }
+        | JsImportName::LocalModule { name, .. }
+        | JsImportName::InlineJs { name, .. } => {
+            Ok(Some(joined(alloc, local_front(target), name)?))
+        }
+        JsImportName::VendorPrefixed { name, .. } => Ok(Some(joined(alloc, "l", name)?)),
+    }
+}
+
+// Adds the name that is wanted for what an import begins with.
+fn push_import(
+    alloc: Global,
+    target: &Target,
+    import: &JsImportName,
+    list: &mut Seq<Wanted>,
+) -> Result<(), AllocError>
+    ensures pushed { OnOk result (list.new ≡ list.old ++ filter_map (spec.import_wanted target.now) (import.now ∷ [])) }
+{
+    if let Some(name) = local_name(alloc, target, import)? {
+        list.push(Wanted {
+            thing: Named::Import(copied_import(alloc, import)?),
+            name: WantedName::Plain(name),
+        })?;
+    }
+    Ok(())
+}
+
+// Adds those of these.
+fn push_each(
+    alloc: Global,
+    target: &Target,
+    imports: &[JsImportName],
+    list: &mut Seq<Wanted>,
+) -> Result<(), AllocError>
+    ensures pushed { OnOk result (list.new ≡ list.old ++ filter_map (spec.import_wanted target.now) imports.now) }
+{
+    for name in imports {
+        push_import(alloc, target, name, list)?;
+    }
+    Ok(())
+}
+
+/// Adds the names that own imports among these pairs ask for. Want of memory is the only error.
+pub(crate) fn push_imports(
+    alloc: Global,
+    settings: &Settings,
+    lowered: &Lowered,
+    pairs: &[(ImportId, AdapterId)],
+    list: &mut Seq<Wanted>,
+) -> Result<(), AllocError>
+    ensures pushed { OnOk result (list.new ≡ list.old ++ spec.imports_wanted settings.now lowered.now pairs.now) }
+{
+    let called = names_called(alloc, settings, lowered, pairs)?;
+    let once = each_once(alloc, called.as_slice())?;
+    push_each(alloc, &settings.target, once.as_slice(), list)
+}

@@ -1,0 +1,176 @@
+#!/usr/bin/env python3
+"""Puts hostile texts into every place of a description and a module where a text goes, and has node parse the glue files.
+
+Each text holds a call that must not become code. For each place a description is made for each text; the program refuses
+it by name, or prints a glue file. Of a file node has to find that it parses, and the call may stand in string literals and
+in comments alone. Computed keys aren't tried: they stand in the file as they are written.
+
+The program is the one that the environment variable GLUE names, or else the one that the script glue runs. Needs Python
+3.9 and node. It is no part of the gate.
+"""
+
+import collections
+import json
+import os
+import re
+import subprocess
+import sys
+import tempfile
+from pathlib import Path
+
+from imports import HERE, I32, leb128, name, section, vector
+
+CALL = "globalThis.taken()"
+TEXTS = [
+    f'"; {CALL}; "',
+    f"'; {CALL}; '",
+    f"\n{CALL};\n",
+    f"\r{CALL};\r",
+    f"\u2028{CALL};\u2028",
+    f"\u2029{CALL};\u2029",
+    f"*/ {CALL}; /*",
+    f"// {CALL}",
+    f"${{{CALL}}}",
+    f"`; {CALL}; `",
+    f"\\\"; {CALL}; //",
+    f"\\\n{CALL};",
+    f"</script>{CALL}<!--",
+    f"\0{CALL}\x7f",
+    f"x[{CALL}]",
+    f".{CALL}.",
+    f"é{CALL}",
+]
+OUTSIDE_CODE = re.compile(r'"(?:\\.|[^"\\\n])*"|//[^\n]*')
+
+
+def described(what, kind="normal", args=0, result=False):
+    """A description with one import of this kind."""
+
+    def at(text):
+        types = ["s32"] * args
+        results = ["s32"] if result else []
+        code = [step for number in range(args) for step in (["ArgGet", number], ["WasmToInt32", False])]
+        code += [["CallAdapter", 1]] + ([["Int32ToWasm"]] if result else [])
+        return {
+            "type": (args, result),
+            "description": {
+                "adapters": [
+                    {"id": 0, "args": types, "results": results, "code": code},
+                    {"id": 1, "args": types, "results": results, "import": kind},
+                ],
+                "implements": [[0, 0]],
+                "imports": [{"adapter": 1, "what": what(text)}],
+            },
+        }
+
+    return at
+
+
+def exported(fields):
+    """A description with one export whose entry has these fields too."""
+
+    def at(text):
+        entry = {"adapter": 2, "kind": "function", "name": "run", "args": ["a"]}
+        entry.update(fields(text))
+        code = [["ArgGet", 0], ["Int32ToWasm"], ["CallExport", 0]]
+        adapter = {"id": 2, "args": ["s32"], "results": [], "code": code}
+        return {"description": {"adapters": [adapter], "exports": [entry]}}
+
+    return at
+
+
+PLACES = {
+    "field of a global": described(lambda t: ["Bare", {"global": "console", "fields": [t]}]),
+    "name of a global": described(lambda t: ["Bare", {"global": t}]),
+    "name in a module": described(lambda t: ["Bare", {"module": "m", "name": t}], args=1),
+    "module of a name": described(lambda t: ["Bare", {"module": t, "name": "f"}], args=1),
+    "local module": described(lambda t: ["Bare", {"local": t, "name": "f"}], args=1),
+    "crate of a snippet": described(lambda t: ["Bare", {"inline": t, "index": 0, "name": "f"}], args=1),
+    "vendor name": described(lambda t: ["Bare", {"vendor": t, "prefixes": ["webkit"]}]),
+    "vendor prefix": described(lambda t: ["Bare", {"vendor": "f", "prefixes": [t]}]),
+    "method of a value": described(lambda t: ["ValueWithThis", {"global": "console"}, t]),
+    "method": described(lambda t: ["StructuralMethod", t], args=1),
+    "getter": described(lambda t: ["StructuralGetter", t], args=1, result=True),
+    "setter": described(lambda t: ["StructuralSetter", t], args=2),
+    "getter of a value": described(lambda t: ["StructuralClassGetter", {"global": "g"}, t], result=True),
+    "setter of a value": described(lambda t: ["StructuralClassSetter", {"global": "g"}, t], args=1),
+    "accessor": described(lambda t: ["Getter", {"global": "g"}, t], kind="method", args=1, result=True),
+    "accessor of a class": described(lambda t: ["ClassSetter", {"global": "g"}, t], kind="method", args=2),
+    "static value": described(lambda t: ["Static", {"global": "g", "fields": [t]}, False], result=True),
+    "optional static value": described(lambda t: ["Static", {"global": "g", "fields": [t]}, True], result=True),
+    "text": described(lambda t: ["String", t], result=True),
+    "cast": described(lambda t: ["Cast", t], args=1, result=True),
+    "path of a link": described(lambda t: ["LinkTo", t, "x"], result=True),
+    "content of a link": described(lambda t: ["LinkTo", "a.js", t], result=True),
+    "class that is tested": described(lambda t: ["Instanceof", {"global": "g", "fields": [t]}], args=1, result=True),
+    "operation": described(lambda t: ["Intrinsic", t]),
+    "name of an export": exported(lambda t: {"name": t}),
+    "namespace": exported(lambda t: {"namespace": [t]}),
+    "parameter": exported(lambda t: {"args": [t]}),
+    "comment": exported(lambda t: {"comments": t}),
+    "debug name": exported(lambda t: {"debug": t}),
+    "name of an import": lambda t: {**described(lambda u: ["Bare", {"global": "f"}])(t), "import": t},
+    "name of a WebAssembly export": lambda t: {**exported(lambda u: {})(t), "export": t},
+    "module of another import": lambda t: {"description": {}, "foreign": t},
+    "name of another import": lambda t: {"description": {}, "foreign": "env", "other": t},
+}
+
+
+def module(case):
+    """A module of these names with this description."""
+    args, result = case.get("type", (0, False))
+    types = [b"\x60" + vector([I32] * args) + vector([I32] * result), b"\x60" + vector([I32]) + vector([])]
+    imports = [name("__wbindgen_placeholder__") + name(case.get("import", "f")) + b"\0\0"]
+    if "implements" not in case["description"]:
+        imports = []
+    if "foreign" in case:
+        imports.append(name(case["foreign"]) + name(case.get("other", "g")) + b"\0\1")
+    exports = [name(case.get("export", "run")) + b"\0" + leb128(len(imports))]
+    glue = name("__wbg_glue") + json.dumps({"version": 1, **case["description"]}).encode()
+    body = vector([]) + b"\x0b"
+    return (
+        b"\0asm\x01\0\0\0"
+        + section(1, vector(types))
+        + section(2, vector(imports))
+        + section(3, vector([b"\1"]))
+        + section(7, vector(exports))
+        + section(10, vector([leb128(len(body)) + body]))
+        + section(0, glue)
+    )
+
+
+def glue_file(command, case):
+    """The glue file, or the line of a fault."""
+    done = subprocess.run([*command, "--target", "deno"], input=module(case), stdout=subprocess.PIPE)
+    text = done.stdout.decode()
+    if text.startswith("fault"):
+        return None, text.strip()
+    heading = re.search(r"^file out\.js text (\d+)\n", text, re.M)
+    return text[heading.end() :], None
+
+
+def parses(text):
+    """Whether node finds that the text is an ES module."""
+    with tempfile.TemporaryDirectory() as folder:
+        path = Path(folder) / "out.mjs"
+        path.write_text(text, encoding="utf-8")
+        return subprocess.run(["node", "--check", str(path)], capture_output=True).returncode == 0
+
+
+def main():
+    command = [os.environ.get("GLUE", str(HERE.parent / "glue"))]
+    counts = collections.Counter()
+    wrong = 0
+    for place, case in PLACES.items():
+        for hostile in TEXTS:
+            text, fault = glue_file(command, case(hostile))
+            counts[fault or "parsed"] += 1
+            if text is not None and (CALL in OUTSIDE_CODE.sub("", text) or not parses(text)):
+                wrong += 1
+                print(f"{place} {hostile!r}: {text}")
+    print(f"{len(PLACES)} places, {len(TEXTS)} texts: {dict(counts)}; {wrong} wrong")
+    sys.exit(bool(wrong))
+
+
+if __name__ == "__main__":
+    main()
