@@ -86,6 +86,16 @@ PLACES = {
     "module of a name": described(lambda t: ["Bare", {"module": t, "name": "f"}], args=1),
     "local module": described(lambda t: ["Bare", {"local": t, "name": "f"}], args=1),
     "crate of a snippet": described(lambda t: ["Bare", {"inline": t, "index": 0, "name": "f"}], args=1),
+    "name of a class in a module": described(lambda t: ["Bare", {"module": "m", "name": t}], kind="constructor"),
+    "module of a class": described(lambda t: ["Bare", {"module": t, "name": "f"}], kind="constructor"),
+    "local module of a class": described(lambda t: ["Bare", {"local": t, "name": "f"}], kind="constructor"),
+    "crate of a class": described(lambda t: ["Bare", {"inline": t, "index": 0, "name": "f"}], kind="constructor"),
+    "field of a name in a module": described(
+        lambda t: ["Static", {"module": "m", "name": "f", "fields": [t]}, True], result=True
+    ),
+    "field of a vendor's name": described(
+        lambda t: ["Bare", {"vendor": "f", "prefixes": ["webkit"], "fields": [t]}], kind="constructor"
+    ),
     "vendor name": described(lambda t: ["Bare", {"vendor": t, "prefixes": ["webkit"]}]),
     "vendor prefix": described(lambda t: ["Bare", {"vendor": "f", "prefixes": [t]}]),
     "method of a value": described(lambda t: ["ValueWithThis", {"global": "console"}, t]),
@@ -96,6 +106,9 @@ PLACES = {
     "setter of a value": described(lambda t: ["StructuralClassSetter", {"global": "g"}, t], args=1),
     "accessor": described(lambda t: ["Getter", {"global": "g"}, t], kind="method", args=1, result=True),
     "accessor of a class": described(lambda t: ["ClassSetter", {"global": "g"}, t], kind="method", args=2),
+    "accessor of a class in a module": described(
+        lambda t: ["Setter", {"module": "m", "name": t, "fields": [t]}, t], kind="method", args=2
+    ),
     "static value": described(lambda t: ["Static", {"global": "g", "fields": [t]}, False], result=True),
     "optional static value": described(lambda t: ["Static", {"global": "g", "fields": [t]}, True], result=True),
     "text": described(lambda t: ["String", t], result=True),

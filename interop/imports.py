@@ -2,8 +2,10 @@
 """Compares the statements that imports become with texts that were typed from those of the original.
 
 imports.json has for each kind of import and each operation how it is called, whether each operand is read as signed (`i`)
-or unsigned (`u`), and the statements for Deno. All imports that are built are put into one module, whose glue file is made
-by the program; then each member's statements are compared. Imports that the program names as not built are counted.
+or unsigned (`u`), and the statements for Deno. Each import that begins with the global `Thing` is tried twice more, with a
+name of a module and with a vendor's name in its place, but where the name can be the import itself. All imports that are
+built are put into one module, whose glue file is made by the program; then each member's statements are compared, and the
+lines that bind the two names. Imports that the program names as not built are counted.
 
 The program is the one that the environment variable GLUE names, or else the one that the script glue runs. Needs Python
 3.9. It is no part of the gate.
@@ -40,6 +42,41 @@ def name(text):
 
 def section(number, content):
     return bytes([number]) + leb128(len(content)) + content
+
+
+# Names that stand in place of the global, those that are drawn for them, and the lines that bind these.
+OTHERS = [
+    (
+        {"module": "./m.js", "name": "Widget"},
+        "Widget",
+        'import { Widget } from "./m.js";',
+    ),
+    (
+        {"vendor": "Gadget", "prefixes": ["webkit"]},
+        "lGadget",
+        'const lGadget = (typeof Gadget !== "undefined" ? Gadget : '
+        '(typeof webkitGadget !== "undefined" ? webkitGadget : undefined));',
+    ),
+]
+
+
+def is_import_itself(case, name):
+    """Whether a name of a module is called with nothing changed: it is the import itself; a property of one isn't built."""
+    plain = case["kind"] == "normal" and not case["variadic"] and "u" not in case["args"]
+    return "module" in name and case["what"][0] == "Bare" and plain
+
+
+def with_others(cases):
+    """The cases, and those that begin with the global again, with each of the other names."""
+    more = list(cases)
+    for name, drawn, _ in OTHERS:
+        for case in cases:
+            named = [part for part in case["what"] if isinstance(part, dict) and part.get("global") == "Thing"]
+            if named and not is_import_itself(case, name):
+                what = [{**name, "fields": part["fields"]} if part in named else part for part in case["what"]]
+                text = case["text"].replace("Thing", drawn)
+                more.append({**case, "name": f"{case['name']} by {drawn}", "what": what, "text": text})
+    return more
 
 
 def adapters(case, place):
@@ -88,13 +125,16 @@ def statements(text, place):
 
 def main():
     command = [os.environ.get("GLUE", str(HERE.parent / "glue"))]
-    cases = json.loads((HERE / "imports.json").read_text(encoding="utf-8"))
+    cases = with_others(json.loads((HERE / "imports.json").read_text(encoding="utf-8")))
     told = [listing(command, [case]) for case in cases]
     built = [case for case, text in zip(cases, told) if not text.startswith("fault")]
     refused = [text for text in told if text.startswith("fault")]
     if any(text != "fault NotBuilt\n" for text in refused):
         sys.exit(f"refused in another way: {sorted(set(refused))}")
     text = listing(command, built)
+    front = text[text.index("\nfile out.js") :].split("\n")[2 : 2 + len(OTHERS)]
+    if front != [line for _, _, line in OTHERS]:
+        sys.exit(f"the names are bound by {front}")
     wrong = [case for place, case in enumerate(built) if statements(text, place) != case["text"]]
     for case in wrong:
         print(f"{case['name']}: {statements(text, built.index(case))!r} in place of {case['text']!r}")

@@ -16,7 +16,6 @@ use Rattle.glue_check.specs.declared.verdict.Checked.{Checked}
 use Rattle.glue_check.proofs.FaultKinds.{first_kind}
 use Rattle.glue_context.specs.Edits.{has_start}
 use Rattle.glue_context.specs.Foreign.{foreign_modules}
-use Rattle.glue_context.specs.Items.{IsGlue}
 use Rattle.glue_context.specs.Keys.{described_keys}
 use Rattle.glue_context.specs.Linked.{IsLinked}
 use Rattle.glue_context.specs.Defined.{IsDefined}
@@ -27,7 +26,7 @@ use Rattle.glue_prepare.specs.Prepared.{prepared, finished, marker, with_marked_
 use Rattle.cli_support.specs.Configured.{Configured, call_settings, file_flags}
 use Rattle.cli_support.specs.declared.bindgen.Flags.{Flags}
 use Rattle.cli_support.specs.Listed.{IsSortedSet}
-use Rattle.cli_support.specs.Generating.{Told, pure, refuse, ready, lowered, unless, answer_of, checked, taken, ◌>>=◌, check_fault, Described, described_by, Made, IsMadeOf, IsLate, Answers, CallAnswers, collected_description}
+use Rattle.cli_support.specs.Generating.{Told, pure, refuse, ready, lowered, unless, answer_of, checked, taken, ◌>>=◌, check_fault, Described, described_by, Made, AreItemsOf, IsMadeOf, IsLate, Answers, CallAnswers, collected_description}
 
 -- ---- what is made
 
@@ -37,13 +36,13 @@ no_fault checked = rw (checked.built, checked.passed) refl
 
 -- the output of items and of the module that goes with them
 made_of : (checked : Checked) (s : Settings) (hosts keys : List (List ℕ)) (items : List Item) (written : Contents) (missing : Bool) (o : Made) → checked.settings ≡ s
-    → IsSortedSet (host_names checked.settings checked.lowered.aux) hosts → IsSortedSet (described_keys checked.lowered.aux) keys → IsGlue checked.settings checked.lowered items
+    → IsSortedSet (host_names checked.settings checked.lowered.aux) hosts → IsSortedSet (described_keys checked.lowered.aux) keys → AreItemsOf checked.settings checked.lowered items
     → written ≡ rewritten checked.settings checked.lowered → o ≡ record { settings = s; hosts = hosts; keys = keys; items = items; js = printed items; «module» = written; features_missing = missing }
     → IsMadeOf checked.settings checked.lowered o
 made_of checked s hosts keys items written missing o of_settings of_hosts of_keys g w is_made =
     let own = checked.settings in
     let l = checked.lowered in
-    let k = sound checked.files own l items checked.built checked.passed g in
+    let k = sound checked.files own g.names l items checked.built checked.passed g.drawn g.glue in
     subst (IsMadeOf own l) (sym is_made) (record {
       same_settings = sym of_settings;
       hosts = of_hosts;
@@ -52,7 +51,7 @@ made_of checked s hosts keys items written missing o of_settings of_hosts of_key
       js = refl;
       «module» = w;
       linked = subst (λ (m : Contents). IsLinked own (host_names own l.aux) (described_keys l.aux) (foreign_modules own l) m items (has_start l.«module»)) (sym w) k.linked;
-      defined = subst (λ (m : Contents). IsDefined own l m items) (sym w) k.defined;
+      defined = subst (λ (m : Contents). IsDefined own g.names l m items) (sym w) k.defined;
       published = k.published;
     })
 
@@ -186,7 +185,7 @@ module _ (told : Settings → Contents → Option (Option Lowered)) (c : Configu
 
       pub output_made : (checked : Checked) (hosts keys : List (List ℕ)) (items : List Item) (written : Contents) (o : Made) → checked.files ≡ files → checked.settings ≡ p.settings
           → checked.lowered ≡ kept → IsSortedSet (host_names checked.settings checked.lowered.aux) hosts → IsSortedSet (described_keys checked.lowered.aux) keys
-          → IsGlue checked.settings checked.lowered items → written ≡ rewritten checked.settings checked.lowered
+          → AreItemsOf checked.settings checked.lowered items → written ≡ rewritten checked.settings checked.lowered
           → o ≡ record { settings = p.settings; hosts = hosts; keys = keys; items = items; js = printed items; «module» = written; features_missing = p.features_missing } → CallAnswers told c (Ok o)
       output_made checked hosts keys items written o same_files same_settings same_lowered of_hosts of_keys g w is_made =
           let made = subst (λ (x : Settings). IsMadeOf x checked.lowered o) same_settings (made_of checked p.settings hosts keys items written p.features_missing o same_settings of_hosts of_keys g w is_made) in

@@ -28,6 +28,8 @@ use Rattle.cli_support.specs.declared.bindgen.Handed.{Handed}
 use Rattle.cli_support.specs.declared.bindgen.Handed.TheVariants as handed
 use Rattle.glue_context.specs.Edits.{has_start}
 use Rattle.glue_context.specs.Foreign.{foreign_modules}
+use Rattle.glue_shared.specs.declared.name_map.NameMap.{NameMap}
+use Rattle.glue_naming.specs.Naming.{AreNames}
 use Rattle.glue_context.specs.Items.{IsGlue}
 use Rattle.glue_context.specs.Rewritten.{rewritten}
 use Rattle.glue_context.specs.Linked.{IsLinked}
@@ -205,18 +207,24 @@ pub record Made : Type 0 where
   pub «module» : Contents
   pub features_missing : Bool
 
+-- the items that a description asks for, under names that are drawn for it
+pub record AreItemsOf (settings : Settings) (l : Lowered) (items : List Item) : Type 0 where
+  pub names : NameMap
+  pub drawn : AreNames settings l names
+  pub glue : IsGlue settings names l items
+
 -- What a call makes of a description: the names of the outside (the description's among them) and its computed keys, in order of bytes and each once, the
--- items that it asks for, their text, and the module with its own imports moved and its start function exported. The items are linked with
+-- items that it asks for under names that are drawn for it, their text, and the module with its own imports moved and its start function exported. The items are linked with
 -- that module, define each own import once, and publish exactly the public tree.
 pub record IsMadeOf (settings : Settings) (l : Lowered) (o : Made) : Type 0 where
   pub same_settings : o.settings ≡ settings
   pub hosts : IsSortedSet (host_names settings l.aux) o.hosts
   pub keys : IsSortedSet (described_keys l.aux) o.keys
-  pub glue : IsGlue settings l o.items
+  pub glue : AreItemsOf settings l o.items
   pub js : o.js ≡ printed o.items
   pub «module» : o.«module» ≡ rewritten settings l
   pub linked : IsLinked settings (host_names settings l.aux) (described_keys l.aux) (foreign_modules settings l) o.«module» o.items (has_start l.«module»)
-  pub defined : IsDefined settings l o.«module» o.items
+  pub defined : IsDefined settings glue.names l o.«module» o.items
   pub published : IsPublished settings l.aux (fixed_public settings l.«module» l.wit l.aux) o.items
 
 -- the answer is the fault that is told, or want of memory

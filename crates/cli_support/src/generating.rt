@@ -4,7 +4,6 @@ ghost use Rattle.std.specs.List.{list_all};
 ghost use Rattle.wasm_core.specs.Parsing as parsing;
 ghost use Rattle.values.specs.Count.{Rose};
 ghost use Rattle.glue_context.specs.Edits.{AreFit, edited};
-ghost use Rattle.glue_context.specs.Items.{IsGlue};
 ghost use Rattle.glue_context.specs.Keys.{described_keys};
 ghost use Rattle.glue_context.specs.Rewritten.{edits_of, rewritten};
 ghost use Rattle.glue_shared.specs.Names.{host_names};
@@ -169,15 +168,23 @@ fn list(alloc: Global, checked: &Checked) -> Result<(Seq<Text>, Seq<Text>), Allo
     Ok((hosts, keys))
 }
 
-// The items of a description, and what is changed in its module.
-#[tactic(auto, using(glue_context::proofs::Facts::bindable_built, glue_context::proofs::Facts::definable_built, glue_naming::proofs::Own::all_own))]
-fn plan(alloc: Global, checked: &Checked) -> Result<(Seq<Item>, Edits), AllocError>
-    ensures items { IfOk result (λ drawn. IsGlue checked.now.settings checked.now.lowered drawn.0) }
-    ensures edits { IfOk result (λ drawn. drawn.1 ≡ edits_of checked.now.settings checked.now.lowered) }
-    ensures fit { IfOk result (λ drawn. AreFit drawn.1 checked.now.lowered.«module») }
+// The items of a description, under names that are drawn for it.
+#[tactic(auto, using(glue_context::proofs::Facts::bindable_built, glue_context::proofs::Facts::definable_built))]
+fn planned_items(alloc: Global, checked: &Checked) -> Result<Seq<Item>, AllocError>
+    ensures items { IfOk result (λ items. spec.AreItemsOf checked.now.settings checked.now.lowered items) }
 {
     let names = draw_names::<IdentScope>(alloc, checked)?;
     let items = glue_items::<IdentScope>(alloc, checked.settings(), checked.lowered(), &names)?;
+    Ok(items)
+}
+
+// The items of a description, and what is changed in its module.
+fn plan(alloc: Global, checked: &Checked) -> Result<(Seq<Item>, Edits), AllocError>
+    ensures items { IfOk result (λ drawn. spec.AreItemsOf checked.now.settings checked.now.lowered drawn.0) }
+    ensures edits { IfOk result (λ drawn. drawn.1 ≡ edits_of checked.now.settings checked.now.lowered) }
+    ensures fit { IfOk result (λ drawn. AreFit drawn.1 checked.now.lowered.«module») }
+{
+    let items = planned_items(alloc, checked)?;
     let edits = edits_of(alloc, checked.settings(), checked.lowered())?;
     Ok((items, edits))
 }
@@ -199,7 +206,7 @@ fn change(alloc: Global, module: Module, edits: &Edits) -> Result<Module, AllocE
 
 // The items of a description, and its module with what is changed for them.
 fn draw(alloc: Global, checked: Checked) -> Result<(Seq<Item>, Module), AllocError>
-    ensures items { IfOk result (λ drawn. IsGlue checked.settings checked.lowered drawn.0) }
+    ensures items { IfOk result (λ drawn. spec.AreItemsOf checked.settings checked.lowered drawn.0) }
     ensures rewritten { IfOk result (λ drawn. drawn.1 ≡ rewritten checked.settings checked.lowered) }
 {
     match plan(alloc, &checked) {

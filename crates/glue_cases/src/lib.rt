@@ -23,6 +23,8 @@ mod listed;
 #[cfg(test)]
 mod marked;
 #[cfg(test)]
+mod names;
+#[cfg(test)]
 mod prepare;
 #[cfg(test)]
 mod scope;

@@ -105,7 +105,7 @@ const TURNED: &[(&[(Switch, bool)], &[u8], &str)] = &[
     (&[(Switch::Typescript, true)], EMPTY, SETTINGS),
     (&[(Switch::ExportWasm, true)], EMPTY, SETTINGS),
     (&[(Switch::OmitImports, true)], EMPTY, IMPORTS),
-    (&[(Switch::SplitLinkedModules, true)], EMPTY, IMPORTS),
+    (&[(Switch::SplitLinkedModules, true)], EMPTY, "56"),
     (&[(Switch::SplitDebugInfo, true)], EMPTY, FILES),
     // In their order, and off again.
     (

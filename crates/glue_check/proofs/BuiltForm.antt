@@ -27,8 +27,8 @@ use Rattle.glue_adapters.specs.Pairs.{is_placeholder}
 use Rattle.glue_check.specs.declared.files.FileFlags.{FileFlags}
 use Rattle.glue_check.specs.declared.verdict.Condition.TheVariants as conditions
 use Rattle.glue_check.specs.Answers.{answer}
-use Rattle.glue_check.specs.Handed.{own_callees, is_handed}
-use Rattle.glue_check.specs.Links.{is_bare_link}
+use Rattle.glue_check.specs.Handed.{is_part_pair}
+use Rattle.glue_check.specs.Links.{unembedded}
 use Rattle.glue_check.specs.Unbuilt as spec
 use Rattle.glue_imports.specs.Expressions.{has_expression}
 use Rattle.glue_check.specs.Unbuilt.{is_unbuilt_entry, is_unbuilt_export, is_unbuilt_adapter}
@@ -107,42 +107,38 @@ placeholder_is i h ours = by (is_placeholder (Some i)) (bytes_eq i.«module» (c
 memory_is : (m : Memory) → spec.is_memory_imported (Some m) ≡ false → m.import ≡ None
 memory_is m h = absent m.import h
 
--- the imports of the module and of the description, and the settings on them
+-- the imports of the module and of the description, and the setting on them
 pub record AreBuiltImports (s : Settings) (l : Lowered) : Type 0 where
   pub placeholders : (i : Import) → IsIn (Some i) l.«module».imports → is_placeholder (Some i) ≡ true → spec.is_function i.kind ≡ true
   pub memories : (m : Memory) → IsIn (Some m) l.«module».memories → m.import ≡ None
-  pub expressions : (e : ℕ × AuxImport) → IsIn e l.aux.imports → (has_expression e.1 || (is_bare_link e.1 || is_handed (own_callees s l) e)) ≡ true
+  pub expressions : (e : ℕ × AuxImport) → IsIn e l.aux.imports → (has_expression s e.1 || is_some (unembedded s.split_linked_modules e)) ≡ true
   pub kept : s.omit_imports ≡ false
-  pub joined : s.split_linked_modules ≡ false
 
 pub imports_built : (f : FileFlags) (s : Settings) (l : Lowered) → unbuilt f s l ≡ None → AreBuiltImports s l
 unfolding answer is_unbuilt_entry
 imports_built f s l h =
-    let unbuilt_entry = is_unbuilt_entry (own_callees s l) in
-    let forms = spec.has_other_imports l.«module» || list_any unbuilt_entry l.aux.imports in
-    let asked = s.omit_imports || s.split_linked_modules in
+    let entries = list_any (is_unbuilt_entry s) l.aux.imports in
+    let parts = list_any (is_part_pair l) l.wit.implements in
+    let forms = spec.has_other_imports l.«module» || (entries || parts) in
     let slots = is_some_item l.aux.static_slots in
-    let all = neither forms (slots || asked) (where_true-none (forms || (slots || asked)) _ (none_unbuilt conditions.UnbuiltImports f s l (search rules) h)) in
-    let both = neither (spec.has_other_imports l.«module») (list_any unbuilt_entry l.aux.imports) all.0 in
+    let all = neither forms (slots || s.omit_imports) (where_true-none (forms || (slots || s.omit_imports)) _ (none_unbuilt conditions.UnbuiltImports f s l (search rules) h)) in
+    let both = neither (spec.has_other_imports l.«module») (entries || parts) all.0 in
+    let described = neither entries parts both.1 in
     let brought = neither (list_any spec.is_other_import l.«module».imports) (list_any spec.is_memory_imported l.«module».memories) both.0 in
-    let rest = neither slots asked all.1 in
-    let set = neither s.omit_imports s.split_linked_modules rest.1 in record {
+    let rest = neither slots s.omit_imports all.1 in record {
       placeholders = λ i k. placeholder_is i (list_any-none spec.is_other_import l.«module».imports (Some i) brought.0 k);
       memories = λ m k. memory_is m (list_any-none spec.is_memory_imported l.«module».memories (Some m) brought.1 k);
-      expressions = λ e i. not_false (has_expression e.1 || (is_bare_link e.1 || is_handed (own_callees s l) e)) (list_any-none unbuilt_entry l.aux.imports e both.1 i);
-      kept = set.0;
-      joined = set.1;
+      expressions = λ e i.
+          not_false (has_expression s e.1 || is_some (unembedded s.split_linked_modules e)) (list_any-none (is_unbuilt_entry s) l.aux.imports e described.0 i);
+      kept = rest.1;
     }
 
 -- ---- exports
 
--- a function at the top level, whose name the glue file may declare as it is
-pub record IsBuiltExport (s : Settings) (l : Lowered) (e : AuxExport) : Type 0 where
+-- a function at the top level
+pub record IsBuiltExport (e : AuxExport) : Type 0 where
   pub top : e.namespace ≡ []
   pub function : e.kind ≡ export_kinds.Function
-  pub ident : is_ident e.name ≡ true
-  pub no_host : IsAway e.name (host_names s l.aux)
-  pub no_fixed : IsAway e.name (fixed_names s l.«module»)
 
 -- neither a member nor a function that takes `this`
 function_is : (k : AuxExportKind) → not (spec.is_function_kind k) ≡ false → spec.takes_this k ≡ false → k ≡ export_kinds.Function
@@ -151,39 +147,23 @@ function_is export_kinds.FunctionThis h t = absurd (true≢false t)
 function_is export_kinds.Constructor h t = absurd (true≢false h)
 function_is (export_kinds.Method m) h t = absurd (true≢false h)
 
-named : (s : Settings) (l : Lowered) (name : List ℕ) (b : Bool) → b ≡ true → (b && not (spec.is_free_name s l name)) ≡ false → spec.is_free_name s l name ≡ true
-named s l name true e h = not_false (spec.is_free_name s l name) h
-named s l name false e h = cc
-
--- exports of an export's kind and name
-abbrev pub asked_exports : Settings → Lowered → Bool
-asked_exports s l = list_any (is_unbuilt_export s l) l.aux.exports
-
 -- each export is such a function
-pub exports_built : (f : FileFlags) (s : Settings) (l : Lowered) → unbuilt f s l ≡ None → (e : AuxExport) → IsIn e l.aux.exports → IsBuiltExport s l e
+pub exports_built : (f : FileFlags) (s : Settings) (l : Lowered) → unbuilt f s l ≡ None → (e : AuxExport) → IsIn e l.aux.exports → IsBuiltExport e
 unfolding answer is_unbuilt_export
 exports_built f s l h e i =
+    let asked = list_any is_unbuilt_export l.aux.exports in
     let others = is_some_item l.aux.enums || (is_some_item l.aux.string_enums || is_some_item l.aux.reexports) in
-    let listed = (neither (asked_exports s l) others (where_true-none (asked_exports s l || others) _ (none_unbuilt conditions.UnbuiltExports f s l (search rules) h))).0 in
-    let form = neither (is_some_item e.namespace || spec.has_text e.comments) (spec.is_function_kind e.kind && not (spec.is_free_name s l e.name)) (list_any-none (is_unbuilt_export s l) l.aux.exports e listed i) in
-    let place = neither (is_some_item e.namespace) (spec.has_text e.comments) form.0 in
+    let listed = (neither asked others (where_true-none (asked || others) _ (none_unbuilt conditions.UnbuiltExports f s l (search rules) h))).0 in
+    let place = neither (is_some_item e.namespace) (spec.has_text e.comments) (list_any-none is_unbuilt_export l.aux.exports e listed i) in
     let classes = neither (is_some_item l.aux.structs) (list_any spec.is_member l.aux.exports) (where_true-none (is_some_item l.aux.structs || list_any spec.is_member l.aux.exports) _ (none_unbuilt conditions.UnbuiltClasses f s l (search rules) h)) in
     let alone = list_any-none spec.is_member l.aux.exports e classes.1 i in
     let codes = list_any is_unbuilt_adapter l.wit.adapters || is_some_item l.wit.exports in
     let kept = is_some_item l.aux.imports_with_catch || list_any spec.is_special_export l.aux.exports in
     let passed = neither codes kept (where_true-none (codes || kept) _ (none_unbuilt conditions.UnbuiltInstructions f s l (search rules) h)) in
     let special = list_any-none spec.is_special_export l.aux.exports e (neither (is_some_item l.aux.imports_with_catch) (list_any spec.is_special_export l.aux.exports) passed.1).1 i in
-    let this = (neither (spec.takes_this e.kind) (e.variadic || e.jsdoc) special).0 in
-    let free = named s l e.name (spec.is_function_kind e.kind) (not_false (spec.is_function_kind e.kind) alone) form.1 in
-    let hosted = is_one_of (host_names s l.aux) e.name in
-    let fixed = is_one_of (fixed_names s l.«module») e.name in
-    let parts = and_parts (is_ident e.name) (not hosted && not fixed) free in
-    let apart = and_parts (not hosted) (not fixed) parts.1 in record {
+    let this = (neither (spec.takes_this e.kind) (e.variadic || e.jsdoc) special).0 in record {
       top = nothing e.namespace place.0;
       function = function_is e.kind alone this;
-      ident = parts.0;
-      no_host = away e.name (host_names s l.aux) (not_true hosted apart.0);
-      no_fixed = away e.name (fixed_names s l.«module») (not_true fixed apart.1);
     }
 
 -- nothing but functions is described
@@ -199,7 +179,7 @@ pub only_functions : (f : FileFlags) (s : Settings) (l : Lowered) → unbuilt f 
 unfolding answer
 only_functions f s l h =
     let others = is_some_item l.aux.enums || (is_some_item l.aux.string_enums || is_some_item l.aux.reexports) in
-    let listed = (neither (asked_exports s l) others (where_true-none (asked_exports s l || others) _ (none_unbuilt conditions.UnbuiltExports f s l (search rules) h))).1 in
+    let listed = (neither (list_any is_unbuilt_export l.aux.exports) others (where_true-none (list_any is_unbuilt_export l.aux.exports || others) _ (none_unbuilt conditions.UnbuiltExports f s l (search rules) h))).1 in
     let more = neither (is_some_item l.aux.enums) (is_some_item l.aux.string_enums || is_some_item l.aux.reexports) listed in
     let last = neither (is_some_item l.aux.string_enums) (is_some_item l.aux.reexports) more.1 in
     let classes = neither (is_some_item l.aux.structs) (list_any spec.is_member l.aux.exports) (where_true-none (is_some_item l.aux.structs || list_any spec.is_member l.aux.exports) _ (none_unbuilt conditions.UnbuiltClasses f s l (search rules) h)) in

@@ -31,25 +31,24 @@ with_name name [] i = absurd i
 with_name name (e ∷ exports) (inl is) = (e, inl refl, is)
 with_name name (e ∷ exports) (inr later) = let r = with_name name exports later in (r.0, inr r.1, r.2)
 
-module _ (s : Settings) (l : Lowered) where
-  -- a function at the top level is called by its name
-  plain : (e : AuxExport) → IsBuiltExport s l e → qualified e ≡ e.name
-  plain e b = ap (λ (namespace : List (List ℕ)). qualified_name namespace e.name) b.top
+-- a function at the top level is called by its name
+pub plain : (e : AuxExport) → IsBuiltExport e → qualified e ≡ e.name
+plain e b = ap (λ (namespace : List (List ℕ)). qualified_name namespace e.name) b.top
 
-  apart : (e later : AuxExport) → IsBuiltExport s l e → IsBuiltExport s l later → same_path e later ≡ false → bytes_eq e.name later.name ≡ false
-  apart e later a b h =
-      ap (λ (x : List ℕ). bytes_eq x later.name) (sym (plain e a)) ∙ ap (bytes_eq (qualified e)) (sym (plain later b))
-      ∙ third (is_function_kind e.kind) (is_function_kind later.kind) (bytes_eq (qualified e) (qualified later)) (ap is_function_kind a.function) (ap is_function_kind b.function) h
+apart : (e later : AuxExport) → IsBuiltExport e → IsBuiltExport later → same_path e later ≡ false → bytes_eq e.name later.name ≡ false
+apart e later a b h =
+    ap (λ (x : List ℕ). bytes_eq x later.name) (sym (plain e a)) ∙ ap (bytes_eq (qualified e)) (sym (plain later b))
+    ∙ third (is_function_kind e.kind) (is_function_kind later.kind) (bytes_eq (qualified e) (qualified later)) (ap is_function_kind a.function) (ap is_function_kind b.function) h
 
-  distinct : (exports : List AuxExport) → ((e : AuxExport) → IsIn e exports → IsBuiltExport s l e) → AreCompatible same_path exports → AreDistinct (names_of exports)
-  distinct [] built h = tt
-  distinct (e ∷ exports) built h = (
-    λ i.
-        let r = with_name e.name exports i in
-        false≢true (sym (apart e r.0 (built e (inl refl)) (built r.0 (inr r.1)) (h.0 r.0 r.1)) ∙ (bytes_eq-Decides e.name (r.0).name).1 r.2),
-    distinct exports (λ x k. built x (inr k)) h.1,
-  )
+distinct : (exports : List AuxExport) → ((e : AuxExport) → IsIn e exports → IsBuiltExport e) → AreCompatible same_path exports → AreDistinct (names_of exports)
+distinct [] built h = tt
+distinct (e ∷ exports) built h = (
+  λ i.
+      let r = with_name e.name exports i in
+      false≢true (sym (apart e r.0 (built e (inl refl)) (built r.0 (inr r.1)) (h.0 r.0 r.1)) ∙ (bytes_eq-Decides e.name (r.0).name).1 r.2),
+  distinct exports (λ x k. built x (inr k)) h.1,
+)
 
 -- no two exported functions have one name
 pub distinct_functions : (f : FileFlags) (s : Settings) (l : Lowered) → unbuilt f s l ≡ None → verdict s l ≡ None → AreDistinct (names_of l.aux.exports)
-distinct_functions f s l built passed = distinct s l l.aux.exports (exports_built f s l built) (compatible_paths s l passed)
+distinct_functions f s l built passed = distinct l.aux.exports (exports_built f s l built) (compatible_paths s l passed)

@@ -1,21 +1,31 @@
 -- An import that is called with as many arguments as it takes has each operand that its expression names.
-use Rattle.std.proofs.Common.{◌≡◌, ℕ, ◌+◌, ◌==◌, ◌≤◌, List, [], ◌∷◌, ◌++◌, map, refl, sym, subst, Bool, true, false, Option, Some, None, arith}
+use Rattle.std.proofs.Common.{◌≡◌, ℕ, ◌+◌, ◌==◌, ◌≤◌, List, [], ◌∷◌, ◌++◌, map, refl, sym, ap, ◌∙◌, subst, Bool, true, false, Option, Some, None, arith}
 use Rattle.std.proofs.lemmas.Bool.{and_parts}
+use Rattle.std.proofs.lemmas.List.{append-nil}
 use Rattle.std.proofs.lemmas.Bool.Decides.{nat_tests}
 use Rattle.std.specs.Prelude.{◌||◌, not, max, nat_le, codes, option_map}
+use Rattle.glue_words.specs.declared.key.TheConstants as key
 use Rattle.glue_shared.specs.declared.adapter.AdapterJsImportKind.{AdapterJsImportKind}
 use Rattle.glue_shared.specs.declared.adapter.AdapterJsImportKind.TheVariants as calls
 use Rattle.glue_shared.specs.declared.import.AuxImport.{AuxImport}
 use Rattle.glue_shared.specs.declared.import.AuxImport.TheVariants as what
+use Rattle.glue_shared.specs.declared.import.AuxValue.{AuxValue}
 use Rattle.glue_shared.specs.declared.import.AuxValue.TheVariants as v
 use Rattle.glue_shared.specs.declared.import.Intrinsic.{Intrinsic}
 use Rattle.glue_shared.specs.declared.import.Intrinsic.TheVariants as i
 use Rattle.glue_shared.specs.declared.import.JsImport.{JsImport}
+use Rattle.glue_shared.specs.declared.import.JsImportName.{JsImportName}
+use Rattle.glue_shared.specs.declared.import.JsImportName.TheVariants as names
+use Rattle.glue_shared.specs.declared.name_map.NameMap.{NameMap}
+use Rattle.glue_shared.specs.declared.settings.Settings.{Settings}
+use Rattle.glue_shared.specs.declared.settings.Target.{Target}
+use Rattle.glue_shared.specs.declared.settings.Target.TheVariants as targets
 use Rattle.glue_imports.specs.declared.part.Part.{Part}
 use Rattle.glue_imports.specs.declared.part.Part.TheVariants as part
 use Rattle.glue_imports.specs.declared.part.Expression.{Expression}
-use Rattle.glue_imports.specs.Preludes.{plain, instance_of, cast, link, present}
-use Rattle.glue_imports.specs.Expressions.{global_name, around, assigned, index, new_front, delete_front, static_parts, parts_of, instance_test, intrinsic_expression, expression}
+use Rattle.glue_imports.specs.Roots.{root_name, root_of, root}
+use Rattle.glue_imports.specs.Preludes.{line_end, catch_front, result_is, close_line, plain, instance_of, cast, linked, present}
+use Rattle.glue_imports.specs.Expressions.{around, assigned, index, new_front, delete_front, accessor_front, owner, described_call, accessor, value_parts, static_parts, parts_of, intrinsic_expression, expression}
 use Rattle.glue_adapters.specs.Called.{intrinsic_count, argument_count, is_count, may_spread, fewest, fits_count}
 
 -- how many operands there have to be for one that a part names
@@ -54,104 +64,146 @@ given : (o : Option ℕ) (n count : ℕ) → suffices o n ≡ true → is_count 
 given None n count h k = grind (arith, nat_tests)
 given (Some wanted) n count h k = grind (arith, nat_tests)
 
-around_suffices : (o : Option ℕ) (front : List Part) (js : JsImport) (behind : List Part) → suffices o 0 ≡ true
-    → ((name : List ℕ) → suffices o (operands_asked (front ++ part.Host name js.fields ∷ behind)) ≡ true)
-    → suffices o (parts_asked_if (around front js behind)) ≡ true
-around_suffices o front js behind none h = by (global_name js.name)
+-- ---- what an import begins with asks for none
+
+zero_max : (n : ℕ) → max 0 n ≡ n
+zero_max n = omega arith
+
+fields_asked : (fields : List (List ℕ)) (behind : List Part) → operands_asked (map part.Property fields ++ behind) ≡ operands_asked behind
+fields_asked [] behind = refl
+fields_asked (field ∷ fields) behind = zero_max (operands_asked (map part.Property fields ++ behind)) ∙ fields_asked fields behind
+
+root_asked : (m : NameMap) (js : JsImport) (behind : List Part) → operands_asked (root m js ++ behind) ≡ operands_asked behind
+root_asked m js behind = by js.name
   where
-    by : (named : Option (List ℕ)) → suffices o (parts_asked_if (option_map (λ name. front ++ part.Host name js.fields ∷ behind) named)) ≡ true
-    by None = none
-    by (Some name) = h name
+    by : (n : JsImportName) → operands_asked (root_of m js.fields n ++ behind) ≡ operands_asked behind
+    by (names.Global name) = zero_max (operands_asked behind)
+    by other = zero_max (operands_asked (map part.Property js.fields ++ behind)) ∙ fields_asked js.fields behind
 
-intrinsic_suffices : (bound : Bool) (name : Intrinsic) → suffices (intrinsic_count name) (asked_if (intrinsic_expression bound name)) ≡ true
-intrinsic_suffices true i.ObjectCloneRef = refl
-intrinsic_suffices true i.ObjectDropRef = refl
-intrinsic_suffices false i.ObjectCloneRef = refl
-intrinsic_suffices false i.ObjectDropRef = refl
-intrinsic_suffices bound other = refl
+around_asked : (m : NameMap) (front : List Part) (js : JsImport) (behind : List Part) → operands_asked (around m front js behind) ≡ operands_asked (front ++ behind)
+around_asked m [] js behind = root_asked m js behind
+around_asked m (p ∷ front) js behind = ap (max (asked p)) (around_asked m front js behind)
 
--- the values themselves name no operand by its place
-value_suffices : (call : AdapterJsImportKind) (spread : Bool) (js : JsImport)
-    → suffices None (parts_asked_if (parts_of call spread (what.Value (v.Bare js)))) ≡ true
-value_suffices calls.Normal spread js = around_suffices None [] js (part.Arguments spread ∷ []) refl (λ name. refl)
-value_suffices calls.Method spread js =
-    around_suffices None [] js (part.Property (codes "call") ∷ part.Arguments spread ∷ []) refl (λ name. refl)
-value_suffices calls.Constructor spread js = around_suffices None new_front js (part.Arguments spread ∷ []) refl (λ name. refl)
+around_suffices : (o : Option ℕ) (m : NameMap) (front : List Part) (js : JsImport) (behind : List Part)
+    → suffices o (operands_asked (front ++ behind)) ≡ true → suffices o (operands_asked (around m front js behind)) ≡ true
+around_suffices o m front js behind h = ap (suffices o) (around_asked m front js behind) ∙ h
+
+-- nor where they stand in the middle
+fields_within : (fields : List (List ℕ)) (first second third : List Part)
+    → operands_asked (((map part.Property fields ++ first) ++ second) ++ third) ≡ operands_asked ((first ++ second) ++ third)
+fields_within [] first second third = refl
+fields_within (field ∷ fields) first second third =
+    zero_max (operands_asked (((map part.Property fields ++ first) ++ second) ++ third)) ∙ fields_within fields first second third
+
+-- ---- each kind
+
+intrinsic_suffices : (externref bound : Bool) (name : Intrinsic)
+    → suffices (intrinsic_count name) (asked_if (intrinsic_expression externref bound name)) ≡ true
+intrinsic_suffices externref true i.ObjectCloneRef = refl
+intrinsic_suffices externref true i.ObjectDropRef = refl
+intrinsic_suffices externref false i.ObjectCloneRef = refl
+intrinsic_suffices externref false i.ObjectDropRef = refl
+intrinsic_suffices true bound i.ExternrefHeapLiveCount = refl
+intrinsic_suffices false bound i.ExternrefHeapLiveCount = refl
+intrinsic_suffices externref bound other = refl
+
+accessor_suffices : (m : NameMap) (js : JsImport) (of_instances : Bool) (field which : List ℕ) (spread : Bool)
+    → suffices None (operands_asked (accessor m js of_instances (described_call field which spread))) ≡ true
+accessor_suffices m js true field which spread =
+    around_suffices None m accessor_front js (owner true ++ described_call field which spread) refl
+accessor_suffices m js false field which spread =
+    around_suffices None m accessor_front js (owner false ++ described_call field which spread) refl
+
+-- the values themselves, and accessors, name no operand by its place
+value_suffices : (m : NameMap) (call : AdapterJsImportKind) (spread : Bool) (value : AuxValue)
+    → suffices None (operands_asked (value_parts m call spread value)) ≡ true
+value_suffices m calls.Normal spread (v.Bare js) = around_suffices None m [] js (part.Arguments spread ∷ []) refl
+value_suffices m calls.Method spread (v.Bare js) =
+    around_suffices None m [] js (part.Property (codes "call") ∷ part.Arguments spread ∷ []) refl
+value_suffices m calls.Constructor spread (v.Bare js) = around_suffices None m new_front js (part.Arguments spread ∷ []) refl
+value_suffices m call spread (v.Getter js field) = accessor_suffices m js true field (codes "get") spread
+value_suffices m call spread (v.ClassGetter js field) = accessor_suffices m js false field (codes "get") spread
+value_suffices m call spread (v.Setter js field) = accessor_suffices m js true field (codes "set") spread
+value_suffices m call spread (v.ClassSetter js field) = accessor_suffices m js false field (codes "set") spread
 
 -- nor do properties that are read from it
 chained_asked : (fields : List (List ℕ)) → operands_asked (map part.Chained fields) ≡ 0
 chained_asked [] = refl
 chained_asked (field ∷ fields) = rw (chained_asked fields) refl
 
-present_suffices : (js : JsImport) → suffices (Some 0) (parts_asked_if (static_parts js true)) ≡ true
-present_suffices js = by (global_name js.name)
+static_suffices : (m : NameMap) (js : JsImport) (optional : Bool) → suffices (Some 0) (operands_asked (static_parts m js optional)) ≡ true
+static_suffices m js true = by js.name
   where
-    by : (named : Option (List ℕ)) → suffices (Some 0) (parts_asked_if (option_map (λ name. present name js.fields) named)) ≡ true
-    by None = refl
-    by (Some name) = rw (chained_asked js.fields) refl
+    by : (n : JsImportName) → suffices (Some 0) (operands_asked (present (root_name m n) js.fields)) ≡ true
+    by (names.Global name) = rw (chained_asked js.fields) refl
+    by other = rw (chained_asked js.fields) refl
+static_suffices m js false = ap (λ (ps : List Part). suffices (Some 0) (operands_asked ps)) (sym (append-nil (root m js))) ∙ ap (suffices (Some 0)) (root_asked m js [])
 
-instance_suffices : (js : JsImport) → suffices (Some 1) (asked_if (instance_test js)) ≡ true
-instance_suffices js = by (global_name js.name)
+instance_suffices : (m : NameMap) (js : JsImport) → suffices (Some 1) (expression_asked (instance_of (root m js))) ≡ true
+instance_suffices m js = by js.name
   where
-    by : (named : Option (List ℕ)) → suffices (Some 1) (asked_if (option_map (λ name. instance_of (part.Host name js.fields)) named)) ≡ true
-    by None = refl
-    by (Some name) = refl
+    by : (n : JsImportName) → suffices (Some 1) (expression_asked (instance_of (root_of m js.fields n))) ≡ true
+    by (names.Global name) = refl
+    by other = rw (fields_within js.fields line_end (catch_front ++ part.LineFeed ∷ result_is (part.Key key.FALSE ∷ line_end) ++ close_line) (part.Local 0 ∷ [])) refl
 
 cast_suffices : (bound : Bool) (comment : List ℕ) → suffices (Some 1) (expression_asked (cast bound comment)) ≡ true
 cast_suffices true comment = refl
 cast_suffices false comment = refl
 
-link_suffices : (content : Option (List ℕ)) → suffices (Some 0) (asked_if (option_map link content)) ≡ true
-link_suffices None = refl
-link_suffices (Some content) = refl
+link_suffices : (split : Bool) (target : Target) (path : List ℕ) (content : Option (List ℕ))
+    → suffices (Some 0) (asked_if (linked split target path content)) ≡ true
+link_suffices true (targets.Node true) path content = refl
+link_suffices true (targets.Node false) path content = refl
+link_suffices true other path content = refl
+link_suffices false target path None = refl
+link_suffices false target path (Some content) = refl
 
 -- with as many arguments as an import without statements takes, its expression asks for no more
-parts_given : (call : AdapterJsImportKind) (spread : Bool) (w : AuxImport) (count : ℕ) → is_count (argument_count w) count ≡ true
-    → nat_le (fewest spread w) count ≡ true → parts_asked_if (parts_of call spread w) ≤ count
-parts_given call spread (what.Value (v.Bare js)) count h few = given None _ count (value_suffices call spread js) refl
-parts_given call spread (what.ValueWithThis js property) count h few =
-    given None _ count (around_suffices None [] js (part.Property property ∷ part.Arguments spread ∷ []) refl (λ name. refl)) refl
-parts_given call true (what.StructuralMethod property) count h few = grind (arith, nat_tests)
-parts_given call false (what.StructuralMethod property) count h few = grind (arith, nat_tests)
-parts_given call spread (what.Static js true) count h few = given (Some 0) _ count (present_suffices js) h
-parts_given call spread (what.Static js false) count h few =
-    given (Some 0) _ count (around_suffices (Some 0) [] js [] refl (λ name. refl)) h
-parts_given call spread (what.StructuralGetter property) count h few = given (Some 1) 1 count refl h
-parts_given call spread (what.StructuralSetter property) count h few = given (Some 2) 2 count refl h
-parts_given call spread (what.StructuralClassGetter js property) count h few =
-    given (Some 0) _ count (around_suffices (Some 0) [] js (part.Property property ∷ []) refl (λ name. refl)) h
-parts_given call spread (what.StructuralClassSetter js property) count h few =
-    given (Some 1) _ count (around_suffices (Some 1) [] js (part.Property property ∷ assigned 0) refl (λ name. refl)) h
-parts_given call spread (what.IndexingGetterOfClass js) count h few =
-    given (Some 1) _ count (around_suffices (Some 1) [] js (index 0) refl (λ name. refl)) h
-parts_given call spread (what.IndexingSetterOfClass js) count h few =
-    given (Some 2) _ count (around_suffices (Some 2) [] js (index 0 ++ assigned 1) refl (λ name. refl)) h
-parts_given call spread (what.IndexingDeleterOfClass js) count h few =
-    given (Some 1) _ count (around_suffices (Some 1) delete_front js (index 0) refl (λ name. refl)) h
-parts_given call spread what.IndexingGetterOfObject count h few = given (Some 2) 2 count refl h
-parts_given call spread what.IndexingSetterOfObject count h few = given (Some 3) 3 count refl h
-parts_given call spread what.IndexingDeleterOfObject count h few = given (Some 2) 2 count refl h
-parts_given call spread other count h few = given None 0 count refl refl
+parts_given : (m : NameMap) (call : AdapterJsImportKind) (spread : Bool) (w : AuxImport) (count : ℕ) → is_count (argument_count w) count ≡ true
+    → nat_le (fewest spread w) count ≡ true → parts_asked_if (parts_of m call spread w) ≤ count
+parts_given m call spread (what.Value value) count h few = given None _ count (value_suffices m call spread value) refl
+parts_given m call spread (what.ValueWithThis js property) count h few =
+    given None _ count (around_suffices None m [] js (part.Property property ∷ part.Arguments spread ∷ []) refl) refl
+parts_given m call true (what.StructuralMethod property) count h few = grind (arith, nat_tests)
+parts_given m call false (what.StructuralMethod property) count h few = grind (arith, nat_tests)
+parts_given m call spread (what.Static js optional) count h few = given (Some 0) _ count (static_suffices m js optional) h
+parts_given m call spread (what.StructuralGetter property) count h few = given (Some 1) 1 count refl h
+parts_given m call spread (what.StructuralSetter property) count h few = given (Some 2) 2 count refl h
+parts_given m call spread (what.StructuralClassGetter js property) count h few =
+    given (Some 0) _ count (around_suffices (Some 0) m [] js (part.Property property ∷ []) refl) h
+parts_given m call spread (what.StructuralClassSetter js property) count h few =
+    given (Some 1) _ count (around_suffices (Some 1) m [] js (part.Property property ∷ assigned 0) refl) h
+parts_given m call spread (what.IndexingGetterOfClass js) count h few =
+    given (Some 1) _ count (around_suffices (Some 1) m [] js (index 0) refl) h
+parts_given m call spread (what.IndexingSetterOfClass js) count h few =
+    given (Some 2) _ count (around_suffices (Some 2) m [] js (index 0 ++ assigned 1) refl) h
+parts_given m call spread (what.IndexingDeleterOfClass js) count h few =
+    given (Some 1) _ count (around_suffices (Some 1) m delete_front js (index 0) refl) h
+parts_given m call spread what.IndexingGetterOfObject count h few = given (Some 2) 2 count refl h
+parts_given m call spread what.IndexingSetterOfObject count h few = given (Some 3) 3 count refl h
+parts_given m call spread what.IndexingDeleterOfObject count h few = given (Some 2) 2 count refl h
+parts_given m call spread other count h few = given None 0 count refl refl
 
-plain_given : (call : AdapterJsImportKind) (spread : Bool) (w : AuxImport) (count : ℕ) → is_count (argument_count w) count ≡ true
-    → nat_le (fewest spread w) count ≡ true → asked_if (option_map plain (parts_of call spread w)) ≤ count
-plain_given call spread w count h few =
-    subst (λ (n : ℕ). n ≤ count) (sym (plain_asked (parts_of call spread w))) (parts_given call spread w count h few)
+plain_given : (m : NameMap) (call : AdapterJsImportKind) (spread : Bool) (w : AuxImport) (count : ℕ) → is_count (argument_count w) count ≡ true
+    → nat_le (fewest spread w) count ≡ true → asked_if (option_map plain (parts_of m call spread w)) ≤ count
+plain_given m call spread w count h few =
+    subst (λ (n : ℕ). n ≤ count) (sym (plain_asked (parts_of m call spread w))) (parts_given m call spread w count h few)
 
 -- and so with any other
-asked_given : (call : AdapterJsImportKind) (spread bound : Bool) (w : AuxImport) (count : ℕ) → is_count (argument_count w) count ≡ true
-    → nat_le (fewest spread w) count ≡ true → asked_if (expression call spread bound w) ≤ count
-asked_given call spread bound (what.Instanceof js) count h few = given (Some 1) _ count (instance_suffices js) h
-asked_given call spread bound (what.Cast comment) count h few = given (Some 1) _ count (cast_suffices bound comment) h
-asked_given call spread bound (what.LinkTo path content) count h few = given (Some 0) _ count (link_suffices content) h
-asked_given call spread bound (what.Intrinsic name) count h few =
-    given (intrinsic_count name) (asked_if (intrinsic_expression bound name)) count (intrinsic_suffices bound name) h
-asked_given call spread bound other count h few = plain_given call spread other count h few
+asked_given : (s : Settings) (m : NameMap) (call : AdapterJsImportKind) (spread bound : Bool) (w : AuxImport) (count : ℕ)
+    → is_count (argument_count w) count ≡ true → nat_le (fewest spread w) count ≡ true → asked_if (expression s m call spread bound w) ≤ count
+asked_given s m call spread bound (what.Instanceof js) count h few = given (Some 1) _ count (instance_suffices m js) h
+asked_given s m call spread bound (what.Cast comment) count h few = given (Some 1) _ count (cast_suffices bound comment) h
+asked_given s m call spread bound (what.LinkTo path content) count h few =
+    given (Some 0) _ count (link_suffices s.split_linked_modules s.target path content) h
+asked_given s m call spread bound (what.Intrinsic name) count h few =
+    given (intrinsic_count name) (asked_if (intrinsic_expression s.externref bound name)) count (intrinsic_suffices s.externref bound name) h
+asked_given s m call spread bound other count h few = plain_given m call spread other count h few
 
 -- so each operand that its text names is there
-pub operands_given : (call : AdapterJsImportKind) (spread bound : Bool) (w : AuxImport) (count : ℕ) (text : Expression)
-    → fits_count spread w count ≡ true → expression call spread bound w ≡ Some text → expression_asked text ≤ count
-operands_given call spread bound w count text h e =
+pub operands_given : (s : Settings) (m : NameMap) (call : AdapterJsImportKind) (spread bound : Bool) (w : AuxImport) (count : ℕ) (text : Expression)
+    → fits_count spread w count ≡ true → expression s m call spread bound w ≡ Some text → expression_asked text ≤ count
+operands_given s m call spread bound w count text h e =
     let given = and_parts (is_count (argument_count w) count) _ h in
     let few = and_parts (not spread || may_spread w) (nat_le (fewest spread w) count) given.1 in
-    subst (λ (o : Option Expression). asked_if o ≤ count) e (asked_given call spread bound w count given.0 few.1)
+    subst (λ (o : Option Expression). asked_if o ≤ count) e (asked_given s m call spread bound w count given.0 few.1)

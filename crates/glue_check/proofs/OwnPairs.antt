@@ -27,8 +27,6 @@ use Rattle.glue_shared.specs.Names.{is_from_module, is_none, is_whole_name, entr
 use Rattle.glue_adapters.specs.Resolving.{entry_at}
 use Rattle.glue_adapters.specs.Pairs.{implemented, is_id, is_placeholder, is_fixed_kind, is_fixed_import}
 use Rattle.glue_check.specs.declared.files.FileFlags.{FileFlags}
-use Rattle.glue_imports.specs.Expressions.{global_name, has_expression}
-use Rattle.glue_check.specs.Links.{is_bare_link}
 use Rattle.glue_check.specs.Handed.{is_among, own_pairs}
 use Rattle.glue_check.specs.Unbuilt.{is_function}
 use Rattle.glue_check.specs.Verdict.{unbuilt, verdict}

@@ -44,7 +44,7 @@ use Rattle.glue_check.specs.Modules.{clashing_module, foreign_module}
 use Rattle.glue_check.specs.Naming as naming
 use Rattle.glue_check.specs.Naming.{bad_text, name_clash}
 use Rattle.glue_check.specs.Publishing as publishing
-use Rattle.glue_check.specs.Unbuilt.{global_of}
+use Rattle.glue_check.specs.Taken.{brought}
 use Rattle.glue_check.specs.Verdict.{verdict, is_shared}
 use Rattle.glue_check.proofs.Conditions.{none_of}
 use Rattle.glue_check.proofs.BuiltForm.{away, not_false}
@@ -228,28 +228,28 @@ chosen-none : (name : List ℕ) (o : Option (List ℕ)) (f : List ℕ → Option
 chosen-none name None f e h = cc
 chosen-none name (Some other) f e h = let same : name ≡ other = cc in ap f same ∙ h
 
--- the global of an import is an identifier
-pub global_ident : (s : Settings) (l : Lowered) → verdict s l ≡ None → (e : ℕ × AuxImport) → IsIn e l.aux.imports → (name : List ℕ) → global_of e.1 ≡ Some name → is_ident name ≡ true
+-- the names of the outside that an import brings are identifiers
+pub brought_ident : (s : Settings) (l : Lowered) → verdict s l ≡ None → (e : ℕ × AuxImport) → IsIn e l.aux.imports → (name : List ℕ)
+    → IsIn name (brought false e.1) → is_ident name ≡ true
 unfolding bad_text
-global_ident s l h e i name g =
-    let none = some-none (first_of naming.bad_segment l.aux.exports ∷ first_of naming.bad_global l.aux.imports ∷ find naming.is_proto (names_of s l) ∷ []) (first_of naming.bad_global l.aux.imports) (no_texts s l h) (inr (inl refl)) in
-    let here = chosen-none name (global_of e.1) (λ n. where_true (not (is_ident n)) n) g (first_of-none naming.bad_global l.aux.imports e none i) in
-    not_false (is_ident name) (where_true-none (not (is_ident name)) name here)
+brought_ident s l h e i name k =
+    let none = some-none (first_of naming.bad_segment l.aux.exports ∷ first_of naming.bad_brought l.aux.imports ∷ find naming.is_proto (names_of s l) ∷ []) (first_of naming.bad_brought l.aux.imports) (no_texts s l h) (inr (inl refl)) in
+    not_false (is_ident name) (find-none (λ (n : List ℕ). not (is_ident n)) (brought false e.1) name (first_of-none naming.bad_brought l.aux.imports e none i) k)
 
 -- and none that the glue file binds
-pub global_apart : (s : Settings) (l : Lowered) → verdict s l ≡ None → (e : ℕ × AuxImport) → IsIn e l.aux.imports → (name : List ℕ) → global_of e.1 ≡ Some name → IsAway name (fixed_names s l.«module»)
+pub brought_apart : (s : Settings) (l : Lowered) → verdict s l ≡ None → (e : ℕ × AuxImport) → IsIn e l.aux.imports → (name : List ℕ)
+    → IsIn name (brought false e.1) → IsAway name (fixed_names s l.«module»)
 unfolding answer
-global_apart s l h e i name g =
+brought_apart s l h e i name k =
     let taken = fixed_names s l.«module» in
-    let none = option_map-none faults.GlobalTwice (first_of (naming.taken_global taken) l.aux.imports) (none_of conditions.GlobalTwice s l (search rules) h) in
-    let here = chosen-none name (global_of e.1) (λ n. where_true (is_one_of taken n) n) g (first_of-none (naming.taken_global taken) l.aux.imports e none i) in
-    away name taken (where_true-none (is_one_of taken name) name here)
+    let none = option_map-none faults.GlobalTwice (first_of (naming.taken_brought taken) l.aux.imports) (none_of conditions.GlobalTwice s l (search rules) h) in
+    away name taken (find-none (is_one_of taken) (brought false e.1) name (first_of-none (naming.taken_brought taken) l.aux.imports e none i) k)
 
 -- no import that the glue file defines is called `__proto__`
 pub import_named : (s : Settings) (l : Lowered) → verdict s l ≡ None → (name : List ℕ) → IsIn name (names_of s l) → naming.is_proto name ≡ false
 unfolding bad_text
 import_named s l h name i =
-    let none = some-none (first_of naming.bad_segment l.aux.exports ∷ first_of naming.bad_global l.aux.imports ∷ find naming.is_proto (names_of s l) ∷ []) (find naming.is_proto (names_of s l)) (no_texts s l h) (inr (inr (inl refl))) in
+    let none = some-none (first_of naming.bad_segment l.aux.exports ∷ first_of naming.bad_brought l.aux.imports ∷ find naming.is_proto (names_of s l) ∷ []) (find naming.is_proto (names_of s l)) (no_texts s l h) (inr (inr (inl refl))) in
     find-none naming.is_proto (names_of s l) name none i
 
 -- ---- things of one name

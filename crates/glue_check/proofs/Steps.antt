@@ -1,10 +1,10 @@
 -- Each adapter that becomes a function has steps, and what each step names is there: where the places of instructions on the stack are
 -- checked and all is built.
-use Rattle.std.proofs.Common.{◌≡◌, ℕ, zero, suc, ◌==◌, List, [], ◌∷◌, map, arith, true, false, Option, Some, None, true≢false, refl, sym, ◌∙◌, subst, Bool, inl, inr}
-use Rattle.std.specs.Prelude.{option_and_then, IsSomeAnd}
+use Rattle.std.proofs.Common.{◌≡◌, ℕ, zero, suc, ◌==◌, List, [], ◌∷◌, map, arith, true, false, Option, Some, None, true≢false, refl, sym, ap, ◌∙◌, subst, Bool, inl, inr}
+use Rattle.std.specs.Prelude.{◌||◌, cond, option_and_then, option_map, IsSomeAnd}
 use Rattle.std.specs.List.{AllByRecursion, list_any, list_all, filter_map, find}
 use Rattle.std.specs.Option.{is_some}
-use Rattle.std.proofs.lemmas.Bool.{and_parts}
+use Rattle.std.proofs.lemmas.Bool.{and_parts, eqb-true}
 use Rattle.std.proofs.lemmas.Bool.Decides.{nat_tests}
 use Rattle.values.specs.Lists.{IsIn}
 use Rattle.wasm_core.specs.ids.ImportId.{ImportId}
@@ -17,9 +17,10 @@ use Rattle.glue_shared.specs.declared.adapter.Instruction.TheVariants as instr
 use Rattle.glue_shared.specs.declared.aux.AuxExport.{AuxExport}
 use Rattle.glue_shared.specs.declared.import.AuxImport.{AuxImport}
 use Rattle.glue_shared.specs.declared.description.Lowered.{Lowered}
+use Rattle.glue_shared.specs.declared.name_map.NameMap.{NameMap}
 use Rattle.glue_shared.specs.declared.settings.Settings.{Settings}
-use Rattle.glue_shared.specs.Names.{has_number, host_names, own_imports}
-use Rattle.glue_shared.specs.Names as names
+use Rattle.glue_shared.specs.Names.{entry_of, has_number, host_names, own_imports}
+use Rattle.glue_shared.specs.Names as described_names
 use Rattle.glue_adapters.specs.step.Step.{Step}
 use Rattle.glue_adapters.specs.step.Step.TheVariants.{CallExport, CallImport, TakeIndex, IndexFromBorrow, UnwrapResult}
 use Rattle.glue_adapters.specs.Resolving.{entry_at, is_some_item, export_step, is_spread, import_step_of, import_step, step_of, steps_of, adapter_steps}
@@ -33,42 +34,41 @@ use Rattle.glue_imports.specs.declared.part.Expression.{Expression}
 use Rattle.glue_imports.specs.Expressions.{expression}
 use Rattle.glue_imports.proofs.Any.{any_call}
 use Rattle.glue_check.specs.Handed.{own_callees}
-use Rattle.glue_check.specs.Unbuilt.{global_of, is_unbuilt_instruction}
+use Rattle.glue_check.specs.Taken.{brought}
+use Rattle.glue_check.specs.Unbuilt.{is_unbuilt_instruction}
 use Rattle.glue_check.specs.Verdict.{unbuilt, verdict}
 use Rattle.glue_check.proofs.BuiltForm.{AreBuiltImports, imports_built, adapters_built}
 use Rattle.glue_check.proofs.Called.{called_own}
-use Rattle.glue_check.proofs.Globals.{global_host}
+use Rattle.glue_check.proofs.Globals.{brought_host, some_of}
 use Rattle.glue_check.proofs.Embedded.{expression_there}
-use Rattle.glue_check.proofs.Passed.{exports_fit, pairs_fit, looked_up, global_ident}
+use Rattle.glue_check.proofs.Passed.{exports_fit, pairs_fit, looked_up, brought_ident}
 
--- the expression of a described import, whose global is an identifier and a name of the outside
-pub record IsDescribed (s : Settings) (l : Lowered) (text : Expression) : Type 0 where
+-- the expression of a described import that an adapter of an own import calls, where these names are drawn; what it brings of the outside
+-- are identifiers, and known names
+pub record IsDescribed (s : Settings) (l : Lowered) (names : NameMap) (text : Expression) : Type 0 where
   pub entry : ℕ × AuxImport
   pub among : IsIn entry l.aux.imports
+  pub own : has_number entry.0 (own_callees s l) ≡ true
+  pub first : entry_of entry.0 l.aux.imports ≡ Some entry.1
   pub call : AdapterJsImportKind
   pub spread : Bool
   pub bound : Bool
-  pub is : expression call spread bound entry.1 ≡ Some text
-  pub ident : (name : List ℕ) → global_of entry.1 ≡ Some name → is_ident name ≡ true
-  pub host : (name : List ℕ) → global_of entry.1 ≡ Some name → IsIn name (host_names s l.aux)
+  pub is : expression s names call spread bound entry.1 ≡ Some text
+  pub ident : (name : List ℕ) → IsIn name (brought false entry.1) → is_ident name ≡ true
+  pub host : (name : List ℕ) → IsIn name (brought false entry.1) → IsIn name (host_names s l.aux)
 
 -- what a step names is there: an export of the module, or the expression of a described import
-abbrev pub IsThere : Settings → Lowered → Step → Type 0
-IsThere s l (CallExport name n has_result) = IsIn name (export_names l.«module»)
-IsThere s l (CallImport adapter n has_result text) = IsDescribed s l text
-IsThere s l TakeIndex = ⊥
-IsThere s l IndexFromBorrow = ⊥
-IsThere s l UnwrapResult = ⊥
-IsThere s l other = Unit {0}
+abbrev pub IsThere : Settings → Lowered → NameMap → Step → Type 0
+IsThere s l names (CallExport name n has_result) = IsIn name (export_names l.«module»)
+IsThere s l names (CallImport adapter n has_result text) = IsDescribed s l names text
+IsThere s l names TakeIndex = ⊥
+IsThere s l names IndexFromBorrow = ⊥
+IsThere s l names UnwrapResult = ⊥
+IsThere s l names other = Unit {0}
 
--- an adapter has steps, and what each of them names is there
+-- an adapter has steps, whatever names are drawn, and what each of them names is there
 abbrev pub HasSteps : Settings → Lowered → ℕ → Type 0
-HasSteps s l id = IsSomeAnd (adapter_steps l id) (AllByRecursion (IsThere s l))
-
--- an option that is some value is that of one
-pub some_of : {A : Type 0} (o : Option A) → is_some o ≡ true → (x : A) × (o ≡ Some x)
-some_of None h = absurd (true≢false (sym h))
-some_of (Some x) h = (x, refl)
+HasSteps s l id = (names : NameMap) → IsSomeAnd (adapter_steps s names l id) (AllByRecursion (IsThere s l names))
 
 -- the name of a live export is among those of all
 export_named : (xs : List (Option Export)) (place : ℕ) (e : Export) → entry_at xs place ≡ Some e → IsIn e.name (filter_map export_name xs)
@@ -76,94 +76,107 @@ export_named [] place e h = cc
 export_named (x ∷ xs) zero e h = grind arith
 export_named (x ∷ xs) (suc place) e h = let rest = export_named xs place e h in grind arith
 
--- the first entry of an id has a fact that all of its entries have
+-- the first entry of an id has a fact that the first of its entries have
 first_has : (P : ℕ × AuxImport → Type 0) (id : ℕ) (entries : List (ℕ × AuxImport)) → has_number id (map (λ (e : ℕ × AuxImport). e.0) entries) ≡ true
-    → ((e : ℕ × AuxImport) → IsIn e entries → e.0 ≡ id → P e) → IsSomeAnd (find (λ (e : ℕ × AuxImport). e.0 == id) entries) P
+    → ((e : ℕ × AuxImport) → IsIn e entries → e.0 ≡ id → find (λ (e : ℕ × AuxImport). e.0 == id) entries ≡ Some e → P e)
+    → IsSomeAnd (find (λ (e : ℕ × AuxImport). e.0 == id) entries) P
 first_has P id [] h give = absurd (true≢false (sym h))
-first_has P id (e ∷ entries) h give =
-    let rest = λ (k : has_number id (map (λ (e : ℕ × AuxImport). e.0) entries) ≡ true). first_has P id entries k (λ x i. give x (inr i)) in
-    let here = give e (inl refl) in grind (arith, nat_tests)
+first_has P id (e ∷ entries) h give = by (e.0 == id) refl h (first_has P id entries) give
+  where
+    by : (b : Bool) → (e.0 == id) ≡ b → (b || has_number id (map (λ (e : ℕ × AuxImport). e.0) entries)) ≡ true
+        → (has_number id (map (λ (e : ℕ × AuxImport). e.0) entries) ≡ true
+        → ((x : ℕ × AuxImport) → IsIn x entries → x.0 ≡ id → find (λ (e : ℕ × AuxImport). e.0 == id) entries ≡ Some x → P x)
+        → IsSomeAnd (find (λ (e : ℕ × AuxImport). e.0 == id) entries) P)
+        → ((x : ℕ × AuxImport) → IsIn x (e ∷ entries) → x.0 ≡ id → cond b (Some e) (find (λ (e : ℕ × AuxImport). e.0 == id) entries) ≡ Some x → P x)
+        → IsSomeAnd (cond b (Some e) (find (λ (e : ℕ × AuxImport). e.0 == id) entries)) P
+    by true q h rest give = give e (inl refl) (eqb-true e.0 id q) refl
+    by false q h rest give = rest h (λ x i same found. give x (inr i) same found)
 
 -- the code of an adapter by itself, and of one that was looked up
-same_code : (a : Adapter) → names.code_of (Some a) ≡ code_of a.kind
+same_code : (a : Adapter) → described_names.code_of (Some a) ≡ code_of a.kind
 same_code a = grind arith
 
-module _ (s : Settings) (l : Lowered) where
+-- an instruction calls no import adapter but those that adapters of own imports call
+abbrev is_own_call : Settings → Lowered → Instruction → Bool
+is_own_call s l (instr.CallAdapter id) = has_number id (own_callees s l)
+is_own_call s l other = true
+
+module _ (s : Settings) (l : Lowered) (names : NameMap) where
   -- a call that has an effect is that of an export
-  called_export : (id : ℕ) → is_some (option_and_then call_effect (export_type l.«module» id)) ≡ true → IsSomeAnd (export_step l.«module» id) (IsThere s l)
+  called_export : (id : ℕ) → is_some (option_and_then call_effect (export_type l.«module» id)) ≡ true → IsSomeAnd (export_step l.«module» id) (IsThere s l names)
   called_export id h = let named = export_named l.«module».exports id in grind arith
 
   -- an entry gives a step, however its adapter calls it
   abbrev HasStep : ℕ → ℕ × AuxImport → Type 0
-  HasStep id e = (a : Adapter) (call : AdapterJsImportKind) → IsSomeAnd (import_step_of l id a call e.1) (IsThere s l)
+  HasStep id e = (a : Adapter) (call : AdapterJsImportKind) → IsSomeAnd (import_step_of s names l id a call e.1) (IsThere s l names)
 
-  entry_step : AreBuiltImports s l → verdict s l ≡ None → (id : ℕ) (e : ℕ × AuxImport) → IsIn e l.aux.imports → has_number e.0 (own_callees s l) ≡ true → HasStep id e
-  entry_step built passed id e i own a call =
+  entry_step : AreBuiltImports s l → verdict s l ≡ None → (id : ℕ) (e : ℕ × AuxImport) → IsIn e l.aux.imports → has_number e.0 (own_callees s l) ≡ true
+      → entry_of e.0 l.aux.imports ≡ Some e.1 → HasStep id e
+  entry_step built passed id e i own first a call =
       let spread = is_spread l id in
       let bound = is_some_item a.results in
-      let g = some_of (expression call spread bound e.1) (any_call call spread bound e.1 ∙ expression_there s l built passed e i own) in
+      let g = some_of (expression s names call spread bound e.1) (any_call s names call spread bound e.1 ∙ expression_there s l built passed e i) in
       rw g.1 (record {
         entry = e;
         among = i;
+        own = own;
+        first = first;
         call = call;
         spread = spread;
         bound = bound;
         is = g.1;
-        ident = λ name h. global_ident s l passed e i name h;
-        host = λ name h. global_host s l e i name h;
+        ident = brought_ident s l passed e i;
+        host = brought_host s l e i;
       })
-
-  -- an instruction calls no import adapter but those that adapters of own imports call
-  abbrev is_own_call : Instruction → Bool
-  is_own_call (instr.CallAdapter id) = has_number id (own_callees s l)
-  is_own_call other = true
 
   -- a call of such a described import adapter is a step
   called_adapter : AreBuiltImports s l → verdict s l ≡ None → (id : ℕ) → is_described_call l (described l) (instr.CallAdapter id) ≡ true
-      → has_number id (own_callees s l) ≡ true → IsSomeAnd (import_step l id) (IsThere s l)
+      → has_number id (own_callees s l) ≡ true → IsSomeAnd (import_step s names l id) (IsThere s l names)
   called_adapter built passed id h own =
       let p = and_parts (is_import (adapter_at l id)) (has_number id (described l)) h in
       let e = first_has (HasStep id) id l.aux.imports p.1
-      (λ e i same. entry_step built passed id e i (subst (λ (n : ℕ). has_number n (own_callees s l) ≡ true) (sym same) own)) in grind arith
+      (λ e i same found. entry_step built passed id e i (subst (λ (n : ℕ). has_number n (own_callees s l) ≡ true) (sym same) own)
+      (subst (λ (n : ℕ). entry_of n l.aux.imports ≡ Some e.1) (sym same) (ap (option_map (λ (x : ℕ × AuxImport). x.1)) found))) in grind arith
 
   -- an instruction that is built, with an effect and an import that is described, is a step
   called : AreBuiltImports s l → verdict s l ≡ None → (params : List Kind) (i : Instruction)
-      → is_unbuilt_instruction i ≡ false → is_some (effect l params i) ≡ true → is_described_call l (described l) i ≡ true → is_own_call i ≡ true
-      → IsSomeAnd (step_of l i) (IsThere s l)
+      → is_unbuilt_instruction i ≡ false → is_some (effect l params i) ≡ true → is_described_call l (described l) i ≡ true → is_own_call s l i ≡ true
+      → IsSomeAnd (step_of s names l i) (IsThere s l names)
   unfolding effect
   called built passed params i u e d own = let adapter = called_adapter built passed in grind (arith, called_export)
 
   -- a code that is built and well stacked, each call of which is described, has steps
   code_there : AreBuiltImports s l → verdict s l ≡ None → (params results stack : List Kind) (code : List Instruction) → list_any is_unbuilt_instruction code ≡ false
-      → list_all (is_described_call l (described l)) code ≡ true → list_all is_own_call code ≡ true → leaves results (stack_after (effect l params) stack code) ≡ true
-      → IsSomeAnd (steps_of l code) (AllByRecursion (IsThere s l))
+      → list_all (is_described_call l (described l)) code ≡ true → list_all (is_own_call s l) code ≡ true → leaves results (stack_after (effect l params) stack code) ≡ true
+      → IsSomeAnd (steps_of s names l code) (AllByRecursion (IsThere s l names))
   code_there built passed params results stack [] u d own h = tt
   code_there built passed params results stack (i ∷ code) u d own h =
       let here = called built passed params i in
       let rest = λ (next : List Kind). code_there built passed params results next code in grind arith
 
+module _ (s : Settings) (l : Lowered) where
   -- where no import is called, each that is called is described, and called by an adapter of an own import
   none_called : (code : List Instruction) → list_any is_import_call code ≡ false → list_all (is_described_call l (described l)) code ≡ true
   unfolding is_import_call
   none_called [] h = refl
   none_called (i ∷ code) h = let rest = none_called code in grind arith
 
-  none_own : (code : List Instruction) → list_any is_import_call code ≡ false → list_all is_own_call code ≡ true
+  none_own : (code : List Instruction) → list_any is_import_call code ≡ false → list_all (is_own_call s l) code ≡ true
   unfolding is_import_call
   none_own [] h = refl
   none_own (i ∷ code) h = let rest = none_own code in grind arith
 
   -- what the adapter of an own import calls is called by one
   pair_own : (pair : ImportId × ℕ) → IsIn pair l.wit.implements → has_number pair.0.0 (own_imports s l.«module» l.wit l.aux) ≡ true
-      → (a : Adapter) → adapter_at l pair.1 ≡ Some a → list_all is_own_call (code_of a.kind) ≡ true
+      → (a : Adapter) → adapter_at l pair.1 ≡ Some a → list_all (is_own_call s l) (code_of a.kind) ≡ true
   pair_own pair i own a there = each (code_of a.kind) (λ id at. called_own s l pair i own id (rw (there, same_code a) at))
     where
-      each : (code : List Instruction) → ((id : ℕ) → IsIn (instr.CallAdapter id) code → has_number id (own_callees s l) ≡ true) → list_all is_own_call code ≡ true
+      each : (code : List Instruction) → ((id : ℕ) → IsIn (instr.CallAdapter id) code → has_number id (own_callees s l) ≡ true) → list_all (is_own_call s l) code ≡ true
       each [] h = refl
       each (i ∷ code) h = by i h (each code (λ id at. h id (inr at)))
         where
-          by : (i : Instruction) → ((id : ℕ) → IsIn (instr.CallAdapter id) (i ∷ code) → has_number id (own_callees s l) ≡ true) → list_all is_own_call code ≡ true
-              → list_all is_own_call (i ∷ code) ≡ true
+          by : (i : Instruction) → ((id : ℕ) → IsIn (instr.CallAdapter id) (i ∷ code) → has_number id (own_callees s l) ≡ true) → list_all (is_own_call s l) code ≡ true
+              → list_all (is_own_call s l) (i ∷ code) ≡ true
           by (instr.CallAdapter id) h rest = rw (h id (inl refl)) rest
           by other h rest = rest
 
@@ -171,27 +184,27 @@ module _ (s : Settings) (l : Lowered) where
 
 module _ (f : FileFlags) (s : Settings) (l : Lowered) (built : unbuilt f s l ≡ None) (passed : verdict s l ≡ None) where
   -- an adapter has the steps of its code, which passes values of some kinds
-  coded_steps : (id : ℕ) (a : Adapter) (params results : List Kind) → adapter_at l id ≡ Some a → has_code a.kind ≡ true
+  coded_steps : (names : NameMap) (id : ℕ) (a : Adapter) (params results : List Kind) → adapter_at l id ≡ Some a → has_code a.kind ≡ true
       → list_all (is_described_call l (described l)) (code_of a.kind) ≡ true → list_all (is_own_call s l) (code_of a.kind) ≡ true
-      → is_well_stacked l params results (code_of a.kind) ≡ true → HasSteps s l id
-  coded_steps id a params results there coded calls own stacked =
+      → is_well_stacked l params results (code_of a.kind) ≡ true → IsSomeAnd (adapter_steps s names l id) (AllByRecursion (IsThere s l names))
+  coded_steps names id a params results there coded calls own stacked =
       let each = adapters_built f s l built (id, a) (looked_up l.wit.adapters id a there) in
-      let steps = code_there s l (imports_built f s l built) passed params results [] (code_of a.kind) each calls own stacked in grind arith
+      let steps = code_there s l names (imports_built f s l built) passed params results [] (code_of a.kind) each calls own stacked in grind arith
 
   -- the adapter of an export
   pub export_steps : (e : AuxExport) → IsIn e l.aux.exports → HasSteps s l e.adapter
   unfolding fits_outward
-  export_steps e i =
+  export_steps e i = λ names.
       let fit = exports_fit s l passed e i in
       let a = fit.adapter in
       let calls = none_called s l (code_of a.kind) in
       let own = none_own s l (code_of a.kind) in
-      let steps = coded_steps e.adapter a (js_kinds a.args) (js_kinds a.results) fit.there fit.coded in grind arith
+      let steps = coded_steps names e.adapter a (js_kinds a.args) (js_kinds a.results) fit.there fit.coded in grind arith
 
   -- the adapter of an own import
   pub pair_steps : (pair : ImportId × ℕ) → IsIn pair l.wit.implements → has_number pair.0.0 (own_imports s l.«module» l.wit l.aux) ≡ true → HasSteps s l pair.1
   unfolding fits_inward
-  pair_steps pair i mine =
+  pair_steps pair i mine = λ names.
       let fit = pairs_fit s l passed pair i in
       let own = pair_own s l pair i mine fit.adapter fit.there in
-      let steps = λ (params results : List Kind). coded_steps pair.1 fit.adapter params results fit.there in grind arith
+      let steps = λ (params results : List Kind). coded_steps names pair.1 fit.adapter params results fit.there in grind arith

@@ -1,7 +1,7 @@
 -- Names that are put into a set one list after another, and what is asked of such a set.
 use Rattle.std.proofs.Common.{◌≡◌, ℕ, zero, suc, ◌+◌, ◌-◌, ◌<◌, List, [], ◌∷◌, ◌++◌, map, length, drop, get_or, codes, Bool, true, false, ◌&&◌, ◌||◌, not, Option, Some, None, refl, sym, ap, ◌∙◌, arith, add-one, drop-cons}
 use Rattle.std.specs.Fmt.{decimal}
-use Rattle.std.specs.Prelude.{option_and_then}
+use Rattle.std.specs.Prelude.{cond, find}
 use Rattle.std.specs.List.{list_any, flat_map}
 use Rattle.std.specs.Option.{option_or}
 use Rattle.std.specs.Ordering.{nat_cmp}
@@ -12,23 +12,17 @@ use Rattle.std.proofs.lemmas.List.Folds.{flat_map-map}
 use Rattle.std.proofs.lemmas.Grind.{flat_map-append}
 use Rattle.values.specs.TextSet.{TextSet, with_texts}
 use Rattle.wasm_core.specs.Contents.{Contents}
-use Rattle.glue_words.specs.Ident.{is_ident}
 use Rattle.glue_scope.proofs.Drawn.{with_texts-append}
-use Rattle.glue_shared.specs.declared.aux.AuxExport.{AuxExport}
 use Rattle.glue_shared.specs.declared.aux.WasmBindgenAux.{WasmBindgenAux}
-use Rattle.glue_shared.specs.declared.description.Lowered.{Lowered}
 use Rattle.glue_shared.specs.declared.import.AuxImport.{AuxImport}
 use Rattle.glue_shared.specs.declared.import.JsImport.{JsImport}
 use Rattle.glue_shared.specs.declared.names.TheConstants.{HOSTS, HELPER_NAMES, MEMORY_NAMES, TABLE_NAMES, TARGET_NAMES}
 use Rattle.glue_shared.specs.declared.settings.Settings.{Settings}
 use Rattle.glue_shared.specs.Names.{is_one_of, names_of, js_import, described_names, described_hosts, target_hosts, inspect_names, host_names, placed_names, import_names, live_count, global_names, helper_names, fixed_names}
-use Rattle.glue_shared.proofs.Texts.{any_alike}
-use Rattle.glue_faults.specs.First.{first_of, where_true}
+use Rattle.glue_faults.specs.First.{first_of}
 use Rattle.glue_faults.proofs.Clashes.{told_more}
-use Rattle.glue_adapters.specs.Resolving.{is_some_item}
-use Rattle.glue_check.specs.Naming.{taken_global}
-use Rattle.glue_check.specs.Taken.{brought, numbered_by, entry_names, taken_names, is_free_of, is_unbuilt_by, global_in}
-use Rattle.glue_check.specs.Unbuilt.{global_of, has_text, is_function_kind, is_free_name, is_unbuilt_export}
+use Rattle.glue_check.specs.Naming.{taken_brought}
+use Rattle.glue_check.specs.Taken.{brought, numbered_by, entry_names, brought_in}
 
 -- ---- lists that are put in one after another
 
@@ -157,47 +151,22 @@ or_false : (b : Bool) → (b || false) ≡ b
 or_false true = refl
 or_false false = refl
 
-in_neither : (fixed host : Bool) → not (fixed || host) ≡ (not host && not fixed)
-in_neither true true = refl
-in_neither true false = refl
-in_neither false true = refl
-in_neither false false = refl
-
-free_same : (s : Settings) (l : Lowered) (name : List ℕ) → is_free_of (taken_names s l) name ≡ is_free_name s l name
-free_same s l name =
-    let hosts = host_names s l.aux in
-    let fixed = fixed_names s l.«module» in
-    let found : set.contains (taken_names s l) name ≡ (is_one_of fixed name || is_one_of hosts name) =
-    told_more (with_texts set.empty hosts) fixed name ∙ ap (λ (b : Bool). is_one_of fixed name || b) (in_set hosts name ∙ or_false (is_one_of hosts name)) in
-    ap (λ (b : Bool). is_ident name && not b) found ∙ ap (λ (b : Bool). is_ident name && b) (in_neither (is_one_of fixed name) (is_one_of hosts name))
-
-unbuilt_same : (s : Settings) (l : Lowered) (e : AuxExport) → is_unbuilt_by (taken_names s l) e ≡ is_unbuilt_export s l e
-unfolding is_unbuilt_export
-unbuilt_same s l e = ap (λ (b : Bool). (is_some_item e.namespace || has_text e.comments) || (is_function_kind e.kind && not b)) (free_same s l e.name)
-
--- an export isn't built by the set of taken names exactly where it isn't by their lists
-pub unbuilt_any : (s : Settings) (l : Lowered) (taken : TextSet) → taken ≡ taken_names s l
-    → list_any (is_unbuilt_by taken) l.aux.exports ≡ list_any (is_unbuilt_export s l) l.aux.exports
-unbuilt_any s l taken is =
-    ap (λ (t : TextSet). list_any (is_unbuilt_by t) l.aux.exports) is
-    ∙ any_alike (is_unbuilt_by (taken_names s l)) (is_unbuilt_export s l) l.aux.exports (unbuilt_same s l)
-
-then_alike : {A B : Type 0} (f g : A → Option B) → ((x : A) → f x ≡ g x) → (o : Option A) → option_and_then f o ≡ option_and_then g o
-then_alike f g same None = refl
-then_alike f g same (Some x) = same x
+found_alike : {A : Type 0} (f g : A → Bool) → ((x : A) → f x ≡ g x) → (xs : List A) → find f xs ≡ find g xs
+found_alike f g same [] = refl
+found_alike f g same (x ∷ xs) = ap (λ (b : Bool). cond b (Some x) (find f xs)) (same x) ∙ ap (cond (g x) (Some x)) (found_alike f g same xs)
 
 first_alike : {A B : Type 0} (f g : A → Option B) → ((x : A) → f x ≡ g x) → (xs : List A) → first_of f xs ≡ first_of g xs
 first_alike f g same [] = refl
 first_alike f g same (x ∷ xs) = ap (λ o. option_or o (first_of f xs)) (same x) ∙ ap (option_or (g x)) (first_alike f g same xs)
 
-global_same : (names : List (List ℕ)) (entry : ℕ × AuxImport) → global_in (with_texts set.empty names) entry ≡ taken_global names entry
-global_same names entry =
-    then_alike (λ name. where_true (set.contains (with_texts set.empty names) name) name) (λ name. where_true (is_one_of names name) name)
-    (λ name. ap (λ (b : Bool). where_true b name) (in_set names name ∙ or_false (is_one_of names name))) (global_of entry.1)
+brought_alike : (names : List (List ℕ)) (entry : ℕ × AuxImport) → brought_in (with_texts set.empty names) entry ≡ taken_brought names entry
+brought_alike names entry =
+    found_alike (set.contains (with_texts set.empty names)) (is_one_of names) (λ name. in_set names name ∙ or_false (is_one_of names name))
+    (brought false entry.1)
 
--- the first global that is taken by the set is the first by the list
-pub globals_same : (taken : TextSet) (names : List (List ℕ)) (entries : List (ℕ × AuxImport)) → taken ≡ with_texts set.empty names
-    → first_of (global_in taken) entries ≡ first_of (taken_global names) entries
-globals_same taken names entries is =
-    ap (λ (t : TextSet). first_of (global_in t) entries) is
-    ∙ first_alike (global_in (with_texts set.empty names)) (taken_global names) (global_same names) entries
+-- the first name that is taken by the set is the first by the list
+pub brought_same : (taken : TextSet) (names : List (List ℕ)) (entries : List (ℕ × AuxImport)) → taken ≡ with_texts set.empty names
+    → first_of (brought_in taken) entries ≡ first_of (taken_brought names) entries
+brought_same taken names entries is =
+    ap (λ (t : TextSet). first_of (brought_in t) entries) is
+    ∙ first_alike (brought_in (with_texts set.empty names)) (taken_brought names) (brought_alike names) entries

@@ -1,5 +1,5 @@
 -- Links to files that can't be embedded.
-use Rattle.std.specs.Prelude.{ℕ, Bool, true, false, List, Option, Some, None, option_map, is_some}
+use Rattle.std.specs.Prelude.{ℕ, Bool, true, false, List, Option, Some, None, option_map}
 use Rattle.glue_shared.specs.declared.import.AuxImport.{AuxImport}
 use Rattle.glue_shared.specs.declared.import.AuxImport.TheVariants as what
 use Rattle.glue_shared.specs.declared.description.Lowered.{Lowered}
@@ -13,10 +13,6 @@ abbrev pub bare_link : AuxImport → Option (List ℕ)
 bare_link (what.LinkTo path None) = Some path
 bare_link (what.LinkTo path (Some content)) = None
 bare_link other = None
-
--- an import is a link without content
-abbrev pub is_bare_link : AuxImport → Bool
-is_bare_link w = is_some (bare_link w)
 
 -- the path of a link without content, where linked modules aren't split off
 abbrev pub unembedded : (split : Bool) → ℕ × AuxImport → Option (List ℕ)

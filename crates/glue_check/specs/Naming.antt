@@ -18,7 +18,7 @@ use Rattle.glue_faults.specs.declared.fault.Fault.TheVariants as faults
 use Rattle.glue_faults.specs.First.{first_of, first_some, where_true}
 use Rattle.glue_faults.specs.Clash.{first_clash}
 use Rattle.glue_adapters.specs.Resolving.{entry_at}
-use Rattle.glue_check.specs.Unbuilt.{global_of}
+use Rattle.glue_check.specs.Taken.{brought}
 
 -- ---- bad names
 
@@ -30,31 +30,31 @@ is_proto name = bytes_eq name (codes "__proto__")
 abbrev pub bad_segment : AuxExport → Option (List ℕ)
 bad_segment e = option_or (find is_proto e.namespace) (where_true (is_proto e.name) e.name)
 
--- the global that an import is described as, where it is no identifier
-abbrev pub bad_global : ℕ × AuxImport → Option (List ℕ)
-bad_global entry = option_and_then (λ name. where_true (not (is_ident name)) name) (global_of entry.1)
+-- the first name of the outside that an import brings, a global or a vendor's name with or without a prefix, and that is no identifier
+abbrev pub bad_brought : ℕ × AuxImport → Option (List ℕ)
+bad_brought entry = find (λ name. not (is_ident name)) (brought false entry.1)
 
--- the first bad name: of exports, of globals, and `__proto__` among the names of the imports that the glue file defines
+-- the first bad name: of exports, of what imports bring, and `__proto__` among the names of the imports that the glue file defines
 unfoldable pub bad_text : List (List ℕ) → WasmBindgenAux → Option (List ℕ)
 bad_text own aux = first_some (
     first_of bad_segment aux.exports
-    ∷ first_of bad_global aux.imports
+    ∷ first_of bad_brought aux.imports
     ∷ find is_proto own
     ∷ [])
 
--- a name of an export or import is `__proto__`, or a global is no identifier
+-- a name of an export or import is `__proto__`, or a global or a vendor's name is no identifier
 abbrev pub bad_name : Settings → Lowered → Option Fault
 bad_name settings l = option_map faults.BadName (bad_text (own_names settings l.«module» l.wit l.aux) l.aux)
 
--- ---- globals
+-- ---- names of the outside
 
--- the global that an import is described as, where it is one of these names
-abbrev pub taken_global : List (List ℕ) → ℕ × AuxImport → Option (List ℕ)
-taken_global taken entry = option_and_then (λ name. where_true (is_one_of taken name) name) (global_of entry.1)
+-- the first name of the outside that an import brings and that is one of these
+abbrev pub taken_brought : List (List ℕ) → ℕ × AuxImport → Option (List ℕ)
+taken_brought taken entry = find (is_one_of taken) (brought false entry.1)
 
--- a global is a name that the glue file may bind
+-- a global, or a vendor's name with or without a prefix, is a name that the glue file may bind
 abbrev pub global_twice : Settings → Lowered → Option Fault
-global_twice settings l = option_map faults.GlobalTwice (first_of (taken_global (fixed_names settings l.«module»)) l.aux.imports)
+global_twice settings l = option_map faults.GlobalTwice (first_of (taken_brought (fixed_names settings l.«module»)) l.aux.imports)
 
 -- ---- things of one name
 

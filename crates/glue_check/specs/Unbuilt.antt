@@ -1,5 +1,5 @@
 -- What isn't built yet: each kind of it by a name.
-use Rattle.std.specs.Prelude.{ℕ, nat_eq, Bool, true, false, not, ◌&&◌, ◌||◌, is_some, List, codes, Option, Some, None, option_and_then}
+use Rattle.std.specs.Prelude.{ℕ, nat_eq, Bool, true, false, not, ◌&&◌, ◌||◌, is_some, List, codes, Option, Some, None}
 use Rattle.std.specs.List.{list_any, list_all, starts_with}
 use Rattle.wasm_core.specs.Contents.{Contents}
 use Rattle.wasm_core.specs.declared.types.Func.{Func}
@@ -7,7 +7,6 @@ use Rattle.wasm_core.specs.declared.types.Import.{Import}
 use Rattle.wasm_core.specs.declared.types.ImportKind.{ImportKind}
 use Rattle.wasm_core.specs.declared.types.ImportKind.TheVariants as import_kinds
 use Rattle.wasm_core.specs.declared.types.Memory.{Memory}
-use Rattle.glue_words.specs.Ident.{is_ident}
 use Rattle.glue_shared.specs.declared.adapter.Adapter.{Adapter}
 use Rattle.glue_shared.specs.declared.adapter.AdapterType.{AdapterType}
 use Rattle.glue_shared.specs.declared.adapter.AdapterType.TheVariants as types
@@ -17,13 +16,11 @@ use Rattle.glue_shared.specs.declared.aux.AuxExport.{AuxExport}
 use Rattle.glue_shared.specs.declared.aux.AuxExportKind.{AuxExportKind}
 use Rattle.glue_shared.specs.declared.aux.AuxExportKind.TheVariants as export_kinds
 use Rattle.glue_shared.specs.declared.import.AuxImport.{AuxImport}
-use Rattle.glue_shared.specs.declared.import.JsImport.{JsImport}
 use Rattle.glue_shared.specs.declared.description.Lowered.{Lowered}
 use Rattle.glue_shared.specs.declared.settings.Settings.{Settings}
 use Rattle.glue_shared.specs.declared.settings.Target.{Target}
 use Rattle.glue_shared.specs.declared.settings.Target.TheVariants as targets
-use Rattle.glue_shared.specs.Names.{is_one_of, js_import, host_names, fixed_names}
-use Rattle.glue_imports.specs.Expressions.{global_name, has_expression}
+use Rattle.glue_imports.specs.Expressions.{has_expression}
 use Rattle.glue_adapters.specs.Resolving.{is_some_item}
 use Rattle.glue_faults.specs.declared.fault.Fault.{Fault}
 use Rattle.glue_faults.specs.declared.fault.Fault.TheVariants as faults
@@ -31,8 +28,8 @@ use Rattle.glue_faults.specs.First.{where_true}
 use Rattle.glue_adapters.specs.Adapters.{code_of}
 use Rattle.glue_adapters.specs.Pairs.{is_placeholder}
 use Rattle.glue_check.specs.declared.files.FileFlags.{FileFlags}
-use Rattle.glue_check.specs.Handed.{own_callees, is_handed}
-use Rattle.glue_check.specs.Links.{is_bare_link}
+use Rattle.glue_check.specs.Handed.{is_part_pair}
+use Rattle.glue_check.specs.Links.{unembedded}
 use Rattle.glue_check.specs.Modules.{is_reserved}
 
 -- ---- targets
@@ -65,28 +62,18 @@ is_memory_imported (Some memory) = is_some memory.import
 abbrev pub has_other_imports : Contents → Bool
 has_other_imports m = list_any is_other_import m.imports || list_any is_memory_imported m.memories
 
--- the global whose value, or a property of which, an import names
-abbrev pub global_of : AuxImport → Option (List ℕ)
-global_of what = option_and_then (λ (js : JsImport). global_name js.name) (js_import what)
+-- an import without an expression. A link without content, where linked modules aren't split off, has none, and a condition tells of it
+unfoldable pub is_unbuilt_entry : Settings → ℕ × AuxImport → Bool
+is_unbuilt_entry settings entry = not (has_expression settings entry.1 || is_some (unembedded settings.split_linked_modules entry))
 
--- an import whose expression isn't built, where the adapters of own imports call these. A link without content has none, and a condition
--- tells of it; a name of a module that none of them calls needs none
-unfoldable pub is_unbuilt_entry : List ℕ → ℕ × AuxImport → Bool
-is_unbuilt_entry called entry = not (has_expression entry.1 || (is_bare_link entry.1 || is_handed called entry))
-
--- imports of another form, or settings that change them
+-- imports of another form, adapters that only hand on to a property of a module's name, or a setting that changes imports
 abbrev pub unbuilt_imports : Settings → Lowered → Option Fault
 unbuilt_imports settings l = where_true (
-    (has_other_imports l.«module» || list_any (is_unbuilt_entry (own_callees settings l)) l.aux.imports)
-    || (is_some_item l.aux.static_slots || (settings.omit_imports || settings.split_linked_modules))
+    (has_other_imports l.«module» || (list_any (is_unbuilt_entry settings) l.aux.imports || list_any (is_part_pair l) l.wit.implements))
+    || (is_some_item l.aux.static_slots || settings.omit_imports)
     ) (faults.NotBuilt (codes "imports"))
 
 -- ---- exports
-
--- a name that the glue file may declare as it is
-abbrev pub is_free_name : Settings → Lowered → List ℕ → Bool
-is_free_name settings l name =
-    is_ident name && (not (is_one_of (host_names settings l.aux) name) && not (is_one_of (fixed_names settings l.«module») name))
 
 abbrev pub is_function_kind : AuxExportKind → Bool
 is_function_kind export_kinds.Function = true
@@ -99,15 +86,14 @@ abbrev pub has_text : Option (List ℕ) → Bool
 has_text None = false
 has_text (Some text) = is_some_item text
 
--- an export in a namespace, one with comments, or a function whose name would have to be another one in the glue file
-unfoldable pub is_unbuilt_export : Settings → Lowered → AuxExport → Bool
-is_unbuilt_export settings l e =
-    (is_some_item e.namespace || has_text e.comments) || (is_function_kind e.kind && not (is_free_name settings l e.name))
+-- an export in a namespace, or one with comments
+unfoldable pub is_unbuilt_export : AuxExport → Bool
+is_unbuilt_export e = is_some_item e.namespace || has_text e.comments
 
 -- such exports, enums and re-exports
-abbrev pub unbuilt_exports : Settings → Lowered → Option Fault
-unbuilt_exports settings l = where_true (
-    list_any (is_unbuilt_export settings l) l.aux.exports
+abbrev pub unbuilt_exports : Lowered → Option Fault
+unbuilt_exports l = where_true (
+    list_any is_unbuilt_export l.aux.exports
     || (is_some_item l.aux.enums || (is_some_item l.aux.string_enums || is_some_item l.aux.reexports))
     ) (faults.NotBuilt (codes "exports"))
 

@@ -9,12 +9,14 @@
 //!
 //! The generator calls it before it makes anything, and makes files of a `Checked` alone. Each condition on names is a call by itself
 //! too, from `bad_name` to `fixed_export`, since some can't be met where all is built. Of each condition, what it says of classes, enums,
-//! re-exports, namespaces that run through one another, names that vendors or a bundler give, kinds of described imports, targets and
-//! parts is missing: no description that is built can meet it.
+//! re-exports, namespaces that run through one another, names that a bundler gives, kinds of described imports, targets and parts is
+//! missing: no description that is built can meet it. `handed.rt` finds the adapters that are not built since they only hand on to a
+//! property of a module's name.
 //!
-//! Stands on `glue_adapters`, `glue_faults`, `glue_scope`, `glue_words`, `glue_shared` and `wasm_core`.
+//! Stands on `glue_steps`, `glue_adapters`, `glue_faults`, `glue_scope`, `glue_words`, `glue_shared` and `wasm_core`.
 #![tactic(auto)]
 
+mod brought;
 mod clash;
 mod files;
 mod handed;
@@ -33,5 +35,6 @@ pub use modules::{glue_module_name, module_clash};
 pub use naming::{bad_name, global_twice, has_start, name_clash};
 pub use own::own_places;
 pub use publishing::{export_clash, fixed_export, qualified, qualified_name};
-pub use unbuilt::{is_function_kind, taken_names};
+pub use taken::taken_names;
+pub use unbuilt::is_function_kind;
 pub use verdict::{Checked, check};

@@ -19,15 +19,8 @@ fn bare_link(import: &AuxImport) -> Option<&Text>
     }
 }
 
-/// Whether an import is a link without content.
-pub(crate) fn is_bare_link(import: &AuxImport) -> bool
-    ensures test { result ≡ spec.is_bare_link import.now }
-{
-    bare_link(import).is_some()
-}
-
-// The path of a link without content, where linked modules aren't split off.
-fn unembedded(split: bool, entry: &(AdapterId, AuxImport)) -> Option<&Text>
+/// The path of a link without content, where linked modules aren't split off.
+pub(crate) fn unembedded(split: bool, entry: &(AdapterId, AuxImport)) -> Option<&Text>
     ensures path { option_copied result ≡ spec.unembedded split entry.now }
 {
     if split { None } else { bare_link(&entry.1) }

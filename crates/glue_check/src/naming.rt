@@ -1,19 +1,20 @@
 //! Names that can't stand where they would have to, and things of one name.
-ghost use Rattle.std.specs.Prelude.{◌≡◌, ℕ, List, Option, IfOk, find};
+ghost use Rattle.std.specs.Prelude.{◌≡◌, ℕ, List, Option, IfOk, find, not};
 ghost use Rattle.std.specs.List.{list_any};
 ghost use Rattle.glue_faults.specs.declared.fault.Fault.TheVariants as faults;
 ghost use Rattle.std.specs.Option.{option_copied};
 ghost use Rattle.std.specs.FinSet as set;
 ghost use Rattle.values.specs.TextSet.{with_texts};
 ghost use Rattle.glue_faults.specs.First as first;
+ghost use Rattle.glue_words.specs.Ident.{is_ident};
 ghost use Rattle.glue_shared.specs.Names.{fixed_names};
 ghost use Rattle.glue_check.specs.Naming as spec;
-ghost use Rattle.glue_check.specs.Taken.{global_in};
+ghost use Rattle.glue_check.specs.Taken.{brought_in};
 
+use crate::brought::{brought, copied};
 use crate::clash::{Claim, first_clash};
 use crate::own::own_names;
 use crate::taken::with_fixed;
-use crate::unbuilt::global_of;
 use glue_faults::Fault;
 use glue_scope::{IdentScope, Names};
 use glue_shared::{AdapterId, AuxExport, AuxImport, Lowered, Settings, WasmBindgenAux};
@@ -21,28 +22,6 @@ use glue_words::is_valid_ident;
 use std::alloc::{AllocError, Global};
 use values::{Duplicate, Text};
 use wasm_core::{Export, Module};
-
-// What can have a name that is bad.
-trait Named {
-    ghost bad: { Self → Option (List ℕ) };
-
-    // The bad name, if it has one.
-    fn bad(&self) -> Option<&Text>
-        ensures bad { option_copied result ≡ bad self.now };
-}
-
-// The first bad name of a list.
-fn first_bad<T: Named>(items: &[T]) -> Option<&Text>
-    ensures first { option_copied result ≡ first.first_of T.bad items.now }
-{
-    for item in items {
-        let name = item.bad();
-        if name.is_some() {
-            return name;
-        }
-    }
-    None
-}
 
 // Whether an object can't hold the name.
 fn is_proto(name: &str) -> bool
@@ -65,47 +44,79 @@ fn first_proto(texts: &[Text]) -> Option<&Text>
     texts.iter().find(|text| is_proto(text.as_str()))
 }
 
-impl Named for AuxExport {
-    ghost bad = { spec.bad_segment };
-
-    fn bad(&self) -> Option<&Text> {
-        let segment = first_proto(self.namespace.as_slice());
-        if segment.is_some() {
-            return segment;
-        }
-        where_true(is_proto(self.name.as_str()), &self.name)
+// The first segment or name of an export that an object can't hold.
+fn bad_segment(export: &AuxExport) -> Option<&Text>
+    ensures bad { option_copied result ≡ spec.bad_segment export.now }
+{
+    let segment = first_proto(export.namespace.as_slice());
+    if segment.is_some() {
+        return segment;
     }
+    where_true(is_proto(export.name.as_str()), &export.name)
 }
 
-impl Named for (AdapterId, AuxImport) {
-    ghost bad = { spec.bad_global };
-
-    fn bad(&self) -> Option<&Text> {
-        match global_of(&self.1) {
-            None => None,
-            Some(name) => where_true(!is_valid_ident(name.as_str()), name),
+// The first such of these exports.
+fn first_bad_segment(exports: &[AuxExport]) -> Option<&Text>
+    ensures first { option_copied result ≡ first.first_of spec.bad_segment exports.now }
+{
+    for export in exports {
+        let name = bad_segment(export);
+        if name.is_some() {
+            return name;
         }
     }
+    None
+}
+
+// The first of these names that is no identifier.
+fn first_not_ident(names: &[Text]) -> Option<&Text>
+    ensures first { option_copied result ≡ find (λ name. not (is_ident name)) names.now }
+{
+    names.iter().find(|name| !is_valid_ident(name.as_str()))
+}
+
+// The first name of the outside that an import brings and that is no identifier.
+fn bad_brought(alloc: Global, entry: &(AdapterId, AuxImport)) -> Result<Option<Text>, AllocError>
+    ensures bad { IfOk result (λ bad. bad ≡ spec.bad_brought entry.now) }
+{
+    let names = brought(alloc, &entry.1)?;
+    copied(alloc, first_not_ident(names.as_slice()))
+}
+
+// The first such of these imports.
+fn first_bad_brought(
+    alloc: Global,
+    entries: &[(AdapterId, AuxImport)],
+) -> Result<Option<Text>, AllocError>
+    ensures first { IfOk result (λ found. found ≡ first.first_of spec.bad_brought entries.now) }
+{
+    for entry in entries {
+        let name = bad_brought(alloc, entry)?;
+        if name.is_some() {
+            return Ok(name);
+        }
+    }
+    Ok(None)
 }
 
 // The first bad name, in the description's order.
 #[tactic(auto, unfolding(crate::specs::Naming::bad_text))]
-fn bad_text<'a>(own: &'a [Text], aux: &'a WasmBindgenAux) -> Option<&'a Text>
-    ensures bad { option_copied result ≡ spec.bad_text own.now aux.now }
+fn bad_text(alloc: Global, own: &[Text], aux: &WasmBindgenAux) -> Result<Option<Text>, AllocError>
+    ensures bad { IfOk result (λ bad. bad ≡ spec.bad_text own.now aux.now) }
 {
-    let exported = first_bad(aux.exports.as_slice());
+    let exported = first_bad_segment(aux.exports.as_slice());
     if exported.is_some() {
-        return exported;
+        return copied(alloc, exported);
     }
-    let global = first_bad(aux.imports.as_slice());
-    if global.is_some() {
-        return global;
+    let imported = first_bad_brought(alloc, aux.imports.as_slice())?;
+    if imported.is_some() {
+        return Ok(imported);
     }
-    first_proto(own)
+    copied(alloc, first_proto(own))
 }
 
-/// The first bad name: a segment or name of an export that is `__proto__`, a described global that is no identifier, or an import of
-/// the name `__proto__` that the glue file defines. Want of memory is the only error.
+/// The first bad name: a segment or name of an export that is `__proto__`, a described global, or a vendor's name with or without one of its
+/// prefixes, that is no identifier, or an import of the name `__proto__` that the glue file defines. Want of memory is the only error.
 pub fn bad_name(
     alloc: Global,
     settings: &Settings,
@@ -114,35 +125,46 @@ pub fn bad_name(
     ensures fault { IfOk result (λ fault. fault ≡ spec.bad_name settings.now lowered.now) }
 {
     let own = own_names(alloc, settings, lowered)?;
-    match bad_text(own.as_slice(), &lowered.aux) {
+    match bad_text(alloc, own.as_slice(), &lowered.aux)? {
         None => Ok(None),
-        Some(name) => Ok(Some(Fault::BadName {
-            name: name.copy(alloc)?,
-        })),
+        Some(name) => Ok(Some(Fault::BadName { name })),
     }
 }
 
-// The global that an import is described as, where the glue file may bind it.
-fn taken_global<'a, N: Names>(taken: &N, entry: &'a (AdapterId, AuxImport)) -> Option<&'a Text>
-    ensures name { option_copied result ≡ global_in (N.bound taken.now) entry.now }
+// The first of these names that the glue file may bind.
+fn first_bound<'a, N: Names>(taken: &N, names: &'a [Text]) -> Option<&'a Text>
+    ensures first { option_copied result ≡ find (set.contains (N.bound taken.now)) names.now }
 {
-    match global_of(&entry.1) {
-        None => None,
-        Some(name) => where_true(taken.is_bound(name.as_str()), name),
-    }
+    names.iter().find(|name| taken.is_bound(name.as_str()))
 }
 
-// The first such global.
-fn first_taken<'a, N: Names>(taken: &N, entries: &'a [(AdapterId, AuxImport)]) -> Option<&'a Text>
-    ensures name { option_copied result ≡ first.first_of (global_in (N.bound taken.now)) entries.now }
+// The first name of the outside that an import brings and that the glue file may bind.
+fn taken_brought<N: Names>(
+    alloc: Global,
+    taken: &N,
+    entry: &(AdapterId, AuxImport),
+) -> Result<Option<Text>, AllocError>
+    ensures name { IfOk result (λ name. name ≡ brought_in (N.bound taken.now) entry.now) }
+{
+    let names = brought(alloc, &entry.1)?;
+    copied(alloc, first_bound(taken, names.as_slice()))
+}
+
+// The first such of these imports.
+fn first_taken<N: Names>(
+    alloc: Global,
+    taken: &N,
+    entries: &[(AdapterId, AuxImport)],
+) -> Result<Option<Text>, AllocError>
+    ensures name { IfOk result (λ found. found ≡ first.first_of (brought_in (N.bound taken.now)) entries.now) }
 {
     for entry in entries {
-        let name = taken_global(taken, entry);
+        let name = taken_brought(alloc, taken, entry)?;
         if name.is_some() {
-            return name;
+            return Ok(name);
         }
     }
-    None
+    Ok(None)
 }
 
 // The names that the glue file may bind itself.
@@ -157,8 +179,8 @@ fn fixed_scope<N: Names>(
     with_fixed(alloc, none, settings, module)
 }
 
-/// The first import that is described as a global which the glue file may bind itself. Want of memory is the only error.
-#[tactic(auto, using(crate::proofs::TakenNames::globals_same))]
+/// The first name of the outside, a described global or a vendor's name with or without one of its prefixes, that the glue file may bind itself. Want of memory is the only error.
+#[tactic(auto, using(crate::proofs::TakenNames::brought_same))]
 pub fn global_twice(
     alloc: Global,
     settings: &Settings,
@@ -167,11 +189,9 @@ pub fn global_twice(
     ensures fault { IfOk result (λ fault. fault ≡ spec.global_twice settings.now lowered.now) }
 {
     let taken: IdentScope = fixed_scope(alloc, settings, &lowered.module)?;
-    match first_taken(&taken, lowered.aux.imports.as_slice()) {
+    match first_taken(alloc, &taken, lowered.aux.imports.as_slice())? {
         None => Ok(None),
-        Some(name) => Ok(Some(Fault::GlobalTwice {
-            name: name.copy(alloc)?,
-        })),
+        Some(name) => Ok(Some(Fault::GlobalTwice { name })),
     }
 }
 

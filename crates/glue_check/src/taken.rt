@@ -11,7 +11,7 @@ ghost use Rattle.glue_check.specs.Taken as spec;
 use glue_scope::Names;
 use glue_shared::{
     AdapterId, AuxImport, AuxStruct, EMSCRIPTEN_HOSTS, HELPER_NAMES, HOSTS, JsImport, JsImportName,
-    MEMORY_NAMES, Settings, TABLE_NAMES, TARGET_NAMES, Target, WasmBindgenAux, js_import,
+    Lowered, MEMORY_NAMES, Settings, TABLE_NAMES, TARGET_NAMES, Target, WasmBindgenAux, js_import,
     live_count,
 };
 use std::alloc::{AllocError, Global};
@@ -316,4 +316,17 @@ pub(crate) fn with_fixed<N: Names>(
     let helpers = with_helpers(alloc, texts, module)?;
     let imports = with_import_names(alloc, helpers, live_count(module.imports()))?;
     with_global(imports, &settings.target)
+}
+
+/// The names that the glue file may not declare as they are. Want of memory is the only error.
+pub fn taken_names<N: Names>(
+    alloc: Global,
+    settings: &Settings,
+    lowered: &Lowered,
+) -> Result<N, AllocError>
+    ensures bound { IfOk result (λ taken. N.bound taken ≡ spec.taken_names settings.now lowered.now) }
+{
+    let none: N = Names::new(alloc);
+    let hosts = with_hosts(alloc, none, settings, &lowered.aux)?;
+    with_fixed(alloc, hosts, settings, &lowered.module)
 }

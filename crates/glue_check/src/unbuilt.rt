@@ -1,26 +1,21 @@
 //! What isn't built yet, each kind of it by a name.
 ghost use Rattle.std.specs.Prelude.{◌≡◌, IfOk, not};
 ghost use Rattle.std.specs.List.{list_all, list_any};
-ghost use Rattle.std.specs.Option.{option_copied};
 ghost use Rattle.glue_adapters.specs.Adapters as adapters;
 ghost use Rattle.glue_adapters.specs.Adapters.{adapter_at};
-ghost use Rattle.glue_check.specs.Taken as by_set;
 ghost use Rattle.glue_check.specs.Unbuilt as spec;
 
 use crate::files::FileFlags;
-use crate::handed::{is_handed, own_callees};
-use crate::links::is_bare_link;
+use crate::handed::has_part_pair;
+use crate::links::unembedded;
 use crate::modules::is_reserved;
-use crate::taken::{with_fixed, with_hosts};
 use glue_adapters::is_placeholder;
-use glue_faults::{Fault, IdSet, not_built};
-use glue_imports::{global_name, has_expression};
-use glue_scope::{IdentScope, Names};
+use glue_faults::{Fault, not_built};
+use glue_imports::has_expression;
 use glue_shared::{
     Adapter, AdapterId, AdapterKind, AdapterType, AuxExport, AuxExportKind, AuxImport, Instruction,
-    Lowered, Settings, Target, js_import,
+    Lowered, Settings, Target,
 };
-use glue_words::is_valid_ident;
 use std::alloc::{AllocError, Global};
 use values::Text;
 use wasm_core::{Func, Import, ImportKind, Memory, Module};
@@ -70,20 +65,13 @@ fn is_memory_imported(memory: &Option<Memory>) -> bool
     }
 }
 
-/// The global whose value, or a property of which, an import names.
-pub(crate) fn global_of(import: &AuxImport) -> Option<&Text>
-    ensures name { option_copied result ≡ spec.global_of import.now }
-{
-    global_name(&js_import(import)?.name)
-}
-
-// Whether the expression of an import isn't built; of a link without content a condition tells, and a name of a module that no adapter of an
-// own import calls needs none.
+// Whether an import has no expression that is built; of a link without content a condition tells.
 #[tactic(auto, unfolding(crate::specs::Unbuilt::is_unbuilt_entry))]
-fn is_unbuilt_entry(called: &IdSet, entry: &(AdapterId, AuxImport)) -> bool
-    ensures test { result ≡ spec.is_unbuilt_entry called.now entry.now }
+fn is_unbuilt_entry(settings: &Settings, entry: &(AdapterId, AuxImport)) -> bool
+    ensures test { result ≡ spec.is_unbuilt_entry settings.now entry.now }
 {
-    !(has_expression(&entry.1) || is_bare_link(&entry.1) || is_handed(called, entry))
+    !(has_expression(settings, &entry.1)
+        || unembedded(settings.split_linked_modules, entry).is_some())
 }
 
 // Whether one of these imports is of a form that isn't built.
@@ -107,10 +95,12 @@ fn has_other_imports(module: &Module) -> bool
     has_other_import(module.imports()) || has_imported_memory(module.memories())
 }
 
-fn has_unbuilt_entry(called: &IdSet, entries: &[(AdapterId, AuxImport)]) -> bool
-    ensures test { result ≡ list_any (spec.is_unbuilt_entry called.now) entries.now }
+fn has_unbuilt_entry(settings: &Settings, entries: &[(AdapterId, AuxImport)]) -> bool
+    ensures test { result ≡ list_any (spec.is_unbuilt_entry settings.now) entries.now }
 {
-    entries.iter().any(|entry| is_unbuilt_entry(called, entry))
+    entries
+        .iter()
+        .any(|entry| is_unbuilt_entry(settings, entry))
 }
 
 /// That imports of this form aren't built. Want of memory is the only error.
@@ -121,20 +111,13 @@ pub(crate) fn unbuilt_imports(
 ) -> Result<Option<Fault>, AllocError>
     ensures fault { IfOk result (λ fault. fault ≡ spec.unbuilt_imports settings.now lowered.now) }
 {
-    let called = own_callees(alloc, settings, lowered)?;
+    let parts = has_part_pair(alloc, lowered)?;
     let asked = has_other_imports(&lowered.module)
-        || has_unbuilt_entry(&called, lowered.aux.imports.as_slice())
+        || has_unbuilt_entry(settings, lowered.aux.imports.as_slice())
+        || parts
         || !lowered.aux.static_slots.is_empty()
-        || settings.omit_imports
-        || settings.split_linked_modules;
+        || settings.omit_imports;
     not_built(alloc, asked, "imports")
-}
-
-// Whether the glue file may declare the name as it is.
-fn is_free_name<N: Names>(taken: &N, name: &str) -> bool
-    ensures test { result ≡ by_set.is_free_of (N.bound taken.now) name.now }
-{
-    is_valid_ident(name) && !taken.is_bound(name)
 }
 
 /// Whether an export is a function that stands by itself.
@@ -156,59 +139,25 @@ fn has_text(text: &Option<Text>) -> bool
     }
 }
 
-// Whether an export stands in a namespace, has comments, or would have to be declared by another name.
-fn is_unbuilt_export<N: Names>(taken: &N, export: &AuxExport) -> bool
-    ensures test { result ≡ by_set.is_unbuilt_by (N.bound taken.now) export.now }
+// Whether an export stands in a namespace, or has comments.
+#[tactic(auto, unfolding(crate::specs::Unbuilt::is_unbuilt_export))]
+fn is_unbuilt_export(export: &AuxExport) -> bool
+    ensures test { result ≡ spec.is_unbuilt_export export.now }
 {
-    !export.namespace.is_empty()
-        || has_text(&export.comments)
-        || (is_function_kind(export.kind) && !is_free_name(taken, export.name.as_str()))
+    !export.namespace.is_empty() || has_text(&export.comments)
 }
 
-fn is_any_unbuilt<N: Names>(taken: &N, exports: &[AuxExport]) -> bool
-    ensures test { result ≡ list_any (by_set.is_unbuilt_by (N.bound taken.now)) exports.now }
+fn has_unbuilt_export(exports: &[AuxExport]) -> bool
+    ensures test { result ≡ list_any spec.is_unbuilt_export exports.now }
 {
-    exports
-        .iter()
-        .any(|export| is_unbuilt_export(taken, export))
-}
-
-/// The names that the glue file may not declare as they are. Want of memory is the only error.
-pub fn taken_names<N: Names>(
-    alloc: Global,
-    settings: &Settings,
-    lowered: &Lowered,
-) -> Result<N, AllocError>
-    ensures bound { IfOk result (λ taken. N.bound taken ≡ by_set.taken_names settings.now lowered.now) }
-{
-    let none: N = Names::new(alloc);
-    let hosts = with_hosts(alloc, none, settings, &lowered.aux)?;
-    with_fixed(alloc, hosts, settings, &lowered.module)
-}
-
-// Whether there is such an export. The names that are taken are found once for all of them.
-#[tactic(auto, using(crate::proofs::TakenNames::unbuilt_any))]
-fn has_unbuilt_export(
-    alloc: Global,
-    settings: &Settings,
-    lowered: &Lowered,
-) -> Result<bool, AllocError>
-    ensures test { IfOk result (λ test. test ≡ list_any (spec.is_unbuilt_export settings.now lowered.now) lowered.now.aux.exports) }
-{
-    let taken: IdentScope = taken_names(alloc, settings, lowered)?;
-    Ok(is_any_unbuilt(&taken, lowered.aux.exports.as_slice()))
+    exports.iter().any(|export| is_unbuilt_export(export))
 }
 
 /// That exports of this form aren't built. Want of memory is the only error.
-pub(crate) fn unbuilt_exports(
-    alloc: Global,
-    settings: &Settings,
-    lowered: &Lowered,
-) -> Result<Option<Fault>, AllocError>
-    ensures fault { IfOk result (λ fault. fault ≡ spec.unbuilt_exports settings.now lowered.now) }
+pub(crate) fn unbuilt_exports(alloc: Global, lowered: &Lowered) -> Result<Option<Fault>, AllocError>
+    ensures fault { IfOk result (λ fault. fault ≡ spec.unbuilt_exports lowered.now) }
 {
-    let exported = has_unbuilt_export(alloc, settings, lowered)?;
-    let asked = exported
+    let asked = has_unbuilt_export(lowered.aux.exports.as_slice())
         || !lowered.aux.enums.is_empty()
         || !lowered.aux.string_enums.is_empty()
         || !lowered.aux.reexports.is_empty();

@@ -124,7 +124,7 @@ fn answer(
     match condition {
         Condition::UnbuiltTarget => unbuilt_target(alloc, settings),
         Condition::UnbuiltImports => unbuilt_imports(alloc, settings, lowered),
-        Condition::UnbuiltExports => unbuilt_exports(alloc, settings, lowered),
+        Condition::UnbuiltExports => unbuilt_exports(alloc, lowered),
         Condition::UnbuiltInstructions => unbuilt_instructions(alloc, lowered),
         Condition::UnbuiltClasses => unbuilt_classes(alloc, lowered),
         Condition::UnbuiltSettings => unbuilt_settings(alloc, settings),

@@ -20,6 +20,17 @@ const WITH_THIS: Edit = (
     r#"["ValueWithThis",{"global":"g"},"x"]"#,
 );
 
+/// The accessors of properties, of instances and of a class itself.
+const ACCESSOR: Edit = (
+    r#"["Bare",{"global":"console","fields":["log"]}]"#,
+    r#"["Getter",{"global":"g"},"x"]"#,
+);
+
+const CLASS_ACCESSOR: Edit = (
+    r#"["Bare",{"global":"console","fields":["log"]}]"#,
+    r#"["ClassSetter",{"module":"m","name":"g"},"x"]"#,
+);
+
 /// How it is called.
 const AS_METHOD: Edit = ("normal", "method");
 
@@ -71,9 +82,15 @@ const CASES: &[Case] = &[
     (ADD, &[GETTER, AS_METHOD], "BadAdapter 2"),
     (ADD, &[GETTER, AS_CONSTRUCTOR], "BadAdapter 2"),
     (ADD, &[WITH_THIS, AS_METHOD], "BadAdapter 2"),
+    (ADD, &[ACCESSOR, AS_METHOD], ""),
+    (ADD, &[ACCESSOR], "BadAdapter 2"),
+    (ADD, &[ACCESSOR, AS_CONSTRUCTOR], "BadAdapter 2"),
+    (ADD, &[CLASS_ACCESSOR, AS_METHOD], ""),
+    (ADD, &[CLASS_ACCESSOR], "BadAdapter 2"),
     // With a spread argument.
     (ADD, &[SPREAD], ""),
     (ADD, &[WITH_THIS, SPREAD], ""),
+    (ADD, &[ACCESSOR, AS_METHOD, SPREAD], ""),
     (ADD, &[GETTER, SPREAD], "BadAdapter 2"),
     (ADD, &[METHOD], ""),
     (ADD, &[METHOD, SPREAD], "BadAdapter 2"),

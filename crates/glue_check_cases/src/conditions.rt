@@ -28,6 +28,9 @@ const PAIR_CODE: Place = (
     "",
 );
 
+/// The name that the import begins with.
+const NAME: Place = (r#"{"global":"console","fields":["log"]}"#, "");
+
 const GROUPS: &[Group] = &[
     (
         WITH_MANY_EXPORTS,
@@ -129,6 +132,66 @@ const GROUPS: &[Group] = &[
     ),
     (WITH_MEMORY, ("console", ""), "", &["getStringFromWasm1"]),
     (WITH_PARTS, ("console", ""), "", &["addToExternrefTable1"]),
+    // Names of vendors, with and without their prefixes.
+    (
+        ADD,
+        NAME,
+        "",
+        &[
+            r#"{"vendor":"x1"}"#,
+            r#"{"vendor":"Class","prefixes":["webkit","$","_"]}"#,
+            r#"{"vendor":"w","prefixes":["no"]}"#,
+            r#"{"vendor":"console"}"#,
+            r#"{"vendor":"heap2"}"#,
+            r#"{"vendor":"Object","prefixes":["Get"]}"#,
+            r#"{"vendor":"port2","prefixes":["im"]}"#,
+            r#"{"vendor":"FromWasm0","prefixes":["getString"]}"#,
+        ],
+    ),
+    (
+        ADD,
+        NAME,
+        "BadName 1x",
+        &[
+            r#"{"vendor":"1x"}"#,
+            r#"{"vendor":"1x","prefixes":["x"]}"#,
+            r#"{"vendor":"x","prefixes":["1"]}"#,
+            r#"{"vendor":"x","prefixes":["webkit","1"]}"#,
+        ],
+    ),
+    (
+        ADD,
+        NAME,
+        "BadName ",
+        &[r#"{"vendor":"","prefixes":["x"]}"#],
+    ),
+    (
+        ADD,
+        NAME,
+        "BadName new",
+        &[r#"{"vendor":"new"}"#, r#"{"vendor":"w","prefixes":["ne"]}"#],
+    ),
+    (
+        ADD,
+        NAME,
+        "GlobalTwice heap",
+        &[
+            r#"{"vendor":"heap"}"#,
+            r#"{"vendor":"ap","prefixes":["webkit","he"]}"#,
+        ],
+    ),
+    (
+        ADD,
+        NAME,
+        "GlobalTwice import1",
+        &[r#"{"vendor":"port1","prefixes":["im"]}"#],
+    ),
+    (
+        WITH_MEMORY,
+        NAME,
+        "GlobalTwice getStringFromWasm0",
+        &[r#"{"vendor":"FromWasm0","prefixes":["getString"]}"#],
+    ),
 ];
 
 #[test]
@@ -190,6 +253,17 @@ const PUBLISHED_PAIR: Edit = (
 const STRING_HELPER: Edit = ("console", "getStringFromWasm0");
 
 const TABLE_HELPER: Edit = ("console", "addToExternrefTable0");
+
+/// Names of vendors that no adapter calls.
+const BAD_VENDOR: Edit = (
+    r#""fields":["log"]}]}"#,
+    r#""fields":["log"]}]},{"adapter":9,"what":["Bare",{"vendor":"1x"}]}"#,
+);
+
+const TAKEN_VENDOR: Edit = (
+    r#""fields":["log"]}]}"#,
+    r#""fields":["log"]}]},{"adapter":9,"what":["Bare",{"vendor":"heap"}]}"#,
+);
 
 /// An adapter that isn't there stands for the import.
 const ABSENT_PAIR: Edit = (r#""implements":[[0,1]]"#, r#""implements":[[0,9]]"#);
@@ -283,6 +357,8 @@ const NAMES: &[Case] = &[
         &[TABLE_HELPER],
         "GlobalTwice addToExternrefTable0",
     ),
+    (ADD, &[CALL_MORE, BAD_VENDOR], "BadName 1x"),
+    (ADD, &[CALL_MORE, TAKEN_VENDOR], "GlobalTwice heap"),
     (WITH_PROTO, &[], "BadName __proto__"),
     (IMPORTED_TWICE, &[LOGGING, SECOND_PAIR], "NameClash log"),
     (EXPORTED_TWICE, &[], "NameClash add"),

@@ -1,8 +1,8 @@
 //! Edits of the description of `add` and `log` that more than one table makes.
 use crate::described::Edit;
 
-/// Another name for the export, one that Deno has.
-pub const HOST_NAME: Edit = (r#""name":"add""#, r#""name":"Error""#);
+/// The export stands in a namespace.
+pub const IN_NAMESPACE: Edit = (r#""name":"add""#, r#""name":"add","namespace":["some"]"#);
 
 /// Another name for the export, one that is no ordinary key of an object.
 pub const PROTO_NAME: Edit = (r#""name":"add""#, r#""name":"__proto__""#);

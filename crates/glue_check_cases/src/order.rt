@@ -3,7 +3,7 @@
 use crate::checking::{Asked, AskedCase, Case, assert_asked, assert_cases};
 use crate::described::Edit;
 use crate::edits::{
-    ADD_IMPORT, ADDING, BARE_LINK, CALL_MORE, CALLING_NOTHING, GLOBAL_WASM, HOST_NAME, LOGGING,
+    ADD_IMPORT, ADDING, BARE_LINK, CALL_MORE, CALLING_NOTHING, GLOBAL_WASM, IN_NAMESPACE, LOGGING,
     NO_CODE, NO_PAIR, ONE_NAME, PACKAGE, PROTO_NAME, SAME_PAIR, SECOND_ADD, SECOND_LAST,
     SECOND_PAIR, SUM, TRUTH, UNSUPPORTED,
 };
@@ -25,8 +25,11 @@ const REINIT: Edit = (r#""version":1"#, r#""version":1,"uses_reinit":true"#);
 /// Two kinds of what isn't built, or two conditions, each next to the other in the order.
 const PAIRS: &[AskedCase] = &[
     (&[Asked::Web], (WITH_MEMORY_IMPORT, &[], "NotBuilt target")),
-    (&[], (WITH_MEMORY_IMPORT, &[HOST_NAME], "NotBuilt imports")),
-    (&[], (ADD, &[HOST_NAME, TRUTH], "NotBuilt exports")),
+    (
+        &[],
+        (WITH_MEMORY_IMPORT, &[IN_NAMESPACE], "NotBuilt imports"),
+    ),
+    (&[], (ADD, &[IN_NAMESPACE, TRUTH], "NotBuilt exports")),
     (&[], (ADD, &[TRUTH, CLASS], "NotBuilt instructions")),
     (&[Asked::Debug], (ADD, &[CLASS], "NotBuilt classes")),
     (&[Asked::Debug], (ADD, &[REINIT], "NotBuilt settings")),
@@ -115,6 +118,33 @@ const TAKEN_GLOBALS: Edit = (
     r#"["Bare",{"global":"wasm"}]},{"adapter":2,"what":["Bare",{"global":"heap"}]}"#,
 );
 
+/// Names of vendors of which several are no identifiers: the name too, behind two prefixes alone, and of two imports.
+const BAD_VENDOR: Edit = (
+    r#"{"global":"console","fields":["log"]}"#,
+    r#"{"vendor":"1x","prefixes":["b-","a-"]}"#,
+);
+
+const BAD_PREFIXES: Edit = (
+    r#"{"global":"console","fields":["log"]}"#,
+    r#"{"vendor":"x","prefixes":["moz","b-","a-"]}"#,
+);
+
+const BAD_VENDORS: Edit = (
+    r#"["Bare",{"global":"console","fields":["log"]}]}"#,
+    r#"["Bare",{"vendor":"x","prefixes":["a-"]}]},{"adapter":2,"what":["Bare",{"vendor":"1x"}]}"#,
+);
+
+/// The same of names that the glue file may bind.
+const TAKEN_VENDOR: Edit = (
+    r#"{"global":"console","fields":["log"]}"#,
+    r#"{"vendor":"wasm","prefixes":["__wbg_set_"]}"#,
+);
+
+const TAKEN_PREFIXES: Edit = (
+    r#"{"global":"console","fields":["log"]}"#,
+    r#"{"vendor":"Object","prefixes":["moz","take","get"]}"#,
+);
+
 /// Three adapters more that log, and each of four imports has one.
 const FOUR_LOGGING: Edit = (
     r#""import":"normal"}"#,
@@ -157,10 +187,17 @@ const NAMED: &[Case] = &[
     (ADD, &[LOGGING, SECOND_LAST], "BadAdapter 4"),
     (ADD, &[LOGGING, SECOND_FIRST], "BadAdapter 1"),
     (TWO_IMPORTS, &[NO_PAIR, NO_CODE], "UnboundImport 0"),
-    // Exports, then globals, then imports.
+    // Exports, then globals and names of vendors, then imports.
     (ADD, &[PROTO_NAME, BAD_GLOBALS], "BadName __proto__"),
     (WITH_PROTO, &[BAD_GLOBALS], "BadName 2x"),
+    (ADD, &[PROTO_NAME, BAD_VENDOR], "BadName __proto__"),
+    (WITH_PROTO, &[BAD_VENDOR], "BadName 1x"),
     (ADD, &[TAKEN_GLOBALS], "GlobalTwice wasm"),
+    // The name, then the name behind each prefix in turn.
+    (ADD, &[BAD_PREFIXES], "BadName b-x"),
+    (ADD, &[BAD_VENDORS], "BadName a-x"),
+    (ADD, &[TAKEN_VENDOR], "GlobalTwice wasm"),
+    (ADD, &[TAKEN_PREFIXES], "GlobalTwice takeObject"),
     // Imports, then exports.
     (BOTH_TWICE, &[LOGGING, SECOND_PAIR], "NameClash log"),
     (CROSSED_IMPORTS, &[FOUR_LOGGING, FOUR_PAIRS], "NameClash b"),

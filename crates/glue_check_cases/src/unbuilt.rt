@@ -139,35 +139,17 @@ const GROUPS: &[Group] = &[
             r#""setter","class":"C""#,
         ],
     ),
-    // Names of an export where the module has one import, and then where it has a memory too.
+    // An export may have any name, also one that its function can't have.
     (
         ADD,
         NAME,
         "",
         &[
-            "$_1",
-            "length",
-            "__wasm",
-            "HEAP8",
-            "import2",
-            "getStringFromWasm0",
+            "$_1", "length", "__wasm", "", "1x", "a-b", "default", "Error", "console", "wasm",
+            "heap", "import1",
         ],
     ),
-    (
-        ADD,
-        NAME,
-        "NotBuilt exports",
-        &[
-            "", "1x", "a-b", "default", "Error", "console", "wasm", "heap", "import1",
-        ],
-    ),
-    (WITH_MEMORY, NAME, "", &["getStringFromWasm1"]),
-    (
-        WITH_MEMORY,
-        NAME,
-        "NotBuilt exports",
-        &["getStringFromWasm0"],
-    ),
+    (WITH_MEMORY, NAME, "", &["getStringFromWasm0"]),
     (
         ADD,
         RESULTS,
@@ -234,19 +216,27 @@ const GROUPS: &[Group] = &[
         "",
         &[
             r#"["Bare",{"global":"g"}]"#,
+            r#"["Bare",{"module":"m","name":"g"}]"#,
+            r#"["Bare",{"vendor":"g","prefixes":["webkit"],"fields":["x"]}]"#,
             r#"["ValueWithThis",{"global":"g"},"x"]"#,
+            r#"["ValueWithThis",{"module":"m","name":"g","fields":["x"]},"x"]"#,
             r#"["StructuralMethod","x"]"#,
             r#"["StructuralGetter","x"]"#,
             r#"["StructuralClassSetter",{"global":"g"},"x"]"#,
+            r#"["StructuralClassSetter",{"inline":"c","index":0,"name":"g"},"x"]"#,
             r#"["IndexingGetterOfClass",{"global":"g"}]"#,
+            r#"["IndexingGetterOfClass",{"local":"a.js","name":"g"}]"#,
             r#"["IndexingDeleterOfClass",{"global":"g"}]"#,
             r#"["Instanceof",{"global":"g","fields":["a","b"]}]"#,
+            r#"["Instanceof",{"vendor":"g"}]"#,
             r#"["Cast","c"]"#,
             r#"["Intrinsic","Neg"]"#,
             r#"["Intrinsic","IsObject"]"#,
             r#"["Intrinsic","NumberGet"]"#,
             r#"["Intrinsic","TryIntoNumber"]"#,
             r#"["Intrinsic","Throw"]"#,
+            r#"["Intrinsic","DebugString"]"#,
+            r#"["Intrinsic","PanicError"]"#,
         ],
     ),
     // What takes another number of arguments.
@@ -256,12 +246,13 @@ const GROUPS: &[Group] = &[
         "BadAdapter 2",
         &[
             r#"["Static",{"global":"g"},false]"#,
-            r#"["Static",{"global":"g"},true]"#,
+            r#"["Static",{"vendor":"g","prefixes":["webkit"]},true]"#,
             r#"["String","s"]"#,
             r#"["LinkTo","a.js","x"]"#,
             // The number of arguments comes first.
             r#"["LinkTo","a.js",null]"#,
             r#"["Intrinsic","CheckedDiv"]"#,
+            r#"["Intrinsic","ExternrefHeapLiveCount"]"#,
             r#"["StructuralSetter","x"]"#,
             r#"["StructuralClassGetter",{"global":"g"},"x"]"#,
             r#"["IndexingSetterOfClass",{"global":"g"}]"#,
@@ -272,32 +263,29 @@ const GROUPS: &[Group] = &[
             r#"["Intrinsic","Exports"]"#,
         ],
     ),
-    // The export is called like a global that the description takes from outside.
+    // The export is called like a name that the description takes from outside.
     (
         ADD,
         DESCRIBED,
-        "NotBuilt exports",
-        &[r#"["Bare",{"global":"add"}]"#],
+        "",
+        &[
+            r#"["Bare",{"global":"add"}]"#,
+            r#"["Bare",{"vendor":"dd","prefixes":["a"]}]"#,
+        ],
     ),
     (
         ADD,
         DESCRIBED,
         "NotBuilt imports",
         &[
-            r#"["Bare",{"module":"m","name":"g","fields":["x"]}]"#,
-            r#"["Bare",{"vendor":"g","prefixes":["webkit"]}]"#,
-            r#"["Getter",{"global":"g"},"x"]"#,
-            r#"["ClassGetter",{"global":"g"},"x"]"#,
-            r#"["Setter",{"global":"g"},"x"]"#,
-            r#"["ClassSetter",{"global":"g"},"x"]"#,
-            r#"["ValueWithThis",{"module":"m","name":"g"},"x"]"#,
-            r#"["Instanceof",{"module":"m","name":"g"}]"#,
-            r#"["Static",{"vendor":"g","prefixes":["webkit"]},true]"#,
             r#"["WrapInExportedClass","C"]"#,
             r#"["UnwrapExportedClass","C"]"#,
-            r#"["Intrinsic","DebugString"]"#,
+            r#"["Intrinsic","FunctionTable"]"#,
+            r#"["Intrinsic","InitExternrefTable"]"#,
+            r#"["Intrinsic","Instance"]"#,
             r#"["Intrinsic","Memory"]"#,
             r#"["Intrinsic","Module"]"#,
+            r#"["Intrinsic","StringFromUtf8Lossy"]"#,
         ],
     ),
     // Properties may have any names.
@@ -320,6 +308,12 @@ fn what_a_description_asks_for_is_built_or_named(rt: HostRuntime) -> Result<(), 
     assert_groups(&rt, rt.alloc(), GROUPS)
 }
 
+/// The import adapter more counts objects.
+const LIVE_COUNT: Edit = (
+    r#""fields":["log"]}]}"#,
+    r#""fields":["log"]}]},{"adapter":9,"what":["Intrinsic","ExternrefHeapLiveCount"]}"#,
+);
+
 const ASKED: &[AskedCase] = &[
     (&[], (ADD, &[], "")),
     (&[Asked::Others], (ADD, &[], "")),
@@ -329,10 +323,13 @@ const ASKED: &[AskedCase] = &[
     (&[Asked::Module], (ADD, &[], "NotBuilt target")),
     (&[Asked::Emscripten], (ADD, &[], "NotBuilt target")),
     (&[Asked::NoImports], (ADD, &[], "NotBuilt imports")),
-    (&[Asked::SplitModules], (ADD, &[], "NotBuilt imports")),
+    (&[Asked::SplitModules], (ADD, &[], "")),
+    (&[Asked::SplitModules], (ADD, &[CALL_MORE, BARE_LINK], "")),
+    // The object table holds no objects where references stand in a table of the module.
+    (&[], (ADD, &[CALL_MORE, LIVE_COUNT], "")),
     (
-        &[Asked::SplitModules],
-        (ADD, &[CALL_MORE, BARE_LINK], "NotBuilt imports"),
+        &[Asked::Others],
+        (ADD, &[CALL_MORE, LIVE_COUNT], "NotBuilt imports"),
     ),
     (&[Asked::Debug], (ADD, &[], "NotBuilt settings")),
     (&[Asked::Typescript], (ADD, &[], "NotBuilt settings")),
@@ -395,21 +392,52 @@ const MORE_ADAPTERS: Edit = (
     r#"{"id":2,"args":["s32"],"import":"normal"},{"id":3,"args":["s32"],"import":"normal"}"#,
 );
 
-/// Names of modules: the import itself, behind an adapter that changes the value, called by none, and of a module that clashes.
-const HANDED: &[Case] = &[
+/// A property of a name of a module.
+const WITH_FIELD: Edit = (
+    r#"{"module":"m","name":"log"}"#,
+    r#"{"module":"m","name":"log","fields":["x"]}"#,
+);
+
+const LOCAL_FIELD: Edit = (
+    r#"{"global":"console","fields":["log"]}"#,
+    r#"{"local":"a.js","name":"log","fields":["x"]}"#,
+);
+
+const AS_METHOD: Edit = ("normal", "method");
+
+const AS_CONSTRUCTOR: Edit = ("normal", "constructor");
+
+const SPREAD: Edit = (r#""version":1"#, r#""version":1,"variadic":[2]"#);
+
+/// Names of modules: the import itself, behind an adapter that changes the value, called by none, and of a module that clashes where it is
+/// handed on. Then properties of them: of an adapter that only hands on, of one that changes the value or calls it in another way, and
+/// called by none.
+const OF_MODULES: &[Case] = &[
     (ADD, &[MODULE_LOG], ""),
     (ADD, &[LOCAL_LOG], ""),
     (ADD, &[INLINE_LOG], ""),
-    (ADD, &[MODULE_LOG, UNSIGNED_LOG], "NotBuilt imports"),
+    (ADD, &[MODULE_LOG, UNSIGNED_LOG], ""),
     (ADD, &[CALLING_MORE, MORE_LOG, MORE_ADAPTERS], ""),
     (ADD, &[GLUE_LOG], "ModuleClash ./out_bg.js"),
+    (ADD, &[GLUE_LOG, UNSIGNED_LOG], ""),
+    (ADD, &[MODULE_LOG, WITH_FIELD], "NotBuilt imports"),
+    (ADD, &[LOCAL_FIELD], "NotBuilt imports"),
+    (ADD, &[MODULE_LOG, WITH_FIELD, UNSIGNED_LOG], ""),
+    (ADD, &[MODULE_LOG, WITH_FIELD, AS_METHOD], ""),
+    (ADD, &[MODULE_LOG, WITH_FIELD, AS_CONSTRUCTOR], ""),
+    (ADD, &[MODULE_LOG, WITH_FIELD, SPREAD], ""),
+    (
+        ADD,
+        &[CALLING_MORE, MORE_LOG, MORE_ADAPTERS, WITH_FIELD],
+        "",
+    ),
 ];
 
 #[test]
-fn a_name_of_a_module_is_built_where_it_is_the_import_itself(
+fn names_of_modules_are_built_but_for_properties_that_are_handed_on(
     rt: HostRuntime,
 ) -> Result<(), AllocError> {
-    assert_cases(&rt, rt.alloc(), HANDED)
+    assert_cases(&rt, rt.alloc(), OF_MODULES)
 }
 
 /// `ADD` with this name for the function at a place. A name of more than 100 bytes is left out.

@@ -8,22 +8,28 @@ pub use Rattle.std.proofs.lemmas.Slice.Eq.{bytes_eq-Decides}
 pub use Rattle.std.specs.List.{AllByRecursion, AllZip, list_all, list_any}
 pub use Rattle.values.proofs.Members.{distinct_both, in_left, in_right}
 pub use Rattle.values.specs.Lists.{AreApart, AreDistinct, IsAway, IsIn}
-pub use Rattle.glue_check.specs.Unbuilt.{global_of}
 unfoldable pub use Rattle.glue_check.specs.Verdict.{unbuilt, verdict}
 pub use Rattle.glue_check.specs.declared.files.FileFlags.{FileFlags}
 pub use Rattle.glue_check.proofs.BuiltForm.{IsBuiltExport}
-pub use Rattle.glue_check.proofs.Steps.{HasSteps, IsDescribed, IsThere, some_of}
+pub use Rattle.glue_check.proofs.Globals.{some_of}
+pub use Rattle.glue_check.proofs.Steps.{HasSteps, IsDescribed, IsThere}
 pub use Rattle.glue_steps.specs.Exported.{export_name, export_names}
+pub use Rattle.glue_lines.specs.Grouped.{AreImportLines, Imported}
+pub use Rattle.glue_naming.specs.Listed.{drawn_imports}
+pub use Rattle.glue_naming.specs.Naming.{AreNames, declared_name, is_named}
 pub use Rattle.glue_context.specs.Defined.{IsDefined, defined_by, defined_places}
 pub use Rattle.glue_context.specs.Edits.{AreFit, with_added, with_moved}
 pub use Rattle.glue_context.specs.Foreign.{foreign_lines, foreign_modules, module_at, modules_from}
-pub use Rattle.glue_context.specs.Items.{IsArranged, IsDeclareItem, IsDefineItem, IsFunctionOf, IsGlue, all_items, front_items, declaration_back, declaration_front, default_names, definition_back, definition_front, export_order, is_bindable, is_definable}
+pub use Rattle.glue_context.specs.ExportedItems.{declaration_back, declaration_front, declare_item, declare_items, publish_item, publish_items}
+pub use Rattle.glue_context.specs.ImportedItems.{line_form, vendor_items}
+pub use Rattle.glue_context.specs.Items.{AreDeclareItems, IsArranged, IsDefineItem, IsFunctionOf, IsGlue, all_items, front_items, joined_groups, default_names, definition_back, definition_front, export_order, is_bindable, is_definable}
 pub use Rattle.glue_context.specs.Linked.{IsLinked, IsPrescribed}
 pub use Rattle.glue_context.specs.Rewritten.{edits_of, move_of, rewritten}
 pub use Rattle.glue_shared.specs.Names.{described_hosts, fixed_public, global_names, import_names, is_one_of, js_import, live_count, names_of}
 unfoldable pub use Rattle.glue_shared.specs.Names.{fixed_names, helper_names, host_names, own_imports}
 pub use Rattle.glue_shared.specs.declared.aux.AuxExport.{AuxExport}
 pub use Rattle.glue_shared.specs.declared.description.Lowered.{Lowered}
+pub use Rattle.glue_shared.specs.declared.name_map.NameMap.{NameMap}
 pub use Rattle.glue_shared.specs.declared.import.AuxImport.{AuxImport}
 pub use Rattle.glue_shared.specs.declared.names.TheConstants.{HOSTS, TARGET_NAMES}
 pub use Rattle.glue_shared.specs.declared.settings.Settings.{Settings}

@@ -1,4 +1,4 @@
--- The names that the glue file declares beside those of exports: of foreign modules, of the frame and of loading, and of helpers. They are
+-- The names that the glue file declares beside those that are drawn: of foreign modules, of the frame and of loading, and of helpers. They are
 -- fixed names, none of them twice and none of the host.
 use Rattle.glue_context.proofs.Common.{◌≡◌, ℕ, zero, suc, ◌+◌, ◌<◌, inl, inr, List, [], ◌∷◌, ◌++◌, map, Bool, true, false, true≢false, refl, sym, ap, ◌∙◌, subst, arith, length, codes, bytes_eq-Decides, list_any, Option, Some, None, IsIn, IsAway, AreDistinct, AreAmong, AreApart, distinct_both, HOSTS, TARGET_NAMES, fixed_names, helper_names, import_names, live_count, global_names, is_one_of, Settings, Contents, Import, module_at, modules_from}
 use Rattle.std.specs.Prelude.{◌||◌, ◌≤◌, ◌^◌, cond, take, drop, is_some}
@@ -23,7 +23,7 @@ use Rattle.glue_context.specs.Foreign.{is_strings}
 -- ---- tests of names
 
 -- a text that is found is one of them
-among_is : (name : List ℕ) (names : List (List ℕ)) → is_one_of names name ≡ true → IsIn name names
+pub among_is : (name : List ℕ) (names : List (List ℕ)) → is_one_of names name ≡ true → IsIn name names
 among_is name [] h = absurd (true≢false (sym h))
 among_is name (other ∷ names) h = let rest = among_is name names in let same = bytes_eq-Decides other name in grind arith
 
@@ -130,7 +130,7 @@ loading_bound = codes "wasmUrl" ∷ codes "wasmInstantiated" ∷ codes "wasmInst
 abbrev pub host_texts : List (List ℕ)
 host_texts = map (λ w. w.now) HOSTS
 
--- names of helpers that are held, and of these foreign modules, beside the names of exports
+-- names of helpers that are held, and of these foreign modules, beside the drawn ones
 module _ (s : Settings) (m : Contents) (paths held : List (List ℕ)) (few : length paths ≤ live_count m.imports) (small : length paths < 2 ^ 32)
     (listed : AreAmong held single_names) where
   abbrev pub lines : List (List ℕ)
@@ -192,26 +192,6 @@ module _ (s : Settings) (m : Contents) (paths held : List (List ℕ)) (few : len
   held_loading : AreApart held loading_bound
   held_loading = held_apart loading_bound (none_found loading_bound single_names refl)
 
-  -- what the file declares: foreign modules, exports and the frame, helpers and loading
-  abbrev pub all_names : List (List ℕ) → List (List ℕ)
-  all_names names = (lines ++ (names ++ frame_bound)) ++ (held ++ loading_bound)
-
-  -- none stands twice
-  pub all_distinct : (names : List (List ℕ)) → AreDistinct held → AreDistinct names → AreApart names own_names → AreDistinct (all_names names)
-  all_distinct names h d apart =
-      let behind = held ++ loading_bound in
-      let first = apart_split names lines (frame_bound ++ behind) apart in
-      let second = apart_split names frame_bound behind first.1 in
-      let front : AreDistinct frame_bound = grind arith in
-      let back : AreDistinct loading_bound = grind arith in
-      let between : AreApart frame_bound loading_bound = none_found loading_bound frame_bound refl in
-      distinct_both (lines ++ (names ++ frame_bound)) behind
-      (distinct_both lines (names ++ frame_bound) (modules_distinct 1 paths wide) (distinct_both names frame_bound d front second.0)
-      (apart_joined lines names frame_bound (apart_swap names lines first.0) lines_frame))
-      (distinct_both held loading_bound h back held_loading)
-      (apart_both lines (names ++ frame_bound) behind (apart_joined lines held loading_bound lines_held lines_loading)
-      (apart_both names frame_bound behind second.1 (apart_joined frame_bound held loading_bound frame_held between)))
-
   -- none is a name that the host has in each file
   pub own_no_hosts : AreApart own_names host_texts
   own_no_hosts =
@@ -219,37 +199,120 @@ module _ (s : Settings) (m : Contents) (paths held : List (List ℕ)) (few : len
       (apart_both frame_bound (held ++ loading_bound) host_texts (none_found host_texts frame_bound refl)
       (apart_both held loading_bound host_texts (held_apart host_texts (none_found host_texts single_names refl)) (none_found host_texts loading_bound refl)))
 
-  -- what own names and those of exports are apart from, all are
-  pub all_apart : (names others : List (List ℕ)) → AreApart names others → AreApart own_names others → AreApart (all_names names) others
-  all_apart names others h k =
-      let behind = held ++ loading_bound in
-      let first = apart_parts lines (frame_bound ++ behind) others k in
-      let second = apart_parts frame_bound behind others first.1 in
-      apart_both (lines ++ (names ++ frame_bound)) behind others
-      (apart_both lines (names ++ frame_bound) others first.0 (apart_both names frame_bound others h second.0)) second.1
+  frame_behind : AreApart frame_bound (held ++ loading_bound)
+  frame_behind = apart_joined frame_bound held loading_bound frame_held (none_found loading_bound frame_bound refl)
 
-  -- what stands whatever helpers are held
-  abbrev pub first_names : List (List ℕ) → List (List ℕ)
-  first_names names = (lines ++ (names ++ frame_bound)) ++ loading_bound
+  lines_behind : AreApart lines (held ++ loading_bound)
+  lines_behind = apart_joined lines held loading_bound lines_held lines_loading
 
-  pub first_among : (names : List (List ℕ)) → AreAmong (first_names names) (all_names names)
-  first_among names =
-      let before = lines ++ (names ++ frame_bound) in
-      among_both before loading_bound (all_names names) (among_left before before (held ++ loading_bound) (among_itself before))
-      (among_right loading_bound before (held ++ loading_bound) (among_right loading_bound held loading_bound (among_itself loading_bound)))
+  -- names that are apart from the own ones
+  record AreApartFromOwn (names : List (List ℕ)) : Type 0 where
+    from_lines : AreApart names lines
+    from_frame : AreApart names frame_bound
+    behind : AreApart names (held ++ loading_bound)
 
-  pub held_among : (names : List (List ℕ)) → AreAmong held (all_names names)
-  held_among names = among_right held (lines ++ (names ++ frame_bound)) (held ++ loading_bound) (among_left held held loading_bound (among_itself held))
+  from_own : (names : List (List ℕ)) → AreApart names own_names → AreApartFromOwn names
+  from_own names h =
+      let first = apart_split names lines (frame_bound ++ (held ++ loading_bound)) h in
+      let second = apart_split names frame_bound (held ++ loading_bound) first.1 in
+      record { from_lines = first.0; from_frame = second.0; behind = second.1 }
 
-  -- the names of foreign modules, of the frame and of loading stand among the first
-  pub lines_first : (names : List (List ℕ)) → AreAmong lines (first_names names)
-  lines_first names =
-      among_left lines (lines ++ (names ++ frame_bound)) loading_bound (among_left lines lines (names ++ frame_bound) (among_itself lines))
+  -- names that are drawn, for imports of described modules, for vendors' names and for exports: all are distinct, and none is an own one
+  pub record AreDrawn (imported constants names : List (List ℕ)) : Type 0 where
+    pub imports_once : AreDistinct imported
+    pub constants_once : AreDistinct constants
+    pub names_once : AreDistinct names
+    pub imports_constants : AreApart imported constants
+    pub imports_names : AreApart imported names
+    pub constants_names : AreApart constants names
+    pub imports_own : AreApart imported own_names
+    pub constants_own : AreApart constants own_names
+    pub names_own : AreApart names own_names
 
-  pub frame_first : (names : List (List ℕ)) → AreAmong frame_bound (first_names names)
-  frame_first names =
-      among_left frame_bound (lines ++ (names ++ frame_bound)) loading_bound
-      (among_right frame_bound lines (names ++ frame_bound) (among_right frame_bound names frame_bound (among_itself frame_bound)))
+  -- what the file declares: names of described modules, of foreign ones, and of vendors, those of exports and of the frame, of helpers, and of
+  -- loading
+  module _ (imported constants names : List (List ℕ)) where
+    abbrev pub framed_names : List (List ℕ)
+    framed_names = imported ++ (lines ++ (constants ++ (names ++ frame_bound)))
 
-  pub loading_first : (names : List (List ℕ)) → AreAmong loading_bound (first_names names)
-  loading_first names = among_right loading_bound (lines ++ (names ++ frame_bound)) loading_bound (among_itself loading_bound)
+    abbrev pub all_names : List (List ℕ)
+    all_names = framed_names ++ (held ++ loading_bound)
+
+    -- none stands twice
+    pub all_distinct : AreDistinct held → AreDrawn imported constants names → AreDistinct all_names
+    all_distinct h d =
+        let i = from_own imported d.imports_own in
+        let c = from_own constants d.constants_own in
+        let n = from_own names d.names_own in
+        let framed = names ++ frame_bound in
+        let more = constants ++ framed in
+        let front : AreDistinct frame_bound = grind arith in
+        let back : AreDistinct loading_bound = grind arith in
+        let named = distinct_both names frame_bound d.names_once front n.from_frame in
+        let held_too = distinct_both constants framed d.constants_once named (apart_joined constants names frame_bound d.constants_names c.from_frame) in
+        let lined = distinct_both lines more (modules_distinct 1 paths wide) held_too
+        (apart_joined lines constants framed (apart_swap constants lines c.from_lines)
+        (apart_joined lines names frame_bound (apart_swap names lines n.from_lines) lines_frame)) in
+        let whole = distinct_both imported (lines ++ more) d.imports_once lined
+        (apart_joined imported lines more i.from_lines (apart_joined imported constants framed d.imports_constants
+        (apart_joined imported names frame_bound d.imports_names i.from_frame))) in
+        let behind = held ++ loading_bound in
+        distinct_both framed_names behind whole (distinct_both held loading_bound h back held_loading)
+        (apart_both imported (lines ++ more) behind i.behind (apart_both lines more behind lines_behind
+        (apart_both constants framed behind c.behind (apart_both names frame_bound behind n.behind frame_behind))))
+
+    -- what own names and the drawn ones are apart from, all are
+    pub all_apart : (others : List (List ℕ)) → AreApart imported others → AreApart constants others → AreApart names others → AreApart own_names others
+        → AreApart all_names others
+    all_apart others i c n own =
+        let behind = held ++ loading_bound in
+        let first = apart_parts lines (frame_bound ++ behind) others own in
+        let second = apart_parts frame_bound behind others first.1 in
+        let framed = names ++ frame_bound in
+        let more = constants ++ framed in
+        apart_both framed_names behind others
+        (apart_both imported (lines ++ more) others i (apart_both lines more others first.0
+        (apart_both constants framed others c (apart_both names frame_bound others n second.0)))) second.1
+
+    -- what stands whatever helpers are held
+    abbrev pub first_names : List (List ℕ)
+    first_names = framed_names ++ loading_bound
+
+    pub first_among : AreAmong first_names all_names
+    first_among =
+        among_both framed_names loading_bound all_names (among_left framed_names framed_names (held ++ loading_bound) (among_itself framed_names))
+        (among_right loading_bound framed_names (held ++ loading_bound) (among_right loading_bound held loading_bound (among_itself loading_bound)))
+
+    pub held_among : AreAmong held all_names
+    held_among = among_right held framed_names (held ++ loading_bound) (among_left held held loading_bound (among_itself held))
+
+    -- the names of modules, of vendors, of exports, of the frame and of loading stand among the first
+    framed_first : (xs : List (List ℕ)) → AreAmong xs framed_names → AreAmong xs first_names
+    framed_first xs h = among_left xs framed_names loading_bound h
+
+    behind_imports : (xs : List (List ℕ)) → AreAmong xs (lines ++ (constants ++ (names ++ frame_bound))) → AreAmong xs first_names
+    behind_imports xs h = framed_first xs (among_right xs imported (lines ++ (constants ++ (names ++ frame_bound))) h)
+
+    behind_lines : (xs : List (List ℕ)) → AreAmong xs (constants ++ (names ++ frame_bound)) → AreAmong xs first_names
+    behind_lines xs h = behind_imports xs (among_right xs lines (constants ++ (names ++ frame_bound)) h)
+
+    behind_constants : (xs : List (List ℕ)) → AreAmong xs (names ++ frame_bound) → AreAmong xs first_names
+    behind_constants xs h = behind_lines xs (among_right xs constants (names ++ frame_bound) h)
+
+    pub imports_first : AreAmong imported first_names
+    imports_first = framed_first imported (among_left imported imported (lines ++ (constants ++ (names ++ frame_bound))) (among_itself imported))
+
+    pub lines_first : AreAmong lines first_names
+    lines_first = behind_imports lines (among_left lines lines (constants ++ (names ++ frame_bound)) (among_itself lines))
+
+    pub constants_first : AreAmong constants first_names
+    constants_first = behind_lines constants (among_left constants constants (names ++ frame_bound) (among_itself constants))
+
+    pub names_first : AreAmong names first_names
+    names_first = behind_constants names (among_left names names frame_bound (among_itself names))
+
+    pub frame_first : AreAmong frame_bound first_names
+    frame_first = behind_constants frame_bound (among_right frame_bound names frame_bound (among_itself frame_bound))
+
+    pub loading_first : AreAmong loading_bound first_names
+    loading_first = among_right loading_bound framed_names loading_bound (among_itself loading_bound)

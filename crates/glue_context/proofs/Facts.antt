@@ -1,9 +1,11 @@
 -- What is known of a description whose items are made, however it was checked, and that the check gives it.
-use Rattle.glue_context.proofs.Common.{◌≡◌, true, arith, list_all, is_bindable, is_definable, ℕ, List, [], map, false, None, IsIn, AreDistinct, ImportId, AuxExport, AuxImport, Settings, Deno, Lowered, fixed_names, own_imports, IsBuiltExport, HasSteps, FileFlags, unbuilt, verdict}
+use Rattle.glue_context.proofs.Common.{◌≡◌, true, arith, list_all, is_bindable, is_definable, ℕ, List, [], map, false, None, IsIn, AreDistinct, ImportId, AuxExport, AuxImport, Settings, NameMap, Deno, Lowered, fixed_names, own_imports, IsAway, IsBuiltExport, HasSteps, FileFlags, unbuilt, verdict}
 use Rattle.glue_check.proofs.{BuiltForm.target_built, BuiltForm.settings_built, BuiltForm.imports_built, BuiltForm.exports_built, BuiltForm.only_functions}
-use Rattle.glue_check.proofs.{ExportNames.distinct_functions, ExportNames.names_of, OwnPairs.are_own_pairs, OwnPairs.kept_pair, Passed.global_apart, Passed.pairs_fit, Steps.export_steps, Steps.pair_steps, Globals.NamesAway, Embedded.names_away}
+use Rattle.glue_check.proofs.{ExportNames.distinct_functions, ExportNames.names_of, OwnPairs.are_own_pairs, OwnPairs.kept_pair, Passed.brought_apart, Passed.brought_ident, Passed.pairs_fit, Steps.export_steps, Steps.pair_steps}
+use Rattle.glue_check.specs.Taken.{brought}
 use Rattle.glue_naming.specs.Pairs.{is_among, own_pairs}
 use Rattle.glue_shared.specs.Names.{has_number}
+use Rattle.glue_words.specs.Ident.{is_ident}
 use Rattle.glue_context.proofs.Lists.{all_by}
 
 -- the places of imports that adapters implement
@@ -21,13 +23,14 @@ pub record Facts (s : Settings) (l : Lowered) : Type 0 where
   -- the imports of such pairs are the own ones
   pub paired : (place : ℕ) → IsIn place (own_imports s l.«module» l.wit l.aux) → IsIn place (places_of (own_pairs s l))
   pub own : (place : ℕ) → IsIn place (places_of (own_pairs s l)) → IsIn place (own_imports s l.«module» l.wit l.aux)
-  -- nothing but functions is published, and values of globals, which the file doesn't bind itself, and of modules alone are imported
+  -- nothing but functions is published, and what imports bring of the outside are identifiers that the file doesn't bind itself
   pub structs : l.aux.structs ≡ []
   pub enums : l.aux.enums ≡ []
   pub reexports : l.aux.reexports ≡ []
-  pub globals : (e : ℕ × AuxImport) → IsIn e l.aux.imports → NamesAway (fixed_names s l.«module») e.1
-  -- each export is a function that may be declared, and its adapter and that of each own import has steps
-  pub exports : (e : AuxExport) → IsIn e l.aux.exports → IsBuiltExport s l e
+  pub idents : (e : ℕ × AuxImport) → IsIn e l.aux.imports → (name : List ℕ) → IsIn name (brought false e.1) → is_ident name ≡ true
+  pub apart : (e : ℕ × AuxImport) → IsIn e l.aux.imports → (name : List ℕ) → IsIn name (brought false e.1) → IsAway name (fixed_names s l.«module»)
+  -- each export is a function at the top level, and its adapter and that of each own import has steps
+  pub exports : (e : AuxExport) → IsIn e l.aux.exports → IsBuiltExport e
   pub export_steps : (e : AuxExport) → IsIn e l.aux.exports → HasSteps s l e.adapter
   pub pair_steps : (pair : ImportId × ℕ) → IsIn pair (own_pairs s l) → HasSteps s l pair.1
 
@@ -53,7 +56,8 @@ built f s l whole passed =
       structs = only.structs;
       enums = only.enums;
       reexports = only.reexports;
-      globals = λ e k. names_away s l imports passed (fixed_names s l.«module») e k (global_apart s l passed e k);
+      idents = brought_ident s l passed;
+      apart = brought_apart s l passed;
       exports = exports_built f s l whole;
       export_steps = export_steps f s l whole passed;
       pair_steps = λ pair k. let h = own_pair s l pair k in pair_steps f s l whole passed pair h.0 h.1;
@@ -61,11 +65,11 @@ built f s l whole passed =
 
 module _ (f : FileFlags) (s : Settings) (l : Lowered) (whole : unbuilt f s l ≡ None) (passed : verdict s l ≡ None) where
   -- each adapter that becomes a function has steps
-  pub bindable_built : list_all (is_bindable l) l.aux.exports ≡ true
-  bindable_built = all_by (is_bindable l) l.aux.exports (λ e k. let h = export_steps f s l whole passed e k in grind arith)
+  pub bindable_built : (m : NameMap) → list_all (is_bindable s m l) l.aux.exports ≡ true
+  bindable_built m = all_by (is_bindable s m l) l.aux.exports (λ e k. let h = export_steps f s l whole passed e k m in grind arith)
 
   -- and an import that is defined stands
-  pub definable_built : list_all (is_definable l) (own_pairs s l) ≡ true
-  definable_built = all_by (is_definable l) (own_pairs s l) (λ pair k.
+  pub definable_built : (m : NameMap) → list_all (is_definable s m l) (own_pairs s l) ≡ true
+  definable_built m = all_by (is_definable s m l) (own_pairs s l) (λ pair k.
       let own = own_pair s l pair k in
-      let stands = (pairs_fit s l passed pair own.0).stands in let h = pair_steps f s l whole passed pair own.0 own.1 in grind arith)
+      let stands = (pairs_fit s l passed pair own.0).stands in let h = pair_steps f s l whole passed pair own.0 own.1 m in grind arith)

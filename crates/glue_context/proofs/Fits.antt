@@ -1,15 +1,19 @@
 -- What the check of a description gives of its exports and imports: their items belong into the file, and what they declare and publish.
-use Rattle.glue_context.proofs.Common.{◌≡◌, ℕ, List, [], ◌∷◌, ◌++◌, Bool, true, false, refl, ◌∙◌, subst, arith, rules, AllByRecursion, codes, list_all, list_any, filter_map-append, AreAmong, IsIn, in_left, ImportId, Item, bound_name, bound_in, used_in, hosted_in, wasm_in, spliced_in, is_export_key, Context, Belongs, IsFrame, is_exported, published_by, Step, AuxExport, AuxImport, Settings, Lowered, host_names, export_names, IsDeclareItem, IsDefineItem, IsFunctionOf, declaration_front, declaration_back, definition_front, definition_back, IsBuiltExport, IsThere, IsDescribed, HasSteps, HOSTS, map}
+use Rattle.glue_context.proofs.Common.{◌≡◌, ℕ, List, [], ◌∷◌, ◌++◌, Bool, true, false, true≢false, Some, refl, ◌∙◌, subst, arith, rules, inl, flat_map, AllByRecursion, codes, list_all, list_any, bytes_eq, bytes_eq-Decides, filter_map-append, AreAmong, IsIn, in_left, ImportId, Item, AllItems, bound_name, bound_in, used_in, hosted_in, wasm_in, spliced_in, is_export_key, Context, Belongs, IsFrame, is_exported, published_by, Step, AuxExport, AuxImport, Settings, NameMap, Lowered, host_names, export_names, js_import, names_of, declared_name, AreDeclareItems, IsDefineItem, IsFunctionOf, declare_item, publish_item, declaration_front, declaration_back, definition_front, definition_back, IsThere, IsDescribed, HasSteps, HOSTS, map}
 use Rattle.std.proofs.Common.{append_assoc, ap, sym}
-use Rattle.std.specs.Prelude.{filter}
+use Rattle.std.specs.Prelude.{filter, if◌then◌else◌}
 use Rattle.std.proofs.lemmas.{List.Folds.list_any-append, List.Folds.list_all-append}
 use Rattle.glue_words.specs.declared.item.Thing.TheVariants as thing
 use Rattle.glue_words.specs.declared.word.Word.{Word}
+use Rattle.glue_words.specs.declared.word.Word.TheVariants.{Refer}
+use Rattle.glue_words.specs.Ident.{is_ident}
 use Rattle.glue_words.specs.Limits.{is_computed}
-use Rattle.glue_words.specs.Spacing.{joins}
+use Rattle.glue_words.specs.Spacing.{is_wasm, joins}
 use Rattle.glue_words.specs.Tables.{punct_text}
 use Rattle.glue_words.proofs.Among.{apart_none, among_both, among_by, among_left}
+use Rattle.glue_words.proofs.Fitting.{belongs_by_facts}
 use Rattle.glue_tree.proofs.Fit.{is_inner}
+use Rattle.glue_targets.specs.RoleWords.{clause_words}
 use Rattle.glue_targets.proofs.FixedTexts.{call_takes}
 use Rattle.glue_binding.specs.Spelling.{path_words, chained_words}
 use Rattle.glue_binding.proofs.Standing.{step_fit}
@@ -18,14 +22,24 @@ use Rattle.glue_steps.specs.declared.step.Step.TheVariants.{CallImport}
 use Rattle.glue_binding.proofs.Parts.{outer_parts, outer_expression, expression_none, parts_declare}
 use Rattle.glue_binding.proofs.Paths.{TellsKeys, path_tells, property_tells, chained_tells}
 use Rattle.glue_scope.specs.Properties.{property_parts}
+use Rattle.glue_shared.specs.Names.{described_hosts, entry_of, has_number}
+use Rattle.glue_shared.specs.declared.import.JsImportName.{JsImportName}
+use Rattle.glue_shared.specs.declared.import.JsImportName.TheVariants as js
+use Rattle.glue_imports.specs.Roots.{drawn_name}
 use Rattle.glue_imports.specs.declared.part.Part.{Part}
 use Rattle.glue_imports.specs.declared.part.Part.TheVariants as part
 use Rattle.glue_imports.specs.declared.part.Expression.{Expression}
-use Rattle.glue_context.proofs.Expressions.{HasPart, HasExpression, expression_fit, expression_has}
 use Rattle.glue_binding.proofs.Linked.{StandsBeside, bound_local, bound_resolved, bound_keyed, bound_alone, bound_exported, bound_inner, bound_binds}
+use Rattle.helper_table.proofs.Held.{free_names}
+use Rattle.glue_check.specs.Handed.{own_callees}
 use Rattle.glue_check.proofs.Globals.{in_flat}
+use Rattle.glue_naming.specs.Listed.{is_global_name}
 use Rattle.glue_context.specs.Edits.{has_start}
 use Rattle.glue_context.specs.Keys.{described_keys, import_properties, imported_properties, other_properties}
+use Rattle.glue_context.proofs.Declared.{all_found}
+use Rattle.glue_context.proofs.Lists.{none_given}
+use Rattle.glue_context.proofs.ExpressionFits.{IsWell, IsNamedWell, expression_fit}
+use Rattle.glue_context.proofs.ExpressionNames.{HasPart, HasExpression, used_hosts, expression_has}
 
 -- ---- what steps bring along
 
@@ -100,51 +114,67 @@ module _ (s : Settings) (l : Lowered) where
       let named = among_by (import_properties e.1) all (λ x k. in_flat (λ (e : ℕ × AuxImport). import_properties e.1) l.aux.imports e x i k) in
       kept_in is_computed (import_properties e.1) (all ++ rest) (among_left (import_properties e.1) all rest named)
 
-  -- names that expressions use beside those that are described
-  abbrev used_hosts : List (List ℕ)
-  used_hosts =
-      codes "undefined" ∷ codes "Error" ∷ codes "Uint8Array" ∷ codes "RangeError" ∷ codes "URL" ∷ codes "encodeURIComponent" ∷ codes "Blob" ∷ []
-
   fixed_hosts : AreAmong used_hosts (host_names s l.aux)
   unfolding host_names
   fixed_hosts =
-      let used = used_hosts in
-      let known : AreAmong used (map (λ w. w.now) HOSTS) = grind arith in
-      among_left used (map (λ w. w.now) HOSTS) _ known
+      let known : AreAmong used_hosts (map (λ w. w.now) HOSTS) = all_found (map (λ w. w.now) HOSTS) used_hosts refl in
+      among_left used_hosts (map (λ w. w.now) HOSTS) _ known
 
-  abbrev AreThere : List Step → Type 0
-  AreThere = AllByRecursion (IsThere s l)
+  module _ (m : NameMap) where
+    -- what holds of the name that is drawn for what a described import begins with, where an adapter of an own import calls it and it is no
+    -- global
+    abbrev ForDrawn : (List ℕ → Type 0) → Type 0
+    ForDrawn P = (id : ℕ) (w : AuxImport) → has_number id (own_callees s l) ≡ true → entry_of id l.aux.imports ≡ Some w
+        → (n : JsImportName) → IsIn n (names_of (js_import w)) → is_global_name n ≡ false → P (drawn_name m n)
 
-  -- where what each step names is there, a file that declares `wasm` has the names of the steps
-  module _ (declared : List (List ℕ)) (wasm : IsIn (codes "wasm") declared) where
-    described_text : (e : Expression) → IsDescribed s l e → HasExpression (names_with declared) e
-    described_text e d = expression_has (names_with declared) d.call d.spread d.bound d.entry.1 e (record {
-      host = d.host;
-      keys = keys_described d.entry d.among;
-      undefined = fixed_hosts.0;
-      error = fixed_hosts.1.0;
-      array = fixed_hosts.1.1.0;
-      range_error = fixed_hosts.1.1.1.0;
-      url = fixed_hosts.1.1.1.1.0;
-      encoder = fixed_hosts.1.1.1.1.1.0;
-      blob = fixed_hosts.1.1.1.1.1.1.0;
-      exports = wasm;
-    }) d.is
+    -- each is an identifier, and none is `wasm`
+    abbrev pub AreWell : Type 0
+    AreWell = ForDrawn (λ name. (is_ident name ≡ true) × (is_wasm name ≡ false))
 
-    has_names : (steps : List Step) → AreThere steps → HasNames (names_with declared) (outside_of steps)
-    has_names [] h = (tt, tt, tt, tt, refl)
-    has_names (step ∷ steps) h =
-        let k = has_names steps h.1 in
-        let text = λ (e : Expression) (d : IsDescribed s l e). has_expression_names (names_with declared) e (outside_of steps) (described_text e d) k in
-        grind (arith, in_left)
+    -- these names hold what functions use of the file: `wasm`, helpers that need nothing of the module, and the drawn names
+    pub record HasBasis (declared : List (List ℕ)) : Type 0 where
+      pub wasm : IsIn (codes "wasm") declared
+      pub helpers : AreAmong free_names declared
+      pub drawn : ForDrawn (λ name. IsIn name declared)
 
-  -- and their texts are spaced
-  are_fit : (steps : List Step) → AreThere steps → list_all step_fit steps ≡ true
-  are_fit [] h = refl
-  are_fit (step ∷ steps) h =
-      let rest = are_fit steps h.1 in
-      let fit = λ (e : Expression) (d : IsDescribed s l e). expression_fit d.call d.spread d.bound d.entry.1 e d.ident d.is in
-      grind arith
+    abbrev AreThere : List Step → Type 0
+    AreThere = AllByRecursion (IsThere s l m)
+
+    named_well : AreWell → (e : Expression) (d : IsDescribed s l m e) → IsNamedWell m (js_import d.entry.1)
+    named_well well e d n i = by n i (well d.entry.0 d.entry.1 d.own d.first n i)
+      where
+        by : (n : JsImportName) → IsIn n (names_of (js_import d.entry.1))
+            → (is_global_name n ≡ false → (is_ident (drawn_name m n) ≡ true) × (is_wasm (drawn_name m n) ≡ false)) → IsWell m n
+        by (js.Global name) i h = d.ident name (in_flat (described_hosts false) (names_of (js_import d.entry.1)) (js.Global name) name i (inl refl))
+        by other i h = h refl
+
+    -- the texts of steps are spaced
+    are_fit : AreWell → (steps : List Step) → AreThere steps → list_all step_fit steps ≡ true
+    are_fit well [] h = refl
+    are_fit well (step ∷ steps) h =
+        let rest = are_fit well steps h.1 in
+        let fit = λ (e : Expression) (d : IsDescribed s l m e). expression_fit s m d.call d.spread d.bound d.entry.1 e (named_well well e d) d.is in
+        grind arith
+
+    -- where what each step names is there, a file with these names has those of the steps
+    module _ (declared : List (List ℕ)) (basis : HasBasis declared) where
+      described_text : (e : Expression) → IsDescribed s l m e → HasExpression (names_with declared) e
+      described_text e d = expression_has (names_with declared) s m d.call d.spread d.bound d.entry.1 e (record {
+        host = d.host;
+        drawn = basis.drawn d.entry.0 d.entry.1 d.own d.first;
+        keys = keys_described d.entry d.among;
+        used = fixed_hosts;
+        helpers = basis.helpers;
+        exports = basis.wasm;
+      }) d.is
+
+      has_names : (steps : List Step) → AreThere steps → HasNames (names_with declared) (outside_of steps)
+      has_names [] h = (tt, tt, tt, tt, refl)
+      has_names (step ∷ steps) h =
+          let k = has_names steps h.1 in
+          let wasm = basis.wasm in
+          let text = λ (e : Expression) (d : IsDescribed s l m e). has_expression_names (names_with declared) e (outside_of steps) (described_text e d) k in
+          grind (arith, in_left)
 
 -- ---- the item of a function, with words before and behind it
 
@@ -152,49 +182,132 @@ inner_words : (words : List Word) → list_all is_inner words ≡ true → list_
 inner_words [] h = refl
 inner_words (word ∷ words) h = let rest = inner_words words in grind arith
 
-function_binds : {l : Lowered} {id : ℕ} {names : List (List ℕ)} {f : _} (d : IsFunctionOf l id names f) (back : List Word) → bound_in (f.words ++ back) ≡ bound_in back
+function_binds : {s : Settings} {m : NameMap} {l : Lowered} {id : ℕ} {names : List (List ℕ)} {f : _} (d : IsFunctionOf s m l id names f) (back : List Word)
+    → bound_in (f.words ++ back) ≡ bound_in back
 function_binds {f = f} d back = filter_map-append bound_name f.words back
     ∙ rw (d.bound.words, bound_binds d.steps _ f d.bound [] [] (binds_none d.steps)) refl
 
-module _ (s : Settings) {l : Lowered} {id : ℕ} {names : List (List ℕ)} {f : _} (d : IsFunctionOf l id names f) where
-  there : HasSteps s l id → AllByRecursion (IsThere s l) d.steps
-  there h = rw d.told at h
+module _ {s : Settings} {m : NameMap} {l : Lowered} {id : ℕ} {names : List (List ℕ)} {f : _} (d : IsFunctionOf s m l id names f) (well : AreWell s l m)
+    (h : HasSteps s l id) where
+  there : AllByRecursion (IsThere s l m) d.steps
+  there = let given = h m in rw d.told at given
 
-  module _ (front back : List Word) (frame : IsFrame front back) (h : HasSteps s l id) where
+  module _ (front back : List Word) (frame : IsFrame front back) where
     -- no word of the function is `export`
     function_inner : list_any is_export_key f.words ≡ false
-    function_inner = inner_words f.words (rw d.bound.words (bound_inner d.steps _ f d.bound front back (are_fit s l d.steps (there h)) frame))
+    function_inner = inner_words f.words (rw d.bound.words (bound_inner d.steps _ f d.bound front back (are_fit s l m well d.steps there) frame))
 
     -- the item belongs into a file that has the names of what stands around the function
-    function_fits : (declared : List (List ℕ)) → IsIn (codes "wasm") declared → HasNames (names_with s l declared) front × HasNames (names_with s l declared) back
+    function_fits : (declared : List (List ℕ)) → HasBasis s l m declared → HasNames (names_with s l declared) front × HasNames (names_with s l declared) back
         × StandsBeside (f.params ++ d.bound.temps) front × StandsBeside (f.params ++ d.bound.temps) back → Belongs (names_with s l declared) (front ++ (f.words ++ back))
-    function_fits declared wasm (h', k, m, n) =
+    function_fits declared basis (h', k, m', n) =
         let c = names_with s l declared in
-        let i = has_names s l declared wasm d.steps (there h) in
-        let fit = are_fit s l d.steps (there h) in
+        let i = has_names s l m declared basis d.steps there in
+        let fit = are_fit s l m well d.steps there in
         rw d.bound.words (record {
           resolved = bound_resolved d.steps _ f d.bound front back c.hosts c.declared (search h') (search i) (search k);
-          local = bound_local d.steps _ f d.bound front back fit m n;
+          local = bound_local d.steps _ f d.bound front back fit m' n;
           exported = bound_exported d.steps _ f d.bound front back fit frame c.exports h'.2 i.2 k.2;
           described = bound_keyed d.steps _ f d.bound front back c.keys (search h') (search i) (search k);
           alone = bound_alone d.steps _ f d.bound front back fit frame;
         })
 
-module _ (s : Settings) (l : Lowered) where
-  module _ (e : AuxExport) (item : Item) (d : IsDeclareItem l e item) where
-    pub declare_binds : bound_in item.words ≡ e.name ∷ []
-    declare_binds = rw (d.is, function_binds d.of_adapter declaration_back) refl
+-- ---- exports
 
-    pub declare_publishes : published_by item ≡ (e.name ∷ [], thing.Adapter e.adapter) ∷ []
-    declare_publishes = rw (d.is, function_binds d.of_adapter declaration_back) refl
+-- a clause publishes a name that the file has
+clause_belongs : (c : Context) (name public : List ℕ) → is_ident name ≡ true → IsIn name c.declared → Belongs c (clause_words public (Refer name false))
+unfolding joins punct_text
+clause_belongs c name public ident at = belongs_by_facts c (clause_words public (Refer name false)) (record {
+  alone = refl;
+  idents = rw ident refl;
+  props = refl;
+  resolved = (at, tt);
+  known = tt;
+  local = tt;
+  apart = tt;
+  taken = tt;
+  described = tt;
+  formed = refl;
+  opened = tt;
+  gated = tt;
+})
 
-    pub declare_belongs : (declared : List (List ℕ)) → IsIn (codes "wasm") declared → IsBuiltExport s l e → HasSteps s l e.adapter
-        → Belongs (names_with s l declared) item.words
-    declare_belongs declared wasm b h = rw d.is (function_fits s d.of_adapter (declaration_front e.name) declaration_back
-        (record { right = (rw b.ident refl, refl); before = refl; behind = refl; after = refl; apart = refl; ends = refl }) h
-        declared wasm (search (rules, apart_none)))
+declaration_frame : (exported : Bool) (name : List ℕ) → is_ident name ≡ true → IsFrame (declaration_front exported name) declaration_back
+declaration_frame true name ident = record { right = (rw ident refl, refl); before = refl; behind = refl; after = refl; apart = refl; ends = refl }
+declaration_frame false name ident = record { right = (rw ident refl, refl); before = refl; behind = refl; after = refl; apart = refl; ends = refl }
 
-  module _ (pair : ImportId × ℕ) (item : Item) (d : IsDefineItem l pair item) where
+module _ (s : Settings) (m : NameMap) (l : Lowered) where
+  module _ (e : AuxExport) (group : List Item) (d : AreDeclareItems s m l e group) where
+    abbrev name : List ℕ
+    name = declared_name m e
+
+    -- the items where both names are one, and where they aren't
+    abbrev group_of : Bool → List Item
+    group_of exported =
+        declare_item exported e.adapter name d.function.words ∷ (if exported then [] else publish_item e.adapter name e.name ∷ [])
+
+    -- what holds of the declaration, and of the clause where there is one, holds of each
+    pub each_of : (P : Item → Type 0) → P (declare_item (bytes_eq name e.name) e.adapter name d.function.words)
+        → (bytes_eq name e.name ≡ false → P (publish_item e.adapter name e.name)) → AllItems P group
+    each_of P declares publishes = subst (AllItems P) (sym d.are) (by (bytes_eq name e.name) refl declares)
+      where
+        by : (exported : Bool) → bytes_eq name e.name ≡ exported → P (declare_item exported e.adapter name d.function.words) → AllItems P (group_of exported)
+        by true q h = (h, tt)
+        by false q h = (h, (publishes q, tt))
+
+    -- and where they give nothing, the group doesn't
+    pub group_none : {B : Type 0} (give : Item → List B) → give (declare_item (bytes_eq name e.name) e.adapter name d.function.words) ≡ []
+        → give (publish_item e.adapter name e.name) ≡ [] → flat_map give group ≡ []
+    group_none give declares publishes = none_given give group (each_of (λ item. give item ≡ []) declares (λ q. publishes))
+
+    -- where there is a clause, the group holds the declaration, which binds the name
+    pub declaration_stands : bytes_eq name e.name ≡ false → IsIn (declare_item false e.adapter name d.function.words) group
+    declaration_stands q = subst (IsIn (declare_item false e.adapter name d.function.words)) (sym d.are)
+        (subst (λ (b : Bool). IsIn (declare_item false e.adapter name d.function.words) (group_of b)) (sym q) (inl refl))
+
+    pub declaration_binds : IsIn name (bound_in (declare_item false e.adapter name d.function.words).words)
+    declaration_binds = inl refl
+
+    pub declare_binds : flat_map (λ (item : Item). bound_in item.words) group ≡ name ∷ []
+    declare_binds = ap (flat_map (λ (item : Item). bound_in item.words)) d.are ∙ by (bytes_eq name e.name)
+      where
+        by : (exported : Bool) → flat_map (λ (item : Item). bound_in item.words) (group_of exported) ≡ name ∷ []
+        by true = rw (function_binds d.of_adapter declaration_back) refl
+        by false = rw (function_binds d.of_adapter declaration_back) refl
+
+    module _ (well : AreWell s l m) (ident : is_ident name ≡ true) (h : HasSteps s l e.adapter) where
+      hidden : is_exported (declare_item false e.adapter name d.function.words) ≡ false
+      hidden =
+          list_any-append is_export_key d.function.words declaration_back
+          ∙ rw (function_inner d.of_adapter well h (declaration_front false name) declaration_back (declaration_frame false name ident)) refl
+
+      pub declare_publishes : flat_map published_by group ≡ (e.name ∷ [], thing.Adapter e.adapter) ∷ []
+      declare_publishes = ap (flat_map published_by) d.are ∙ by (bytes_eq name e.name) refl
+        where
+          by : (exported : Bool) → bytes_eq name e.name ≡ exported → flat_map published_by (group_of exported) ≡ (e.name ∷ [], thing.Adapter e.adapter) ∷ []
+          by true q =
+              let same = (bytes_eq-Decides name e.name).0 q in
+              rw (function_binds d.of_adapter declaration_back) (ap (λ (n : List ℕ). (n ∷ [], thing.Adapter e.adapter) ∷ []) same)
+          by false q = rw hidden refl
+
+      pub declare_belongs : (declared : List (List ℕ)) → HasBasis s l m declared → IsIn name declared
+          → AllItems (λ item. Belongs (names_with s l declared) item.words) group
+      declare_belongs declared basis at =
+          subst (AllItems (λ item. Belongs (names_with s l declared) item.words)) (sym d.are) (by (bytes_eq name e.name))
+        where
+          function : (exported : Bool) → Belongs (names_with s l declared) (declare_item exported e.adapter name d.function.words).words
+          function true = function_fits d.of_adapter well h (declaration_front true name) declaration_back (declaration_frame true name ident) declared basis
+              (search (rules, apart_none))
+          function false = function_fits d.of_adapter well h (declaration_front false name) declaration_back (declaration_frame false name ident) declared basis
+              (search (rules, apart_none))
+
+          by : (exported : Bool) → AllItems (λ item. Belongs (names_with s l declared) item.words) (group_of exported)
+          by true = (function true, tt)
+          by false = (function false, (clause_belongs (names_with s l declared) name e.name ident at, tt))
+
+  -- ---- imports
+
+  module _ (pair : ImportId × ℕ) (item : Item) (d : IsDefineItem s m l pair item) where
     pub define_binds : bound_in item.words ≡ []
     define_binds = rw (d.is, function_binds d.of_adapter definition_back) refl
 
@@ -203,13 +316,14 @@ module _ (s : Settings) (l : Lowered) where
     unfolding joins punct_text
     defines = record { right = (refl, refl); before = refl; behind = refl; after = refl; apart = refl; ends = refl }
 
-    pub define_belongs : (declared : List (List ℕ)) → IsIn (codes "wasm") declared → HasSteps s l pair.1 → Belongs (names_with s l declared) item.words
-    define_belongs declared wasm h =
-        rw d.is (function_fits s d.of_adapter (definition_front d.«import».name) definition_back defines h declared wasm (search (rules, apart_none)))
+    module _ (well : AreWell s l m) (h : HasSteps s l pair.1) where
+      pub define_belongs : (declared : List (List ℕ)) → HasBasis s l m declared → Belongs (names_with s l declared) item.words
+      define_belongs declared basis =
+          rw d.is (function_fits d.of_adapter well h (definition_front d.«import».name) definition_back defines declared basis (search (rules, apart_none)))
 
-    pub define_exported : HasSteps s l pair.1 → is_exported item ≡ false
-    define_exported h = rw (
-      d.is,
-      list_any-append is_export_key d.function.words definition_back,
-      function_inner s d.of_adapter (definition_front d.«import».name) definition_back defines h,
-    ) refl
+      pub define_exported : is_exported item ≡ false
+      define_exported = rw (
+        d.is,
+        list_any-append is_export_key d.function.words definition_back,
+        function_inner d.of_adapter well h (definition_front d.«import».name) definition_back defines,
+      ) refl

@@ -1,9 +1,12 @@
 mod Common
 mod Declared
 mod Edited
-mod Expressions
+mod ExpressionFits
+mod ExpressionNames
 pub mod Facts
 mod Fits
+mod ImportedFacts
+mod ImportedNames
 mod Lists
 pub mod Made
 mod Paths

@@ -1,8 +1,8 @@
 -- Lists: what tests say of their members, items with their counterparts, and the items of a description.
-use Rattle.glue_context.proofs.Common.{◌≡◌, ◌+◌, ◌-◌, ◌<◌, suc, true, codes, list_all, default_names, inl, inr, List, [], ◌∷◌, ◌++◌, Bool, refl, ap, arith, AllZip, Ordering, flat_map, flat_map-append, common_steps, ℕ, IsIn, Item, EachItem, AllItems, IsArranged, IsDeclareItem, IsDefineItem, IsGlue, all_items, front_items, length, Settings, ImportId, AuxExport, Lowered, frame_start, frame_end, loading_item, foreign_modules, foreign_lines, module_at, modules_from, Import, Option, export_order, subst, sym, ◌∙◌}
+use Rattle.glue_context.proofs.Common.{Bor, map, take, ◌≡◌, ◌+◌, ◌-◌, ◌<◌, suc, true, codes, list_all, default_names, inl, inr, List, [], ◌∷◌, ◌++◌, Bool, refl, ap, arith, AllZip, Ordering, flat_map, flat_map-append, common_steps, ℕ, IsIn, Item, EachItem, AllItems, IsArranged, AreDeclareItems, IsDefineItem, IsGlue, all_items, front_items, joined_groups, length, AreImportLines, NameMap, line_form, vendor_items, drawn_imports, Settings, ImportId, AuxExport, Lowered, frame_start, frame_end, loading_item, foreign_modules, foreign_lines, module_at, modules_from, Import, Imported, Option, in_left, in_right, export_order, subst, sym, ◌∙◌}
 use Rattle.std.specs.Fmt.{decimal}
-use Rattle.std.proofs.Common.{drop, get_or}
-use Rattle.std.proofs.lemmas.List.{map-append, at_drop_more}
+use Rattle.std.proofs.Common.{append_assoc, drop, get_or}
+use Rattle.std.proofs.lemmas.List.{map-append, at_drop_more, take_more}
 use Rattle.std.proofs.lemmas.List.Folds.{list_all-map}
 use Rattle.std.proofs.lemmas.List.Sums.{AllPass-from_list_all, list_all-from_AllPass}
 use Rattle.std.proofs.lemmas.Slice.Zip.{all_zipped_more}
@@ -13,11 +13,23 @@ use Rattle.glue_naming.specs.Pairs.{own_pairs, pair_order}
 use Rattle.glue_lines.specs.Lines.{foreign_line}
 use Rattle.glue_lines.specs.declared.form.LineForm.TheVariants.{Es}
 use Rattle.glue_context.specs.Edits.{has_start}
+use Rattle.glue_context.specs.Items.{AreGroups, front_groups}
 use Rattle.glue_context.specs.Parts.{helper_parts}
+use Rattle.glue_check.proofs.Globals.{in_flat}
 pub use Rattle.glue_naming.proofs.Arranged.{all_are, each_is, moved_from, arranged_from, distinct_moved, arranged_by_sort}
 
 -- for the loops that make items
 pub ruleset item_steps = (common_steps, map-append, all_zipped_more, list_all-map)
+
+-- one more export, and its items
+pub declared_next : (R : AuxExport → List Item → Type 0) (xs : List (Bor AuxExport)) (groups : List (List Item)) (i : ℕ) (x : Bor AuxExport) (group : List Item)
+    → i < length xs → x ≡ get_or xs i x → AllZip R (map (λ (e : Bor AuxExport). e.now) (take i xs)) groups → R x.now group
+    → AllZip R (map (λ (e : Bor AuxExport). e.now) (take (i + 1) xs)) (groups ++ group ∷ [])
+declared_next R xs groups i x group less is zipped one =
+    let now = λ (e : Bor AuxExport). e.now in
+    let grown : map now (take (i + 1) xs) ≡ map now (take i xs) ++ x.now ∷ [] =
+    ap (map now) (take_more xs i x less ∙ ap (λ y. take i xs ++ y ∷ []) (sym is)) ∙ map-append now (take i xs) (x ∷ []) in
+    subst (λ (ys : List AuxExport). AllZip R ys (groups ++ group ∷ [])) (sym grown) (all_zipped_more R (map now (take i xs)) groups x.now group zipped one)
 
 -- one more numbered name
 pub default_next : (count n : ℕ) → n < count → default_names (count - n) n ≡ (codes "arg" ++ decimal n) ∷ default_names (count - (n + 1)) (n + 1)
@@ -57,7 +69,7 @@ flat_none (x ∷ xs) = flat_none xs
 
 -- ---- facts of items
 
-all_joined : (P : Item → Type 0) (xs ys : List Item) → AllItems P xs → AllItems P ys → AllItems P (xs ++ ys)
+pub all_joined : (P : Item → Type 0) (xs ys : List Item) → AllItems P xs → AllItems P ys → AllItems P (xs ++ ys)
 all_joined P [] ys h k = k
 all_joined P (x ∷ xs) ys h k = (h.0, all_joined P xs ys h.1 k)
 
@@ -74,6 +86,12 @@ pub all_applied : (P Q : Item → Type 0) (xs : List Item) → AllItems (λ x. P
 all_applied P Q [] give h = tt
 all_applied P Q (x ∷ xs) give h = (give.0 h.0, all_applied P Q xs give.1 h.1)
 
+-- a fact that each has one of them has
+pub each_at : (P : Item → Type 0) (x : Item) (xs : List Item) → AllItems P xs → IsIn x xs → P x
+each_at P x [] h k = absurd k
+each_at P x (y ∷ ys) h (inl same) = subst P (sym same) h.0
+each_at P x (y ∷ ys) h (inr k) = each_at P x ys h.1 k
+
 -- items that give nothing each give nothing together
 pub none_given : {B : Type 0} (give : Item → List B) (xs : List Item) → AllItems (λ x. give x ≡ []) xs → flat_map give xs ≡ []
 none_given give [] h = refl
@@ -85,6 +103,15 @@ pub each_line : (P : Item → Type 0) (from : ℕ) (paths : List (List ℕ)) →
 each_line P from [] h = tt
 each_line P from (path ∷ paths) h = (h from path (omega arith), each_line P (from + 1) paths (λ n p less. h n p (omega (arith, less))))
 
+-- a fact that an item has where it stands, if it has it wherever it stands among all
+pub each_among : (Q : List Item → Item → List Item → Type 0) (all before items : List Item) → before ++ items ≡ all
+    → ((b : List Item) (x : Item) (a : List Item) → IsIn x items → b ++ x ∷ a ≡ all → Q b x a) → EachItem Q before items
+each_among Q all before [] whole give = tt
+each_among Q all before (item ∷ items) whole give = (
+  give before item items (inl refl) whole,
+  each_among Q all (before ++ item ∷ []) items (append_assoc before (item ∷ []) items ∙ whole) (λ b x a k e. give b x a (inr k) e),
+)
+
 -- a fact that an item has wherever it stands
 pub each_any : (Q : List Item → Item → List Item → Type 0) (before items : List Item) → AllItems (λ item. (b a : List Item) → Q b item a) items → EachItem Q before items
 each_any Q before [] h = tt
@@ -92,73 +119,130 @@ each_any Q before (item ∷ items) h = (h.0 before items, each_any Q (before ++ 
 
 -- what holds of no items, and with each item and its counterpart of one more
 matched : {A B : Type 0} (R : A → B → Type 0) (S : List A → List B → Type 0) (xs : List A) (ys : List B) → AllZip R xs ys → S [] []
-    → ((x : A) (y : B) (us : List A) (vs : List B) → IsIn x xs → R x y → S us vs → S (x ∷ us) (y ∷ vs)) → S xs ys
+    → ((x : A) (y : B) (us : List A) (vs : List B) → IsIn x xs → IsIn y ys → R x y → S us vs → S (x ∷ us) (y ∷ vs)) → S xs ys
 matched R S [] [] m none more = none
-matched R S (x ∷ xs) (y ∷ ys) m none more = more x y xs ys (inl refl) m.0 (matched R S xs ys m.1 none (λ u v us vs k. more u v us vs (inr k)))
+matched R S (x ∷ xs) (y ∷ ys) m none more =
+    more x y xs ys (inl refl) (inl refl) m.0 (matched R S xs ys m.1 none (λ u v us vs k i. more u v us vs (inr k) (inr i)))
 matched R S xs ys m none more = absurd m
 
 -- ---- the items of a description: a fact of each, and what they give together
 
+-- one more item behind those that are known
+put_behind : {A : Type 0} {before after : List A} (known : List A) (x : A) → after ≡ before ++ x ∷ [] → before ≡ known → after ≡ known ++ x ∷ []
+put_behind known x put is = put ∙ ap (λ xs. xs ++ x ∷ []) is
+
+-- seven groups, put one behind the other into an empty list
+pub seven_put : {g0 g1 g2 g3 g4 g5 g6 g7 : List (List Item)} (a b c d e f g : List Item) → g0 ≡ [] → g1 ≡ g0 ++ a ∷ [] → g2 ≡ g1 ++ b ∷ [] → g3 ≡ g2 ++ c ∷ []
+    → g4 ≡ g3 ++ d ∷ [] → g5 ≡ g4 ++ e ∷ [] → g6 ≡ g5 ++ f ∷ [] → g7 ≡ g6 ++ g ∷ [] → g7 ≡ a ∷ b ∷ c ∷ d ∷ e ∷ f ∷ g ∷ []
+seven_put a b c d e f g none p1 p2 p3 p4 p5 p6 p7 =
+    put_behind (a ∷ b ∷ c ∷ d ∷ e ∷ f ∷ []) g p7
+    (put_behind (a ∷ b ∷ c ∷ d ∷ e ∷ []) f p6
+    (put_behind (a ∷ b ∷ c ∷ d ∷ []) e p5
+    (put_behind (a ∷ b ∷ c ∷ []) d p4
+    (put_behind (a ∷ b ∷ []) c p3
+    (put_behind (a ∷ []) b p2
+    (put_behind [] a p1 none))))))
+
+-- these groups are those up to loading
+pub groups_made : (stem : List ℕ) (modules : List (List ℕ)) (called : List Imported) (groups : List (List Item))
+    (lines foreign constants declares started defines ended : List Item) (start end : Item)
+    → groups ≡ lines ∷ foreign ∷ constants ∷ declares ∷ started ∷ defines ∷ ended ∷ [] → foreign ≡ foreign_lines 1 modules → constants ≡ vendor_items called
+    → started ≡ start ∷ [] → start ≡ frame_start stem → ended ≡ end ∷ [] → end ≡ frame_end stem modules
+    → groups ≡ front_groups stem modules lines (vendor_items called) declares defines
+groups_made stem modules called groups lines foreign constants declares started defines ended start end put taken held opened begins closed ends =
+    put ∙ rw (taken, held, opened, begins, closed, ends) refl
+
 -- what is put together is what settings and description ask for
-pub glue_made : (s : Settings) (l : Lowered) (exports : List AuxExport) (pairs : List (ImportId × ℕ)) (declares defines lines front items group : List Item)
-    (modules : List (List ℕ)) (start end last : Item) (parts : HelperParts)
-    → IsArranged export_order l.aux.exports exports → IsArranged (pair_order l) (own_pairs s l) pairs → AllZip (IsDeclareItem l) exports declares
-    → AllZip (IsDefineItem l) pairs defines → length modules < 2 ^ 32 → AreAsked parts (front ++ last ∷ []) group → items ≡ front ++ (group ++ last ∷ [])
-    → front ≡ lines ++ (declares ++ (start ∷ (defines ++ end ∷ []))) → lines ≡ foreign_lines 1 modules → start ≡ frame_start s.stem → end ≡ frame_end s.stem modules
-    → last ≡ loading_item s.stem (has_start l.«module») → modules ≡ foreign_modules s l → parts ≡ helper_parts s → IsGlue s l items
-glue_made s l exports pairs declares defines lines front items group modules start end last parts by_name by_import declared defined few asked put joined lined started ended loads handed told =
-    let whole : front ≡ front_items s.stem modules declares defines = joined ∙ rw (lined, started, ended) refl in
-    let all = whole ∙ ap (λ (ms : List (List ℕ)). front_items s.stem ms declares defines) handed in
+pub glue_made : (s : Settings) (m : NameMap) (l : Lowered) (pairs : List (ImportId × ℕ)) (called : List Imported) (modules : List (List ℕ))
+    (groups : List (List Item)) (front items group : List Item) (last : Item) (parts : HelperParts)
+    → IsArranged (pair_order l) (own_pairs s l) pairs → called ≡ drawn_imports s l m pairs → modules ≡ foreign_modules s l
+    → AreGroups s m l pairs called modules groups → front ≡ joined_groups groups → AreAsked parts (front ++ last ∷ []) group
+    → items ≡ front ++ (group ++ last ∷ []) → last ≡ loading_item s.stem (has_start l.«module») → parts ≡ helper_parts s → IsGlue s m l items
+glue_made s m l pairs called modules groups front items group last parts by_import listed handed are joined asked put loads known =
+    let drawn = drawn_imports s l m pairs in
+    let others = foreign_modules s l in
+    let g : AreGroups s m l pairs drawn others groups =
+    subst (λ (ms : List (List ℕ)). AreGroups s m l pairs drawn ms groups) handed (subst (λ (is : List Imported). AreGroups s m l pairs is modules groups) listed are) in
+    let d = g.declared in
+    let consts = vendor_items drawn in
     let loading = loading_item s.stem (has_start l.«module») in
-    let first : front ++ last ∷ [] ≡ front_items s.stem (foreign_modules s l) declares defines ++ loading ∷ [] =
-    ap (λ (xs : List Item). xs ++ last ∷ []) all ∙ ap (λ (x : Item). front_items s.stem (foreign_modules s l) declares defines ++ x ∷ []) loads in
+    let rest = front_items s.stem others g.lines consts (joined_groups d.groups) g.defines in
+    let named : groups ≡ front_groups s.stem others g.lines consts (joined_groups d.groups) g.defines =
+    g.are ∙ ap (λ (ds : List Item). front_groups s.stem others g.lines consts ds g.defines) d.joined in
+    let all : front ≡ rest = joined ∙ ap joined_groups named in
+    let first : front ++ last ∷ [] ≡ rest ++ loading ∷ [] = ap (λ (xs : List Item). xs ++ last ∷ []) all ∙ ap (λ (x : Item). rest ++ x ∷ []) loads in
     record {
-      exports = exports;
-      by_name = by_name;
+      exports = d.exports;
+      by_name = d.by_name;
       pairs = pairs;
       by_import = by_import;
-      declares = declares;
-      defines = defines;
+      lines = g.lines;
+      imported = g.imported;
+      declares = d.groups;
+      defines = g.defines;
       helpers = group;
-      declared = declared;
-      defined = defined;
-      numbered = subst (λ (ms : List (List ℕ)). length ms < 2 ^ 32) handed few;
-      asked = subst (λ (p : HelperParts). AreAsked p (front_items s.stem (foreign_modules s l) declares defines ++ loading ∷ []) group) told
-          (subst (λ (xs : List Item). AreAsked parts xs group) first asked);
-      all = put ∙ ap (λ (xs : List Item). xs ++ (group ++ last ∷ [])) all
-          ∙ ap (λ (x : Item). front_items s.stem (foreign_modules s l) declares defines ++ (group ++ x ∷ [])) loads;
+      declared = d.declared;
+      defined = g.defined;
+      numbered = g.numbered;
+      asked = subst (λ (p : HelperParts). AreAsked p (rest ++ loading ∷ []) group) known (subst (λ (xs : List Item). AreAsked parts xs group) first asked);
+      all = put ∙ ap (λ (xs : List Item). xs ++ (group ++ last ∷ [])) all ∙ ap (λ (x : Item). rest ++ (group ++ x ∷ [])) loads;
     }
 
-module _ {s : Settings} {l : Lowered} {items : List Item} (g : IsGlue s l items) where
+module _ {s : Settings} {m : NameMap} {l : Lowered} {items : List Item} (g : IsGlue s m l items) where
   abbrev pub modules : List (List ℕ)
   modules = foreign_modules s l
 
+  abbrev pub imports : List Imported
+  imports = drawn_imports s l m g.pairs
+
+  abbrev pub constants : List Item
+  constants = vendor_items imports
+
+  abbrev pub declared_items : List Item
+  declared_items = joined_groups g.declares
+
   -- the items, with these helpers
   abbrev pub items_with : List Item → List Item
-  items_with helpers = all_items s.stem (has_start l.«module») modules g.declares g.defines helpers
+  items_with helpers = all_items s.stem (has_start l.«module») modules g.lines constants declared_items g.defines helpers
 
   abbrev pub front : List Item
-  front = front_items s.stem modules g.declares g.defines
+  front = front_items s.stem modules g.lines constants declared_items g.defines
 
   abbrev pub loading : Item
   loading = loading_item s.stem (has_start l.«module»)
 
+  -- what stands behind lines and constants
+  abbrev ends : List Item
+  ends = frame_end s.stem modules ∷ []
+
+  abbrev framed : List Item
+  framed = frame_start s.stem ∷ (g.defines ++ ends)
+
+  -- an item of a group stands among all
+  pub group_stands : (helpers group : List Item) (item : Item) → IsIn group g.declares → IsIn item group → IsIn item (items_with helpers)
+  group_stands helpers group item i k =
+      let here = in_flat (λ (group : List Item). group) g.declares group item i k in
+      in_left item front (helpers ++ loading ∷ [])
+      (in_right item g.lines (foreign_lines 1 modules ++ (constants ++ (declared_items ++ framed)))
+      (in_right item (foreign_lines 1 modules) (constants ++ (declared_items ++ framed))
+      (in_right item constants (declared_items ++ framed) (in_left item declared_items framed here))))
+
   -- each item has a fact that each kind of item has
-  pub each_item : (P : Item → Type 0) (helpers : List Item) → AllItems P (foreign_lines 1 modules)
-      → ((e : AuxExport) (item : Item) → IsIn e l.aux.exports → IsDeclareItem l e item → P item)
-      → ((pair : ImportId × ℕ) (item : Item) → IsIn pair (own_pairs s l) → IsDefineItem l pair item → P item)
+  pub each_item : (P : Item → Type 0) (helpers : List Item) → AllItems P g.lines → AllItems P (foreign_lines 1 modules) → AllItems P constants
+      → ((e : AuxExport) (group : List Item) → IsIn e l.aux.exports → IsIn group g.declares → AreDeclareItems s m l e group → AllItems P group)
+      → ((pair : ImportId × ℕ) (item : Item) → IsIn pair (own_pairs s l) → IsDefineItem s m l pair item → P item)
       → P (frame_start s.stem) → P (frame_end s.stem modules) → AllItems P helpers → P loading
       → AllItems P (items_with helpers)
-  each_item P helpers lines a b start end held loads =
-      let declares = matched (IsDeclareItem l) (λ es. AllItems P) g.exports g.declares g.declared tt
-      (λ e item es js k x h. (a e item (arranged_from g.by_name e k) x, h)) in
-      let defines = matched (IsDefineItem l) (λ ps. AllItems P) g.pairs g.defines g.defined tt
-      (λ pair item ps js k x h. (b pair item (arranged_from g.by_import pair k) x, h)) in
-      let ends : List Item = frame_end s.stem modules ∷ [] in
-      let framed : List Item = frame_start s.stem ∷ (g.defines ++ ends) in
+  each_item P helpers imported foreign consts a b start end held loads =
+      let declares = matched (AreDeclareItems s m l) (λ es groups. AllItems P (joined_groups groups)) g.exports g.declares g.declared tt
+      (λ e group es groups k i x h. all_joined P group (joined_groups groups) (a e group (arranged_from g.by_name e k) i x) h) in
+      let defines = matched (IsDefineItem s m l) (λ ps. AllItems P) g.pairs g.defines g.defined tt
+      (λ pair item ps js k i x h. (b pair item (arranged_from g.by_import pair k) x, h)) in
       all_joined P front (helpers ++ loading ∷ [])
-      (all_joined P (foreign_lines 1 modules) (g.declares ++ framed) lines
-      (all_joined P g.declares framed declares (start, all_joined P g.defines ends defines (end, tt))))
+      (all_joined P g.lines (foreign_lines 1 modules ++ (constants ++ (declared_items ++ framed))) imported
+      (all_joined P (foreign_lines 1 modules) (constants ++ (declared_items ++ framed)) foreign
+      (all_joined P constants (declared_items ++ framed) consts
+      (all_joined P declared_items framed declares (start, all_joined P g.defines ends defines (end, tt))))))
       (all_joined P helpers (loading ∷ []) held (loads, tt))
 
   -- what all items but helpers have, and helpers have too, all have
@@ -166,23 +250,24 @@ module _ {s : Settings} {l : Lowered} {items : List Item} (g : IsGlue s l items)
   with_held P helpers h held =
       let parts = all_parts P front (loading ∷ []) h in all_joined P front (helpers ++ loading ∷ []) parts.0 (all_joined P helpers (loading ∷ []) held parts.1)
 
-  -- what the items give is what lines, exports, imports, helpers and the fixed items do
+  -- what the items give is what lines, constants, exports, imports, helpers and the fixed items do
   pub given : {B : Type 0} (give : Item → List B) (f : AuxExport → List B) (h : ImportId × ℕ → List B) (helpers : List Item)
-      → ((e : AuxExport) (item : Item) → IsDeclareItem l e item → give item ≡ f e)
-      → ((pair : ImportId × ℕ) (item : Item) → IsIn pair (own_pairs s l) → IsDefineItem l pair item → give item ≡ h pair)
-      → flat_map give (items_with helpers) ≡ (flat_map give (foreign_lines 1 modules) ++ (flat_map f g.exports ++
-      (give (frame_start s.stem) ++ (flat_map h g.pairs ++ (give (frame_end s.stem modules) ++ []))))) ++ (flat_map give helpers ++ (give loading ++ []))
+      → ((e : AuxExport) (group : List Item) → IsIn e l.aux.exports → AreDeclareItems s m l e group → flat_map give group ≡ f e)
+      → ((pair : ImportId × ℕ) (item : Item) → IsIn pair (own_pairs s l) → IsDefineItem s m l pair item → give item ≡ h pair)
+      → flat_map give (items_with helpers) ≡ (flat_map give g.lines ++ (flat_map give (foreign_lines 1 modules) ++ (flat_map give constants ++
+      (flat_map f g.exports ++ (give (frame_start s.stem) ++ (flat_map h g.pairs ++ (give (frame_end s.stem modules) ++ []))))))) ++
+      (flat_map give helpers ++ (give loading ++ []))
   given give f h helpers a b =
-      let declares = matched (IsDeclareItem l) (λ es js. flat_map give js ≡ flat_map f es) g.exports g.declares g.declared refl
-      (λ e item es js k x q. rw (a e item x, q) refl) in
-      let defines = matched (IsDefineItem l) (λ ps js. flat_map give js ≡ flat_map h ps) g.pairs g.defines g.defined refl
-      (λ pair item ps js k x q. rw (b pair item (arranged_from g.by_import pair k) x, q) refl) in
-      let ends : List Item = frame_end s.stem modules ∷ [] in
-      let framed : List Item = frame_start s.stem ∷ (g.defines ++ ends) in
+      let declares = matched (AreDeclareItems s m l) (λ es groups. flat_map give (joined_groups groups) ≡ flat_map f es) g.exports g.declares g.declared refl
+      (λ e group es groups k i x q. flat_map-append give group (joined_groups groups) ∙ rw (a e group (arranged_from g.by_name e k) x, q) refl) in
+      let defines = matched (IsDefineItem s m l) (λ ps js. flat_map give js ≡ flat_map h ps) g.pairs g.defines g.defined refl
+      (λ pair item ps js k i x q. rw (b pair item (arranged_from g.by_import pair k) x, q) refl) in
       rw (
         flat_map-append give front (helpers ++ loading ∷ []),
-        flat_map-append give (foreign_lines 1 modules) (g.declares ++ framed),
-        flat_map-append give g.declares framed,
+        flat_map-append give g.lines (foreign_lines 1 modules ++ (constants ++ (declared_items ++ framed))),
+        flat_map-append give (foreign_lines 1 modules) (constants ++ (declared_items ++ framed)),
+        flat_map-append give constants (declared_items ++ framed),
+        flat_map-append give declared_items framed,
         declares,
         flat_map-append give g.defines ends,
         defines,

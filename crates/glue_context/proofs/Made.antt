@@ -1,39 +1,58 @@
 -- What is made of a description that is checked: linked, defined and published.
-use Rattle.glue_context.proofs.Common.{◌≡◌, ℕ, ◌+◌, ◌<◌, ◌==◌, inl, inr, List, [], ◌∷◌, ◌++◌, map, length, Bool, true, false, None, refl, sym, ap, ◌∙◌, subst, arith, append-nil, codes, flat_map, flat_map_single, flat_map-append, bytes_eq, bytes_eq-Decides, list_any, IsPermutation-map, IsPermutation-sym, IsIn, IsAway, AreDistinct, AreAmong, AreApart, ImportId, Item, AuxImport, HOSTS, bound_in, bound_names, used_in, is_export_key, AllItems, Belongs, Context, AuxExport, Settings, Deno, Lowered, host_names, fixed_names, fixed_public, live_count, own_imports, is_one_of, list_all, described_hosts, names_of, js_import, foreign_lines, foreign_modules, IsGlue, rewritten, IsLinked, IsDefined, defined_by, defined_places, IsPublished, published_pairs, published_by, fixed_published, fixed_by, EachItem, IsExported, IsPrescribed, export_names, FileFlags, unbuilt, verdict, IsBuiltExport}
+use Rattle.glue_context.proofs.Common.{◌≡◌, ℕ, ◌+◌, ◌<◌, ◌==◌, inl, inr, List, [], ◌∷◌, ◌++◌, map, length, Bool, true, false, true≢false, None, Some, refl, sym, ap, ◌∙◌, subst, arith, append-nil, codes, flat_map, flat_map_single, bytes_eq, bytes_eq-Decides, list_any, list_all, IsPermutation-map, IsPermutation-sym, IsIn, IsAway, AreDistinct, AreAmong, AreApart, ImportId, Item, AuxImport, HOSTS, bound_in, bound_names, used_in, is_export_key, AllItems, Belongs, Context, AuxExport, Settings, NameMap, AreNames, Deno, Lowered, host_names, fixed_names, fixed_public, live_count, own_imports, is_one_of, described_hosts, names_of, js_import, declared_name, is_named, foreign_lines, foreign_modules, line_form, IsGlue, rewritten, IsLinked, IsDefined, defined_by, defined_places, IsPublished, published_pairs, published_by, fixed_published, fixed_by, EachItem, IsExported, IsPrescribed, export_names, FileFlags, unbuilt, verdict, IsBuiltExport}
+use Rattle.std.proofs.Common.{◌⊎◌}
 use Rattle.std.specs.Prelude.{◌≤◌, ◌^◌}
-use Rattle.std.proofs.lemmas.{List.Elements.All-map, Bool.Decides.Decides-eqb, List.Folds.flat_map-map}
-use Rattle.values.proofs.Members.{in_either}
+use Rattle.std.proofs.lemmas.{List.Elements.All-map, Bool.Decides.Decides-eqb, List.Folds.flat_map-map, List.Sums.AllPass-from_list_all, List.Sums.list_all-from_AllPass}
+use Rattle.values.proofs.Members.{in_left, in_right, in_either}
 use Rattle.glue_targets.specs.PublicTree.{PublicPair, public_tree, function_pair}
-use Rattle.glue_targets.specs.Published.{fixed_of}
+use Rattle.glue_targets.specs.Published.{IsNamed, fixed_of}
 use Rattle.glue_targets.specs.Targets.{FixedText, frame_end, frame_start, frame_texts, module_name, own_path}
 use Rattle.glue_shared.specs.declared.settings.Target.{Target}
+use Rattle.glue_shared.specs.declared.import.JsImportName.{JsImportName}
+use Rattle.glue_shared.specs.Names.{described_names, entry_of, has_number}
 use Rattle.glue_words.specs.declared.word.Word.{Word}
 use Rattle.glue_words.specs.declared.item.Role.TheVariants as role
 use Rattle.glue_words.specs.declared.item.Thing.TheVariants.{Adapter}
-use Rattle.glue_words.proofs.{Among.among_both, Among.among_by, Among.among_in, Among.among_itself, Among.among_left, Among.among_right, Among.among_trans, Among.apart_by, Among.apart_joined, Among.apart_swap, Fitting.linked_by_words, Fitting.belongs_by_facts, Fitting.declared_are}
+use Rattle.glue_words.specs.Ident.{is_ident}
+use Rattle.glue_words.specs.Spacing.{is_wasm}
+use Rattle.glue_words.proofs.{Among.among_both, Among.among_by, Among.among_in, Among.among_itself, Among.among_left, Among.among_right, Among.among_trans, Among.apart_among, Among.apart_by, Among.apart_in, Among.apart_joined, Among.apart_swap, Fitting.linked_by_words, Fitting.belongs_by_facts, Fitting.declared_are}
+use Rattle.glue_lines.specs.Grouped.{Imported}
 use Rattle.glue_lines.specs.Lines.{foreign_line}
+use Rattle.glue_lines.specs.declared.form.LineForm.{LineForm}
 use Rattle.glue_lines.specs.declared.form.LineForm.TheVariants.{Es}
 use Rattle.glue_lines.proofs.LineFacts.{foreign_belongs, foreign_holds}
 use Rattle.helper_table.specs.declared.parts.HelperParts.{HelperParts}
 use Rattle.helper_table.specs.Closed.{IsBare, asked_helpers}
 use Rattle.helper_table.specs.Names.{single_names}
 use Rattle.helper_table.proofs.Held.{held_item, free_names, helper_hosts, each_held, held_belong, held_distinct, held_inner, held_listed, asked_declared}
+use Rattle.glue_imports.specs.Roots.{drawn_name, or_empty}
 use Rattle.glue_targets.proofs.FixedTexts as fixed
 use Rattle.glue_targets.proofs.FrameEnd.{module_names, own_name, end_bound, end_fixed, end_fits}
+use Rattle.glue_check.specs.Handed.{own_callees}
+use Rattle.glue_check.specs.Taken.{brought}
 use Rattle.glue_check.proofs.ExportNames.{names_of as public_names}
-use Rattle.glue_check.proofs.Globals.{NamesAway, away_too, global_named}
+use Rattle.glue_check.proofs.Globals.{described_host, from_flat, in_flat}
+use Rattle.glue_check.proofs.OwnPairs.{pair_kept}
 use Rattle.glue_context.specs.Edits.{has_start}
 use Rattle.glue_context.specs.Keys.{described_keys}
 use Rattle.glue_context.specs.Foreign.{path_of}
-use Rattle.glue_naming.specs.Pairs.{own_pairs}
+use Rattle.glue_context.specs.ExportedItems.{declare_item}
+use Rattle.glue_naming.specs.Listed.{is_global_name, names_drawn}
+use Rattle.glue_naming.specs.Naming.{import_name}
+use Rattle.glue_naming.specs.Pairs.{is_among, own_pairs}
+use Rattle.glue_naming.specs.declared.named.Named.TheVariants as things
+use Rattle.glue_naming.proofs.CalledNames as called
+use Rattle.glue_naming.proofs.Functions as functions
+use Rattle.glue_naming.proofs.OnceNames.{in_map}
 use Rattle.glue_context.specs.Parts.{helper_parts}
-use Rattle.glue_context.proofs.{Declared.all_apart, Declared.all_distinct, Declared.all_found, Declared.all_names, Declared.first_among, Declared.first_names, Declared.frame_bound, Declared.frame_first, Declared.held_among, Declared.lines_first, Declared.loading_bound, Declared.loading_first, Declared.modules_few, Declared.modules_idents, Declared.own_fixed, Declared.own_names, Declared.own_no_hosts}
-use Rattle.glue_context.proofs.{Facts.Facts, Facts.places_of, Facts.built, Facts.own_pair, Fits.names_with, Fits.declare_belongs, Fits.declare_binds, Fits.declare_publishes, Fits.define_belongs, Fits.define_binds, Fits.define_exported, Lists.arranged_from, Lists.moved_from, Lists.distinct_moved, Lists.all_are, Lists.each_is, Lists.flat_none, Lists.all_applied, Lists.all_kept, Lists.each_any, Lists.each_item, Lists.each_line, Lists.given, Lists.items_with, Lists.none_given, Lists.with_held, Edited.moved_keeps, Edited.rewritten_exports, Paths.written_count}
+use Rattle.glue_context.proofs.{Declared.AreDrawn, Declared.all_apart, Declared.all_distinct, Declared.all_found, Declared.all_names, Declared.constants_first, Declared.first_among, Declared.first_names, Declared.frame_bound, Declared.frame_first, Declared.held_among, Declared.imports_first, Declared.lines_first, Declared.loading_bound, Declared.loading_first, Declared.modules_few, Declared.modules_idents, Declared.names_first, Declared.own_fixed, Declared.own_names, Declared.own_no_hosts}
+use Rattle.glue_context.proofs.ImportedFacts as imported
+use Rattle.glue_context.proofs.{Facts.Facts, Facts.places_of, Facts.built, Facts.own_pair, Fits.names_with, Fits.AreWell, Fits.HasBasis, Fits.declare_belongs, Fits.declare_binds, Fits.declare_publishes, Fits.declaration_binds, Fits.declaration_stands, Fits.each_of, Fits.group_none, Fits.define_belongs, Fits.define_binds, Fits.define_exported, Lists.arranged_from, Lists.moved_from, Lists.distinct_moved, Lists.all_are, Lists.each_is, Lists.flat_none, Lists.all_applied, Lists.all_kept, Lists.constants, Lists.each_among, Lists.each_any, Lists.each_at, Lists.each_item, Lists.each_line, Lists.given, Lists.group_stands, Lists.imports, Lists.items_with, Lists.none_given, Lists.with_held, Edited.moved_keeps, Edited.rewritten_exports, Paths.written_count}
 
 -- the three facts of items that a built description asks for
-pub record IsSound (s : Settings) (l : Lowered) (items : List Item) : Type 0 where
+pub record IsSound (s : Settings) (m : NameMap) (l : Lowered) (items : List Item) : Type 0 where
   pub linked : IsLinked s (host_names s l.aux) (described_keys l.aux) (foreign_modules s l) (rewritten s l) items (has_start l.«module»)
-  pub defined : IsDefined s l (rewritten s l) items
+  pub defined : IsDefined s m l (rewritten s l) items
   pub published : IsPublished s l.aux (fixed_public s l.«module» l.wit l.aux) items
 
 -- the pair of an export
@@ -52,19 +71,6 @@ pairs_distinct (e ∷ es) h = (λ k. h.0 (pair_named e es k), pairs_distinct es 
 -- loading uses what is declared there
 loading_within : (starts : Bool) → AreAmong (fixed.loading_uses starts) (frame_bound ++ loading_bound)
 loading_within starts = grind arith
-
--- what described globals bring is away from names that they are away from
-described_apart : (ys : List (List ℕ)) (entries : List (ℕ × AuxImport)) → ((e : ℕ × AuxImport) → IsIn e entries → NamesAway ys e.1)
-    → AreApart (flat_map (described_hosts false) (flat_map (λ (e : ℕ × AuxImport). names_of (js_import e.1)) entries)) ys
-described_apart ys [] h = tt
-described_apart ys (e ∷ entries) h =
-    let rest = described_apart ys entries (λ x k. h x (inr k)) in
-    let names = names_of (js_import e.1) in
-    let others = flat_map (λ (e : ℕ × AuxImport). names_of (js_import e.1)) entries in
-    elim (h e (inl refl)) [
-      | inl none ↦ rw (flat_map-append (described_hosts false) names others, none) rest
-      | inr g ↦ rw (global_named e.1 g.0 g.1) (g.2, rest)
-    ]
 
 -- what foreign lines declare, and that they publish nothing
 lines_bound : (from : ℕ) (paths : List (List ℕ)) → flat_map (λ (item : Item). bound_in item.words) (foreign_lines from paths) ≡ module_names from paths
@@ -94,7 +100,7 @@ belongs_among c declared words h used = record {
   alone = h.alone;
 }
 
-module _ (s : Settings) (l : Lowered) (items : List Item) (b : Facts s l) (g : IsGlue s l items) where
+module _ (s : Settings) (m : NameMap) (l : Lowered) (items : List Item) (b : Facts s l) (n : AreNames s l m) (g : IsGlue s m l items) where
   abbrev all : List Item
   all = items_with g g.helpers
 
@@ -103,6 +109,9 @@ module _ (s : Settings) (l : Lowered) (items : List Item) (b : Facts s l) (g : I
 
   abbrev starts : Bool
   starts = has_start l.«module»
+
+  abbrev form : LineForm
+  form = line_form s.target
 
   -- ---- helpers
 
@@ -124,10 +133,70 @@ module _ (s : Settings) (l : Lowered) (items : List Item) (b : Facts s l) (g : I
       all_applied (λ item. list_any is_export_key item.words ≡ false) (λ item. fixed_by item ≡ []) g.helpers
       (held_so _ (λ entry h. ap (λ (b : Bool). fixed_of (role.Helper entry.0) b entry.1) h)) (held_inner parts bare needed g.helpers g.asked)
 
+  -- ---- items that bind names of the outside
+
+  lines_so : (P : Item → Type 0) → ((item : Item) → imported.IsImportItem item → P item) → AllItems P g.lines
+  lines_so P give = all_kept imported.IsImportItem P g.lines (λ item k h. give item h) (imported.lines_each form (imports g) g.lines g.imported)
+
+  constants_so : (P : Item → Type 0) → ((item : Item) → imported.IsImportItem item → P item) → AllItems P (constants g)
+  constants_so P give = all_kept imported.IsImportItem P (constants g) (λ item k h. give item h) (imported.constants_each form (imports g) g.lines g.imported)
+
+  -- they give nothing together where each import gives nothing
+  lines_none : {B : Type 0} (give : Item → List B) → ((item : Item) → imported.IsImportItem item → give item ≡ []) → flat_map give g.lines ≡ []
+  lines_none give none = none_given give g.lines (lines_so (λ item. give item ≡ []) none)
+
+  constants_none : {B : Type 0} (give : Item → List B) → ((item : Item) → imported.IsImportItem item → give item ≡ []) → flat_map give (constants g) ≡ []
+  constants_none give none = none_given give (constants g) (constants_so (λ item. give item ≡ []) none)
+
+  -- ---- pairs of own imports, and what they call
+
+  sub : (pair : ImportId × ℕ) → IsIn pair g.pairs → IsIn pair l.wit.implements
+  sub pair k = (own_pair s l pair (arranged_from g.by_import pair k)).0
+
+  has : (pair : ImportId × ℕ) → IsIn pair l.wit.implements → has_number pair.0.0 (own_imports s l.«module» l.wit l.aux) ≡ true → IsIn pair g.pairs
+  has pair at mine =
+      let own = own_imports s l.«module» l.wit l.aux in
+      moved_from g.pairs (own_pairs s l) (IsPermutation-sym _ _ g.by_import.same) pair (pair_kept (is_among own) l.wit.implements pair at mine)
+
+  abbrev drawn : List (List ℕ)
+  drawn = names_drawn (imports g)
+
+  drawn_idents : list_all is_ident drawn ≡ true
+  drawn_idents = called.listed_idents s l m n g.pairs sub has
+
+  drawn_distinct : AreDistinct drawn
+  drawn_distinct = called.listed_distinct s l m n g.pairs sub has
+
+  no_global : (import : Imported) → IsIn import (imports g) → is_global_name import.0 ≡ false
+  no_global import i = called.named_no_global s l m n import.0 import.1 (called.listed_named s l m n g.pairs sub has import i).1
+
+  -- what an own import's adapter calls that is no global has a drawn name
+  record IsDrawn (name : JsImportName) : Type 0 where
+    text : List ℕ
+    found : import_name m name ≡ Some text
+    listed : IsIn text drawn
+
+  entry_drawn : (id : ℕ) (w : AuxImport) → has_number id (own_callees s l) ≡ true → entry_of id l.aux.imports ≡ Some w
+      → (name : JsImportName) → IsIn name (names_of (js_import w)) → is_global_name name ≡ false → IsDrawn name
+  entry_drawn id w own is name i other =
+      let there = called.entry_called s l m n g.pairs sub has id w own is name i in
+      let d = called.called_named s l m n g.pairs sub has name there other in
+      let listed = called.named_listed s l m n g.pairs sub has name d.0 there d.1 in
+      record { text = d.0; found = d.1; listed = in_map (λ (x : Imported). x.1) (name, d.0) (imports g) listed }
+
+  drawn_is : (name : JsImportName) (d : IsDrawn name) → d.text ≡ drawn_name m name
+  drawn_is name d = sym (ap or_empty d.found)
+
   -- ---- names
 
   abbrev names : List (List ℕ)
-  names = public_names g.exports
+  names = map (declared_name m) g.exports
+
+  abbrev imported_names : List (List ℕ)
+  imported_names = bound_names g.lines
+
+  abbrev constant_names : List (List ℕ)
+  constant_names = bound_names (constants g)
 
   abbrev held : List (List ℕ)
   held = flat_map (λ (item : Item). bound_in item.words) g.helpers
@@ -141,36 +210,82 @@ module _ (s : Settings) (l : Lowered) (items : List Item) (b : Facts s l) (g : I
 
   -- what the file declares, and what its first items may use
   abbrev declared : List (List ℕ)
-  declared = all_names s l.«module» paths held few g.numbered listed names
+  declared = all_names s l.«module» paths held few g.numbered listed imported_names constant_names names
 
   abbrev first : List (List ℕ)
-  first = first_names s l.«module» paths held few g.numbered listed names
+  first = first_names s l.«module» paths held few g.numbered listed imported_names constant_names names
 
   abbrev own : List (List ℕ)
   own = own_names s l.«module» paths held few g.numbered listed
 
-  public_distinct : AreDistinct names
-  public_distinct = distinct_moved bytes_eq bytes_eq-Decides (public_names l.aux.exports) names
+  own_all_fixed : AreAmong own (fixed_names s l.«module»)
+  own_all_fixed = own_fixed s l.«module» paths held few g.numbered listed
+
+  -- what is apart from fixed names is apart from the file's own
+  no_own : (xs : List (List ℕ)) → AreApart xs (fixed_names s l.«module») → AreApart xs own
+  no_own xs h =
+      apart_swap own xs (apart_among own (fixed_names s l.«module») xs own_all_fixed (apart_swap xs (fixed_names s l.«module») h))
+
+  public_distinct : AreDistinct (public_names g.exports)
+  public_distinct = distinct_moved bytes_eq bytes_eq-Decides (public_names l.aux.exports) (public_names g.exports)
       (IsPermutation-map (λ (e : AuxExport). e.name) l.aux.exports g.exports g.by_name.same) b.names
 
-  -- a name that is no fixed one isn't declared by the file itself
-  no_own : (name : List ℕ) → IsAway name (fixed_names s l.«module») → IsAway name own
-  no_own name away k = away (among_in name own (fixed_names s l.«module») (own_fixed s l.«module» paths held few g.numbered listed) k)
+  is_built : (e : AuxExport) → IsIn e g.exports → IsIn e l.aux.exports × IsBuiltExport e
+  is_built e k = let at = arranged_from g.by_name e k in (at, b.exports e at)
 
-  public : (ys : List (List ℕ)) → ((e : AuxExport) → IsBuiltExport s l e → IsAway e.name ys) → AreApart names ys
-  public ys away = apart_by names ys (each_is (λ y. IsAway y ys) names (All-map (λ y. IsAway y ys) (λ (e : AuxExport). e.name) g.exports
-      (all_are (λ (e : AuxExport). IsAway e.name ys) g.exports (λ e k. away e (b.exports e (arranged_from g.by_name e k))))))
+  all_named : list_all (is_named m) g.exports ≡ true
+  all_named = functions.all_named s l m n g.exports is_built
+
+  each_named : (e : AuxExport) → IsIn e g.exports → is_named m e ≡ true
+  each_named e k = each_is (λ (e : AuxExport). is_named m e ≡ true) g.exports (AllPass-from_list_all (is_named m) g.exports all_named) e k
+
+  lines_drawn : AreAmong imported_names drawn
+  lines_drawn = imported.lines_declare form (imports g) g.lines g.imported
+
+  constants_drawn : AreAmong constant_names drawn
+  constants_drawn = imported.constants_declare form (imports g) g.lines g.imported
+
+  -- what all drawn names of imports are apart from
+  lines_apart : (ys : List (List ℕ)) → AreApart drawn ys → AreApart imported_names ys
+  lines_apart ys h = apart_among imported_names drawn ys lines_drawn h
+
+  constants_apart : (ys : List (List ℕ)) → AreApart drawn ys → AreApart constant_names ys
+  constants_apart ys h = apart_among constant_names drawn ys constants_drawn h
+
+  are_drawn : AreDrawn s l.«module» paths held few g.numbered listed imported_names constant_names names
+  are_drawn =
+      let functions_apart = called.listed_no_function s l m n g.pairs sub has g.exports all_named in
+      let fixed_apart = called.listed_no_fixed s l m n g.pairs sub has in record {
+        imports_once = imported.lines_distinct form (imports g) g.lines g.imported drawn_distinct;
+        constants_once = imported.constants_distinct form (imports g) g.lines g.imported drawn_distinct;
+        names_once = functions.functions_distinct s l m n g.exports public_distinct (λ e k. ((is_built e k).1, each_named e k));
+        imports_constants = imported.lines_constants form (imports g) g.lines g.imported drawn_distinct;
+        imports_names = lines_apart names functions_apart;
+        constants_names = constants_apart names functions_apart;
+        imports_own = no_own imported_names (lines_apart (fixed_names s l.«module») fixed_apart);
+        constants_own = no_own constant_names (constants_apart (fixed_names s l.«module») fixed_apart);
+        names_own = no_own names (functions.functions_no_fixed s l m n g.exports all_named);
+      }
 
   hosts_are : host_names s l.aux
       ≡ map (λ w. w.now) HOSTS ++ flat_map (described_hosts false) (flat_map (λ (e : ℕ × AuxImport). names_of (js_import e.1)) l.aux.imports)
   unfolding host_names
   hosts_are = rw (b.deno, b.kept, b.reexports) (simp append-nil)
 
+  -- what described names bring is away from the file's own names
+  described_apart : AreApart (flat_map (described_hosts false) (flat_map (λ (e : ℕ × AuxImport). names_of (js_import e.1)) l.aux.imports)) own
+  described_apart =
+      let described = flat_map (λ (e : ℕ × AuxImport). names_of (js_import e.1)) l.aux.imports in
+      apart_by (flat_map (described_hosts false) described) own (λ name i k.
+      let r = from_flat (described_hosts false) described name i in
+      let e = from_flat (λ (e : ℕ × AuxImport). names_of (js_import e.1)) l.aux.imports r.0 r.1 in
+      b.apart e.0 e.1 name (in_flat (described_hosts false) (names_of (js_import (e.0).1)) r.0 name e.2 r.2)
+      (among_in name own (fixed_names s l.«module») own_all_fixed k))
+
   -- the file's own names are none of the host
   outside : AreApart own (host_names s l.aux)
   outside =
-      let globals = described_apart own l.aux.imports (λ e k. away_too (fixed_names s l.«module») own e.1 (b.globals e k) no_own) in
-      rw hosts_are (apart_joined own (map (λ w. w.now) HOSTS) _ (own_no_hosts s l.«module» paths held few g.numbered listed) (apart_swap _ own globals))
+      rw hosts_are (apart_joined own (map (λ w. w.now) HOSTS) _ (own_no_hosts s l.«module» paths held few g.numbered listed) (apart_swap _ own described_apart))
 
   -- a name of the host that each file has
   known : (ys : List (List ℕ)) → list_all (is_one_of (map (λ w. w.now) HOSTS)) ys ≡ true → AreAmong ys (host_names s l.aux)
@@ -178,26 +293,109 @@ module _ (s : Settings) (l : Lowered) (items : List Item) (b : Facts s l) (g : I
 
   bound : bound_names all ≡ declared
   bound = declared_are all
-      ∙ given g (λ item. bound_in item.words) (λ e. e.name ∷ []) (λ pair. []) g.helpers (declare_binds s l) (λ pair item k. define_binds s l pair item)
-      ∙ simp (flat_map_single, flat_none, lines_bound, fixed.start_bound, end_bound, fixed.loading_bound, append-nil)
+      ∙ given g (λ item. bound_in item.words) (λ e. declared_name m e ∷ []) (λ pair. []) g.helpers (λ e group k d. declare_binds s m l e group d)
+      (λ pair item k d. define_binds s m l pair item d)
+      ∙ rw (sym (declared_are g.lines), sym (declared_are (constants g)))
+      (simp (flat_map_single, flat_none, lines_bound, fixed.start_bound, end_bound, fixed.loading_bound, append-nil))
+
+  -- ---- what functions use
+
+  -- no drawn name is `wasm`, which the file declares itself
+  no_wasm : (name : List ℕ) → IsIn name drawn → is_wasm name ≡ false
+  no_wasm name at = by (is_wasm name) refl
+    where
+      there : IsIn (codes "wasm") own
+      there = in_right (codes "wasm") (module_names 1 paths) (frame_bound ++ (held ++ loading_bound))
+          (in_right (codes "wasm") frame_bound (held ++ loading_bound) (in_right (codes "wasm") held loading_bound (inr (inr (inr (inl refl))))))
+
+      apart : AreApart own drawn
+      apart = apart_swap drawn own (no_own drawn (called.listed_no_fixed s l m n g.pairs sub has))
+
+      by : (b : Bool) → is_wasm name ≡ b → b ≡ false
+      by false q = refl
+      by true q =
+          let same = (bytes_eq-Decides (codes "wasm") name).0 q in
+          absurd (apart_in (codes "wasm") own drawn apart there (subst (λ (x : List ℕ). IsIn x drawn) (sym same) at))
+
+  well : AreWell s l m
+  well id w mine is name i other =
+      let d = entry_drawn id w mine is name i other in
+      subst (λ (text : List ℕ). (is_ident text ≡ true) × (is_wasm text ≡ false)) (drawn_is name d)
+      (n.good.idents (things.Import name) d.text d.found, no_wasm d.text d.listed)
+
+  -- what stands among the first names, or is a helper's that needs nothing of the module
+  there : (ys : List (List ℕ)) → AreAmong ys first → AreAmong ys (first ++ free_names)
+  there ys h = among_left ys first free_names h
+
+  drawn_first : (name : List ℕ) → IsIn name drawn → IsIn name (first ++ free_names)
+  drawn_first name at = elim (imported.one_declares form (imports g) g.lines g.imported no_global name at) [
+    | inl here ↦ among_in name imported_names (first ++ free_names)
+        (there imported_names (imports_first s l.«module» paths held few g.numbered listed imported_names constant_names names)) here
+    | inr here ↦ among_in name constant_names (first ++ free_names)
+        (there constant_names (constants_first s l.«module» paths held few g.numbered listed imported_names constant_names names)) here
+  ]
+
+  loaded : AreAmong loading_bound first
+  loaded = loading_first s l.«module» paths held few g.numbered listed imported_names constant_names names
+
+  basis : HasBasis s l m (first ++ free_names)
+  basis = record {
+    wasm = (there loading_bound loaded).1.1.1.0;
+    helpers = among_right free_names first free_names (among_itself free_names);
+    drawn = λ id w mine is name i other.
+        let d = entry_drawn id w mine is name i other in
+        subst (λ (text : List ℕ). IsIn text (first ++ free_names)) (drawn_is name d) (drawn_first d.text d.listed);
+  }
+
+  -- an export's function has a name that is an identifier, and stands among the first
+  name_ident : (e : AuxExport) → IsIn e l.aux.exports → is_ident (declared_name m e) ≡ true
+  name_ident e k =
+      let idents = functions.functions_idents s l m n g.exports all_named in
+      each_is (λ (x : List ℕ). is_ident x ≡ true) names (AllPass-from_list_all is_ident names idents) (declared_name m e)
+      (in_map (declared_name m) e g.exports (export_there e k))
+    where
+      export_there : (e : AuxExport) → IsIn e l.aux.exports → IsIn e g.exports
+      export_there e k = moved_from g.exports l.aux.exports (IsPermutation-sym _ _ g.by_name.same) e k
+
+  name_first : (e : AuxExport) → IsIn e l.aux.exports → IsIn (declared_name m e) (first ++ free_names)
+  name_first e k =
+      among_in (declared_name m e) names (first ++ free_names)
+      (there names (names_first s l.«module» paths held few g.numbered listed imported_names constant_names names))
+      (in_map (declared_name m) e g.exports (moved_from g.exports l.aux.exports (IsPermutation-sym _ _ g.by_name.same) e k))
 
   -- ---- linkage
+
+  -- what a drawn name's vendor brings are identifiers, and known
+  import_hosts : (c : Context) → c.hosts ≡ host_names s l.aux → (import : Imported) → IsIn import (imports g) → imported.AreHosts c import.0
+  import_hosts c hosts import i =
+      let described = called.called_described s l m n g.pairs sub has import.0 (called.listed_named s l m n g.pairs sub has import i).0 in record {
+        idents = list_all-from_AllPass is_ident (described_hosts false import.0) (all_are (λ (x : List ℕ). is_ident x ≡ true) (described_hosts false import.0)
+            (λ x k. described_ident import.0 described x k));
+        known = among_by (described_hosts false import.0) c.hosts (λ x k.
+            subst (IsIn x) (sym hosts) (described_host s l import.0 described x k));
+      }
+    where
+      described_ident : (name : JsImportName) → IsIn name (described_names l.aux) → (x : List ℕ) → IsIn x (described_hosts false name) → is_ident x ≡ true
+      described_ident name i x k =
+          let entries = flat_map (λ (e : ℕ × AuxImport). names_of (js_import e.1)) l.aux.imports in
+          let here : IsIn name entries = subst (IsIn name) (rw b.reexports (simp append-nil)) i in
+          let e = from_flat (λ (e : ℕ × AuxImport). names_of (js_import e.1)) l.aux.imports name here in
+          b.idents e.0 e.1 x (in_flat (described_hosts false) (names_of (js_import (e.0).1)) name x e.2 k)
 
   -- the items but helpers belong where all names of helpers are declared too that need nothing of the module
   firsts : AllItems (λ item. Belongs (names_with s l (first ++ free_names)) item.words) (items_with g [])
   firsts =
       let c = names_with s l (first ++ free_names) in
-      let there = λ (ys : List (List ℕ)) (h : AreAmong ys first). among_left ys first free_names h in
-      let framed = frame_first s l.«module» paths held few g.numbered listed names in
-      let loaded = loading_first s l.«module» paths held few g.numbered listed names in
-      let lined = lines_first s l.«module» paths held few g.numbered listed names in
-      let wasm = (there loading_bound loaded).1.1.1.0 in
+      let framed = frame_first s l.«module» paths held few g.numbered listed imported_names constant_names names in
+      let lined = lines_first s l.«module» paths held few g.numbered listed imported_names constant_names names in
       let small : 1 + length paths < 2 ^ 64 = let h = g.numbered in omega (arith, h) in
       let own0 : module_names 0 (own_path s.stem ∷ paths) ≡ codes "import0" ∷ module_names 1 paths = ap (λ (n : List ℕ). n ∷ module_names 1 paths) own_name in
       each_item g (λ item. Belongs c item.words) []
+      (imported.lines_belong form (imports g) g.lines g.imported c drawn_idents (rw b.deno tt))
       (each_line (λ item. Belongs c item.words) 1 paths (λ n path less. foreign_belongs Es n path c (omega (arith, less, small)) tt))
-      (λ e item k x. declare_belongs s l e item x c.declared wasm (b.exports e k) (b.export_steps e k))
-      (λ pair item k x. define_belongs s l pair item x c.declared wasm (b.pair_steps pair k))
+      (imported.constants_belong form (imports g) g.lines g.imported c drawn_idents (known (codes "undefined" ∷ []) refl).0 (import_hosts c refl))
+      (λ e group k i x. declare_belongs s m l e group x well (name_ident e k) (b.export_steps e k) c.declared basis (name_first e k))
+      (λ pair item k x. define_belongs s m l pair item x well (b.pair_steps pair k) c.declared basis)
       (belongs_by_facts c _ (fixed.start_fits c s.stem))
       (belongs_by_facts c _ (end_fits s.stem paths c (modules_idents 0 (own_path s.stem ∷ paths) (omega (arith, small)))
       (subst (λ (ns : List (List ℕ)). AreAmong ns c.declared) (sym own0) ((there frame_bound framed).1.0, there (module_names 1 paths) lined))))
@@ -212,8 +410,9 @@ module _ (s : Settings) (l : Lowered) (items : List Item) (b : Facts s l) (g : I
   first_declared : (item : Item) → IsIn item (items_with g []) → AreAmong (used_in item.words) (first ++ free_names) → AreAmong (used_in item.words) declared
   first_declared item at used = among_by (used_in item.words) declared (λ name k.
       elim (in_either name first free_names (among_in name (used_in item.words) (first ++ free_names) used k)) [
-        | inl here ↦ among_in name first declared (first_among s l.«module» paths held few g.numbered listed names) here
-        | inr free ↦ among_in name held declared (held_among s l.«module» paths held few g.numbered listed names)
+        | inl here ↦ among_in name first declared
+            (first_among s l.«module» paths held few g.numbered listed imported_names constant_names names) here
+        | inr free ↦ among_in name held declared (held_among s l.«module» paths held few g.numbered listed imported_names constant_names names)
             (asked_declared parts bare (items_with g []) g.helpers g.asked item name at k free)
       ])
 
@@ -223,30 +422,39 @@ module _ (s : Settings) (l : Lowered) (items : List Item) (b : Facts s l) (g : I
       with_held g (λ item. Belongs c item.words) g.helpers
       (all_kept (λ item. Belongs (names_with s l (first ++ free_names)) item.words) (λ item. Belongs c item.words) (items_with g [])
       (λ item at h. belongs_among (names_with s l (first ++ free_names)) declared item.words h (first_declared item at h.resolved.bound)) firsts)
-      (held_belong parts bare needed g.helpers g.asked c (held_among s l.«module» paths held few g.numbered listed names) (known helper_hosts refl))
+      (held_belong parts bare needed g.helpers g.asked c (held_among s l.«module» paths held few g.numbered listed imported_names constant_names names)
+      (known helper_hosts refl))
 
   linked : IsLinked s (host_names s l.aux) (described_keys l.aux) paths (rewritten s l) all starts
   linked =
       let c = names_with s l declared in
       let d = held_distinct parts bare needed g.helpers g.asked in
+      let hosts_apart = called.listed_no_host s l m n g.pairs sub has in
       let k = linked_by_words c all (sym bound) belong
-      (rw bound (all_distinct s l.«module» paths held few g.numbered listed names d public_distinct (public own (λ e f. no_own e.name f.no_fixed))))
-      (rw bound (all_apart s l.«module» paths held few g.numbered listed names c.hosts (public c.hosts (λ e f. f.no_host)) outside)) in
+      (rw bound (all_distinct s l.«module» paths held few g.numbered listed imported_names constant_names names d are_drawn))
+      (rw bound (all_apart s l.«module» paths held few g.numbered listed imported_names constant_names names c.hosts (lines_apart c.hosts hosts_apart)
+      (constants_apart c.hosts hosts_apart) (functions.functions_no_host s l m n g.exports all_named) outside)) in
       let exported : EachItem (IsExported (export_names (rewritten s l))) [] all = rw (rewritten_exports s l) at k.exported in
       let prescribed : EachItem (IsPrescribed s starts paths) [] all = each_any _ [] all (each_item g _ g.helpers
+      (lines_so _ (λ item h before after. imported.import_prescribed item h s starts paths before after))
       (each_line _ 1 paths (λ n path less before after. tt))
-      (λ e item k x before after. rw x.is tt) (λ pair item k x before after. rw x.is tt)
+      (constants_so _ (λ item h before after. imported.import_prescribed item h s starts paths before after))
+      (λ e group k i x. each_of s m l e group x _ (λ before after. tt) (λ q before after. rw b.deno (inl refl)))
+      (λ pair item k x before after. rw x.is tt)
       (λ before after. (frame_told s.target s.stem paths b.deno).0) (λ before after. (frame_told s.target s.stem paths b.deno).1)
       (held_so _ (λ entry before after. tt)) (λ before after. rw b.deno (inl refl))) in
       assumption (k, exported, prescribed)
 
-  defined : IsDefined s l (rewritten s l) all
+  defined : IsDefined s m l (rewritten s l) all
   defined =
       let place_of = λ (pair : ImportId × ℕ). pair.0.0 in
       let places : defined_places all ≡ places_of g.pairs =
-      given g (λ item. defined_by item.role) (λ e. []) (λ pair. place_of pair ∷ []) g.helpers (λ e item x. rw x.is) (λ pair item k x. rw x.is)
+      given g (λ item. defined_by item.role) (λ e. []) (λ pair. place_of pair ∷ []) g.helpers
+      (λ e group k d. group_none s m l e group d (λ item. defined_by item.role) refl refl) (λ pair item k x. rw x.is)
       ∙ rw (
+        lines_none (λ item. defined_by item.role) imported.import_defined,
         none_given (λ item. defined_by item.role) (foreign_lines 1 paths) (each_line _ 1 paths (λ n path less. refl)),
+        constants_none (λ item. defined_by item.role) imported.import_defined,
         none_given (λ item. defined_by item.role) g.helpers (held_so _ (λ entry. refl)),
       ) (simp (flat_none, flat_map_single, append-nil)) in
       let moved = IsPermutation-map place_of (own_pairs s l) g.pairs g.by_import.same in
@@ -255,48 +463,76 @@ module _ (s : Settings) (l : Lowered) (items : List Item) (b : Facts s l) (g : I
         all = λ place h. rw places (moved_from (places_of g.pairs) _ (IsPermutation-sym _ _ moved) place (b.paired place h));
         once = rw places (distinct_moved ◌==◌ Decides-eqb (places_of (own_pairs s l)) (places_of g.pairs) moved b.places);
         functions = each_any _ [] all (each_item g _ g.helpers
+            (lines_so _ (λ item h before after. imported.import_function item h s m l (rewritten s l)))
             (each_line _ 1 paths (λ n path less before after. tt))
-            (λ e item h x before after. rw x.is (record
-            { «export» = e; described = h; of = refl; function = x.function; of_adapter = x.of_adapter; words = refl }))
+            (constants_so _ (λ item h before after. imported.import_function item h s m l (rewritten s l)))
+            (λ e group h i x. each_of s m l e group x _ (λ before after. record
+            { «export» = e; described = h; of = refl; function = x.function; of_adapter = x.of_adapter; words = refl }) (λ q before after. tt))
             (λ pair item h x before after. let own = own_pair s l pair h in let k = moved_keeps s l pair.0.0 x.«import» own.1 x.stands in rw x.is (record
             { adapter = pair.1; pair = own.0; function = x.function; of_adapter = x.of_adapter; «import» = k.0; stands = k.1; words = rw k.2 }))
             (λ before after. tt) (λ before after. tt) (held_so _ (λ entry before after. tt)) (λ before after. tt));
       }
 
+  -- ---- what is published
+
   -- each export is a function of the top level
-  functions : (es : List AuxExport) → ((e : AuxExport) → IsIn e es → IsBuiltExport s l e) → flat_map (λ (e : AuxExport). function_pair e.kind e) es ≡ map pair_of es
-  functions [] h = refl
-  functions (e ∷ es) h = let k = h e (inl refl) in rw (k.function, k.top, functions es (λ x i. h x (inr i))) refl
+  functions_are : (es : List AuxExport) → ((e : AuxExport) → IsIn e es → IsBuiltExport e) → flat_map (λ (e : AuxExport). function_pair e.kind e) es ≡ map pair_of es
+  functions_are [] h = refl
+  functions_are (e ∷ es) h = let k = h e (inl refl) in rw (k.function, k.top, functions_are es (λ x i. h x (inr i))) refl
+
+  -- the name that a clause publishes is that of the declaration that stands before it
+  names_stand : AllItems (λ item. IsNamed s l.aux all item.role) all
+  names_stand =
+      each_item g (λ item. IsNamed s l.aux all item.role) g.helpers
+      (lines_so _ (λ item h. imported.import_named item h s l.aux all))
+      (each_line _ 1 paths (λ n path less. tt))
+      (constants_so _ (λ item h. imported.import_named item h s l.aux all))
+      (λ e group k i x. each_of s m l e group x (λ item. IsNamed s l.aux all item.role) tt (λ q.
+      let item = declare_item false e.adapter (declared_name m e) x.function.words in record {
+        item = item;
+        stands = group_stands g g.helpers group item i (declaration_stands s m l e group x q);
+        declares = refl;
+        binds = declaration_binds s m l e group x;
+      }))
+      (λ pair item k x. rw x.is tt) tt tt (held_so _ (λ entry. tt)) tt
 
   published : IsPublished s l.aux (fixed_public s l.«module» l.wit l.aux) all
   published =
       let tree : public_tree s l.aux ≡ map pair_of l.aux.exports =
-      rw (b.structs, b.enums, b.reexports, b.no_reset, functions l.aux.exports b.exports) (simp (append-nil, flat_map-map, flat_none)) in
+      rw (b.structs, b.enums, b.reexports, b.no_reset, functions_are l.aux.exports b.exports) (simp (append-nil, flat_map-map, flat_none)) in
       let pairs : published_pairs all ≡ map pair_of g.exports =
-      given g published_by (λ e. pair_of e ∷ []) (λ pair. []) g.helpers (declare_publishes s l) (λ pair item k x. rw x.is)
+      given g published_by (λ e. pair_of e ∷ []) (λ pair. []) g.helpers
+      (λ e group k d. declare_publishes s m l e group d well (name_ident e k) (b.export_steps e k)) (λ pair item k x. rw x.is)
       ∙ rw (
+        lines_none published_by imported.import_published,
         none_given published_by (foreign_lines 1 paths) (each_line _ 1 paths (λ n path less. refl)),
+        constants_none published_by imported.import_published,
         none_given published_by g.helpers (held_so _ (λ entry. refl)),
       ) (simp (flat_none, flat_map_single, append-nil)) in
-      let none : fixed_published all ≡ [] = given g fixed_by (λ e. []) (λ pair. []) g.helpers (λ e item x. rw x.is)
-      (λ pair item k x. rw (define_exported s l pair item x (b.pair_steps pair k)) (rw x.is))
-      ∙ rw (none_given fixed_by (foreign_lines 1 paths) (lines_inner 1 paths), none_given fixed_by g.helpers held_fixed)
-      (simp (flat_none, fixed.start_fixed, end_fixed, fixed.loading_fixed)) in
+      let none : fixed_published all ≡ [] =
+      given g fixed_by (λ e. []) (λ pair. []) g.helpers (λ e group k d. group_none s m l e group d fixed_by refl refl)
+      (λ pair item k x. rw (define_exported s m l pair item x well (b.pair_steps pair k)) (rw x.is))
+      ∙ rw (
+        lines_none fixed_by imported.import_fixed,
+        none_given fixed_by (foreign_lines 1 paths) (lines_inner 1 paths),
+        constants_none fixed_by imported.import_fixed,
+        none_given fixed_by g.helpers held_fixed,
+      ) (simp (flat_none, fixed.start_fixed, end_fixed, fixed.loading_fixed)) in
       let moved = IsPermutation-map pair_of l.aux.exports g.exports g.by_name.same in
       record {
         only = λ pair. rw (pairs, tree) (moved_from _ _ moved pair);
         all = λ pair. rw (pairs, tree) (moved_from _ _ (IsPermutation-sym _ _ moved) pair);
         once = rw pairs (pairs_distinct g.exports public_distinct);
-        named = each_any _ [] all (each_item g _ g.helpers (each_line _ 1 paths (λ n path less before after. tt))
-            (λ e item k x before after. rw x.is tt) (λ pair item k x before after. rw x.is tt)
-            (λ before after. tt) (λ before after. tt) (held_so _ (λ entry before after. tt)) (λ before after. tt));
+        named = each_among (λ before item after. IsNamed s l.aux (before ++ item ∷ after) item.role) all [] all refl (λ before item after k e.
+            subst (λ (items : List Item). IsNamed s l.aux items item.role) (sym e) (each_at (λ item. IsNamed s l.aux all item.role) item all names_stand k));
         fixed_only = λ name h. absurd (elim h [ inl k ↦ subst (IsIn name) none k | inr a ↦ fixed.nothing_assigned s all name b.deno a ]);
         fixed_all = λ name. rw (b.deno, b.plain_files.0, b.plain_files.1) (λ h. absurd h);
       }
 
   -- from the facts, however they were found
-  pub sound_by_facts : IsSound s l items
+  pub sound_by_facts : IsSound s m l items
   sound_by_facts = rw g.all (record { linked = linked; defined = defined; published = published })
 
-pub sound : (f : FileFlags) (s : Settings) (l : Lowered) (items : List Item) → unbuilt f s l ≡ None → verdict s l ≡ None → IsGlue s l items → IsSound s l items
-sound f s l items whole passed = sound_by_facts s l items (built f s l whole passed)
+pub sound : (f : FileFlags) (s : Settings) (m : NameMap) (l : Lowered) (items : List Item) → unbuilt f s l ≡ None → verdict s l ≡ None → AreNames s l m
+    → IsGlue s m l items → IsSound s m l items
+sound f s m l items whole passed drawn = sound_by_facts s m l items (built f s l whole passed) drawn

@@ -1,6 +1,7 @@
 -- Each own import has exactly one definition, and each function that is printed is that of its adapter.
 use Rattle.std.specs.Prelude.{◌≡◌, ℕ, List, [], ◌∷◌, Some}
 use Rattle.std.specs.List.{flat_map}
+use Rattle.std.specs.Str.{bytes_eq}
 use Rattle.values.specs.Lists.{IsIn, AreDistinct}
 use Rattle.wasm_core.specs.Contents.{Contents}
 use Rattle.wasm_core.specs.declared.types.Import.{Import}
@@ -13,9 +14,12 @@ use Rattle.glue_tree.specs.declared.tree.JsFunction.{JsFunction}
 use Rattle.glue_shared.specs.declared.aux.AuxExport.{AuxExport}
 use Rattle.glue_shared.specs.declared.settings.Settings.{Settings}
 use Rattle.glue_shared.specs.declared.description.Lowered.{Lowered}
+use Rattle.glue_shared.specs.declared.name_map.NameMap.{NameMap}
 use Rattle.glue_shared.specs.Names.{own_imports}
 use Rattle.glue_steps.specs.Resolving.{entry_at}
-use Rattle.glue_context.specs.Items.{IsFunctionOf, declare_item, define_item}
+use Rattle.glue_naming.specs.Naming.{declared_name}
+use Rattle.glue_context.specs.ExportedItems.{declare_item}
+use Rattle.glue_context.specs.Items.{IsFunctionOf, define_item}
 
 -- the imports that an item of a role defines: one, or none
 abbrev pub defined_by : Role → List ℕ
@@ -25,35 +29,36 @@ defined_by other = []
 abbrev pub defined_places : List Item → List ℕ
 defined_places items = flat_map (λ (item : Item). defined_by item.role) items
 
--- the item defines the import, by its name in the written module, as the function of the adapter that implements it
-pub record IsDefinition (l : Lowered) (written : Contents) (place : ℕ) (item : Item) : Type 0 where
+-- the item defines the import, by its name in the written module, as the function of the adapter that implements it, where these names are
+-- drawn
+pub record IsDefinition (s : Settings) (m : NameMap) (l : Lowered) (written : Contents) (place : ℕ) (item : Item) : Type 0 where
   pub adapter : ℕ
   pub pair : IsIn (record { 0 = place }, adapter) l.wit.implements
   pub function : JsFunction
-  pub of_adapter : IsFunctionOf l adapter [] function
+  pub of_adapter : IsFunctionOf s m l adapter [] function
   pub «import» : Import
   pub stands : entry_at written.imports place ≡ Some «import»
   pub words : item.words ≡ (define_item place «import».name function.words).words
 
--- the item declares the function of an exported adapter
-pub record IsDeclaration (l : Lowered) (adapter : ℕ) (item : Item) : Type 0 where
+-- the item declares the function of an exported adapter, under the name that it was given
+pub record IsDeclaration (s : Settings) (m : NameMap) (l : Lowered) (adapter : ℕ) (item : Item) : Type 0 where
   pub «export» : AuxExport
   pub described : IsIn «export» l.aux.exports
   pub of : «export».adapter ≡ adapter
   pub function : JsFunction
-  pub of_adapter : IsFunctionOf l adapter «export».args function
-  pub words : item.words ≡ (declare_item adapter «export».name function.words).words
+  pub of_adapter : IsFunctionOf s m l adapter «export».args function
+  pub words : item.words ≡ (declare_item (bytes_eq (declared_name m «export») «export».name) adapter (declared_name m «export») function.words).words
 
 -- a definition or the declaration of an adapter is that of its function
-abbrev pub HoldsFunction : Lowered → Contents → Role → Item → Type 0
-HoldsFunction l written (role.Define place) item = IsDefinition l written place item
-HoldsFunction l written (role.Declare (thing.Adapter id)) item = IsDeclaration l id item
-HoldsFunction l written other item = Unit {0}
+abbrev pub HoldsFunction : Settings → NameMap → Lowered → Contents → Role → Item → Type 0
+HoldsFunction s m l written (role.Define place) item = IsDefinition s m l written place item
+HoldsFunction s m l written (role.Declare (thing.Adapter id)) item = IsDeclaration s m l id item
+HoldsFunction s m l written other item = Unit {0}
 
 -- Each own import is defined once, and nothing else is. Each function is that of its adapter: it does what the adapter does, whatever
--- it is given and whatever the outside answers.
-pub record IsDefined (settings : Settings) (l : Lowered) (written : Contents) (items : List Item) : Type 0 where
+-- it is given and whatever the outside answers. What imports begin with that is no global goes by these names, which are drawn for it.
+pub record IsDefined (settings : Settings) (m : NameMap) (l : Lowered) (written : Contents) (items : List Item) : Type 0 where
   pub only : (place : ℕ) → IsIn place (defined_places items) → IsIn place (own_imports settings l.«module» l.wit l.aux)
   pub all : (place : ℕ) → IsIn place (own_imports settings l.«module» l.wit l.aux) → IsIn place (defined_places items)
   pub once : AreDistinct (defined_places items)
-  pub functions : EachItem (λ before item after. HoldsFunction l written item.role item) [] items
+  pub functions : EachItem (λ before item after. HoldsFunction settings m l written item.role item) [] items

@@ -1,6 +1,8 @@
 pub mod Defined
 pub mod Edits
+pub mod ExportedItems
 pub mod Foreign
+pub mod ImportedItems
 pub mod Items
 pub mod Keys
 pub mod Linked

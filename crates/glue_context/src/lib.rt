@@ -1,13 +1,14 @@
 //! The items of the glue file, what is changed in its module, and the theorem that both are linked.
 //!
-//! `glue_items` puts the groups together: a line for each import that the glue file doesn't define, which takes the import's module whole,
-//! a declaration for each described export, by name, the frame with a definition for each own import, by the import's name, which
-//! hands those modules on, the helpers for which the other items ask, and loading (`all_items` of `specs/Items.antt`). Promised: the items
-//! are those of the definition `IsGlue`, and want of memory is the only error, where the check has found steps for each adapter
-//! (`proofs/Facts.antt`) and each export was given its own name (`own` of `draw_names` in `glue_naming`). The proofs show the
-//! theorem `sound` (`proofs/Made.antt`): the items that a built description asks for are linked with the module that is written
-//! (`specs/Linked.antt`), define each own import once by its adapter's function (`specs/Defined.antt`), and publish exactly the
-//! described tree. `edits_of` tells what is changed in the collected module, as one value: own imports move to the glue file's
+//! `glue_items` puts the groups together: the lines that import what own imports call of described modules, a line for each import that the
+//! glue file doesn't define, which takes the import's module whole, the constants of vendors' names, a declaration for each described export,
+//! by name, and behind it the clause that publishes it where its function has another name, the frame with a definition for each own import,
+//! by the import's name, which hands foreign modules on, the helpers for which the other items ask, and loading (`all_items` of
+//! `specs/Items.antt`). Promised: the items are those of the definition `IsGlue`, and want of memory is the only error, where the check has
+//! found steps for each adapter (`proofs/Facts.antt`) and the function of each export was given a name (`named` of `draw_names` in
+//! `glue_naming`). The proofs show the theorem `sound` (`proofs/Made.antt`): the items that a built description asks for are linked with the
+//! module that is written (`specs/Linked.antt`), define each own import once by its adapter's function (`specs/Defined.antt`), and publish
+//! exactly the described tree. `edits_of` tells what is changed in the collected module, as one value: own imports move to the glue file's
 //! module, an import for which an adapter stands and which is no own one becomes the described name that the adapter calls, and a start
 //! function becomes an export, which loading calls. `apply_edits` changes exactly that (`edited` of
 //! `specs/Edits.antt`); the module that is written is that one (`rewritten` of `specs/Rewritten.antt`). The theorem rests on facts
@@ -15,12 +16,15 @@
 //! linked, where their names are declared once and are no host's (`proofs/Declared.antt`). An item may refer to a helper that needs
 //! nothing of the module: since it asks for it, the helper is there. The names that proofs here cite come from `proofs/Common.antt`.
 //!
-//! Stands on `glue_check`, `glue_naming`, `glue_targets`, `glue_lines`, `helper_table`, `glue_binding`, `glue_steps`, `glue_tree`,
-//! `glue_shared`, `glue_scope`, `glue_words` and `wasm_core`. It knows no setter and no file.
+//! Stands on `glue_check`, `glue_naming`, `glue_targets`, `glue_lines`, `helper_table`, `glue_binding`, `glue_imports`, `glue_steps`,
+//! `glue_tree`, `glue_shared`, `glue_scope`, `glue_words` and `wasm_core`. It knows no setter and no file.
 #![tactic(auto)]
 
 mod edits;
+mod exported;
 mod foreign;
+mod function;
+mod imported;
 mod items;
 mod parts;
 

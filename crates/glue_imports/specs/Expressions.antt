@@ -10,22 +10,19 @@ use Rattle.glue_shared.specs.declared.import.AuxValue.{AuxValue}
 use Rattle.glue_shared.specs.declared.import.AuxValue.TheVariants as v
 use Rattle.glue_shared.specs.declared.import.Intrinsic.{Intrinsic}
 use Rattle.glue_shared.specs.declared.import.JsImport.{JsImport}
-use Rattle.glue_shared.specs.declared.import.JsImportName.{JsImportName}
-use Rattle.glue_shared.specs.declared.import.JsImportName.TheVariants as names
+use Rattle.glue_shared.specs.declared.name_map.NameMap.{NameMap}
+use Rattle.glue_shared.specs.declared.settings.Settings.{Settings}
+use Rattle.glue_shared.specs.NameMap.{no_names}
 use Rattle.glue_imports.specs.declared.part.Part.{Part}
 use Rattle.glue_imports.specs.declared.part.Part.TheVariants as p
 use Rattle.glue_imports.specs.declared.part.Expression.{Expression}
+use Rattle.glue_imports.specs.Roots.{root_name, root}
 use Rattle.glue_imports.specs.Intrinsics.{or_else, intrinsic_parts}
-use Rattle.glue_imports.specs.Preludes.{plain, instance_of, intrinsic_prelude, cast, link, present}
+use Rattle.glue_imports.specs.Preludes.{plain, instance_of, intrinsic_prelude, cast, linked, present}
 
--- the name of a global
-abbrev pub global_name : JsImportName → Option (List ℕ)
-global_name (names.Global name) = Some name
-global_name other = None
-
--- the value that an import names, with parts before and behind it, where it is a global or a property of one
-abbrev pub around : (front : List Part) → JsImport → (behind : List Part) → Option (List Part)
-around front js behind = option_map (λ name. front ++ p.Host name js.fields ∷ behind) (global_name js.name)
+-- the value that an import names, with parts before and behind it
+abbrev pub around : NameMap → (front : List Part) → JsImport → (behind : List Part) → List Part
+around m front js behind = front ++ (root m js ++ behind)
 
 -- ` = a`, where the operand stands as it is
 abbrev pub assigned : ℕ → List Part
@@ -43,30 +40,53 @@ abbrev pub delete_front : List Part
 delete_front = p.Key key.DELETE ∷ p.Space ∷ []
 
 -- a value that is called, as a function, as a method of the first argument, or as a constructor
-abbrev pub called : AdapterJsImportKind → (spread : Bool) → JsImport → Option (List Part)
-called calls.Normal spread js = around [] js (p.Arguments spread ∷ [])
-called calls.Method spread js = around [] js (p.Property (codes "call") ∷ p.Arguments spread ∷ [])
-called calls.Constructor spread js = around new_front js (p.Arguments spread ∷ [])
+abbrev pub called : NameMap → AdapterJsImportKind → (spread : Bool) → JsImport → List Part
+called m calls.Normal spread js = around m [] js (p.Arguments spread ∷ [])
+called m calls.Method spread js = around m [] js (p.Property (codes "call") ∷ p.Arguments spread ∷ [])
+called m calls.Constructor spread js = around m new_front js (p.Arguments spread ∷ [])
 
--- the values themselves: accessors need a helper function
-abbrev pub value_parts : AdapterJsImportKind → (spread : Bool) → AuxValue → Option (List Part)
-value_parts call spread (v.Bare js) = called call spread js
-value_parts call spread other = None
+-- `GetOwnOrInheritedPropertyDescriptor(`: the helper finds how an object, or one that it inherits from, describes a property
+abbrev pub accessor_front : List Part
+accessor_front = p.Name (codes "GetOwnOrInheritedPropertyDescriptor") ∷ p.Punct punct.OPEN_PAREN ∷ []
+
+-- `, "field").get.call(..)`, or `.set`
+abbrev pub described_call : (field which : List ℕ) → (spread : Bool) → List Part
+described_call field which spread =
+    p.Punct punct.COMMA ∷ p.Space ∷ p.Literal field ∷ p.Punct punct.CLOSE_PAREN
+    ∷ p.Property which ∷ p.Property (codes "call") ∷ p.Arguments spread ∷ []
+
+-- `.prototype`, where a property is one of instances, and else nothing
+abbrev pub owner : (of_instances : Bool) → List Part
+owner true = p.Property (codes "prototype") ∷ []
+owner false = []
+
+-- `GetOwnOrInheritedPropertyDescriptor(C.prototype` and a call behind it: an accessor of a property of instances; without `.prototype` of
+-- the class itself
+abbrev pub accessor : NameMap → JsImport → (of_instances : Bool) → (call : List Part) → List Part
+accessor m js of_instances call = around m accessor_front js (owner of_instances ++ call)
+
+-- the values themselves, and accessors of properties, of instances or of the class itself
+abbrev pub value_parts : NameMap → AdapterJsImportKind → (spread : Bool) → AuxValue → List Part
+value_parts m call spread (v.Bare js) = called m call spread js
+value_parts m call spread (v.Getter js field) = accessor m js true (described_call field (codes "get") spread)
+value_parts m call spread (v.ClassGetter js field) = accessor m js false (described_call field (codes "get") spread)
+value_parts m call spread (v.Setter js field) = accessor m js true (described_call field (codes "set") spread)
+value_parts m call spread (v.ClassSetter js field) = accessor m js false (described_call field (codes "set") spread)
 
 -- a static value, which may be absent
-abbrev pub static_parts : JsImport → (optional : Bool) → Option (List Part)
-static_parts js false = around [] js []
-static_parts js true = option_map (λ name. present name js.fields) (global_name js.name)
+abbrev pub static_parts : NameMap → JsImport → (optional : Bool) → List Part
+static_parts m js false = root m js
+static_parts m js true = present (root_name m js.name) js.fields
 
 -- what is named by a value and something of it
-abbrev pub of_value : (spread : Bool) → AuxImport → Option (List Part)
-of_value spread (w.ValueWithThis js name) = around [] js (p.Property name ∷ p.Arguments spread ∷ [])
-of_value spread (w.StructuralClassGetter js name) = around [] js (p.Property name ∷ [])
-of_value spread (w.StructuralClassSetter js name) = around [] js (p.Property name ∷ assigned 0)
-of_value spread (w.IndexingGetterOfClass js) = around [] js (index 0)
-of_value spread (w.IndexingSetterOfClass js) = around [] js (index 0 ++ assigned 1)
-of_value spread (w.IndexingDeleterOfClass js) = around delete_front js (index 0)
-of_value spread other = None
+abbrev pub of_value : NameMap → (spread : Bool) → AuxImport → Option (List Part)
+of_value m spread (w.ValueWithThis js name) = Some (around m [] js (p.Property name ∷ p.Arguments spread ∷ []))
+of_value m spread (w.StructuralClassGetter js name) = Some (around m [] js (p.Property name ∷ []))
+of_value m spread (w.StructuralClassSetter js name) = Some (around m [] js (p.Property name ∷ assigned 0))
+of_value m spread (w.IndexingGetterOfClass js) = Some (around m [] js (index 0))
+of_value m spread (w.IndexingSetterOfClass js) = Some (around m [] js (index 0 ++ assigned 1))
+of_value m spread (w.IndexingDeleterOfClass js) = Some (around m delete_front js (index 0))
+of_value m spread other = None
 
 -- what is something of the first operand
 abbrev pub of_operand : (spread : Bool) → AuxImport → Option (List Part)
@@ -79,34 +99,31 @@ of_operand spread w.IndexingDeleterOfObject = Some (delete_front ++ p.Operand 0 
 of_operand spread other = None
 
 -- the expression of an import that has no statements before it
-abbrev pub parts_of : AdapterJsImportKind → (spread : Bool) → AuxImport → Option (List Part)
-parts_of call spread (w.Value value) = value_parts call spread value
-parts_of call spread (w.Static js optional) = static_parts js optional
-parts_of call spread (w.String text) = Some (p.Literal text ∷ [])
-parts_of call spread (w.ValueWithThis js name) = of_value spread (w.ValueWithThis js name)
-parts_of call spread (w.StructuralClassGetter js name) = of_value spread (w.StructuralClassGetter js name)
-parts_of call spread (w.StructuralClassSetter js name) = of_value spread (w.StructuralClassSetter js name)
-parts_of call spread (w.IndexingGetterOfClass js) = of_value spread (w.IndexingGetterOfClass js)
-parts_of call spread (w.IndexingSetterOfClass js) = of_value spread (w.IndexingSetterOfClass js)
-parts_of call spread (w.IndexingDeleterOfClass js) = of_value spread (w.IndexingDeleterOfClass js)
-parts_of call spread other = of_operand spread other
+abbrev pub parts_of : NameMap → AdapterJsImportKind → (spread : Bool) → AuxImport → Option (List Part)
+parts_of m call spread (w.Value value) = Some (value_parts m call spread value)
+parts_of m call spread (w.Static js optional) = Some (static_parts m js optional)
+parts_of m call spread (w.String text) = Some (p.Literal text ∷ [])
+parts_of m call spread (w.ValueWithThis js name) = of_value m spread (w.ValueWithThis js name)
+parts_of m call spread (w.StructuralClassGetter js name) = of_value m spread (w.StructuralClassGetter js name)
+parts_of m call spread (w.StructuralClassSetter js name) = of_value m spread (w.StructuralClassSetter js name)
+parts_of m call spread (w.IndexingGetterOfClass js) = of_value m spread (w.IndexingGetterOfClass js)
+parts_of m call spread (w.IndexingSetterOfClass js) = of_value m spread (w.IndexingSetterOfClass js)
+parts_of m call spread (w.IndexingDeleterOfClass js) = of_value m spread (w.IndexingDeleterOfClass js)
+parts_of m call spread other = of_operand spread other
 
--- whether the operand is an instance of what an import names
-abbrev pub instance_test : JsImport → Option Expression
-instance_test js = option_map (λ name. instance_of (p.Host name js.fields)) (global_name js.name)
+-- an intrinsic, where the setting `externref` has this value
+abbrev pub intrinsic_expression : (externref bound : Bool) → Intrinsic → Option Expression
+intrinsic_expression externref bound name = or_else (option_map plain (intrinsic_parts bound name)) (intrinsic_prelude externref name)
 
--- an intrinsic
-abbrev pub intrinsic_expression : (bound : Bool) → Intrinsic → Option Expression
-intrinsic_expression bound name = or_else (option_map plain (intrinsic_parts bound name)) (intrinsic_prelude name)
+-- the expression of an import that is called in this way, the last argument spread or not, its answer bound to a local or not, where
+-- these names are drawn
+abbrev pub expression : Settings → NameMap → AdapterJsImportKind → (spread bound : Bool) → AuxImport → Option Expression
+expression s m call spread bound (w.Instanceof js) = Some (instance_of (root m js))
+expression s m call spread bound (w.Cast comment) = Some (cast bound comment)
+expression s m call spread bound (w.LinkTo path content) = linked s.split_linked_modules s.target path content
+expression s m call spread bound (w.Intrinsic name) = intrinsic_expression s.externref bound name
+expression s m call spread bound other = option_map plain (parts_of m call spread other)
 
--- the expression of an import that is called in this way, the last argument spread or not, its answer bound to a local or not
-abbrev pub expression : AdapterJsImportKind → (spread bound : Bool) → AuxImport → Option Expression
-expression call spread bound (w.Instanceof js) = instance_test js
-expression call spread bound (w.Cast comment) = Some (cast bound comment)
-expression call spread bound (w.LinkTo path content) = option_map link content
-expression call spread bound (w.Intrinsic name) = intrinsic_expression bound name
-expression call spread bound other = option_map plain (parts_of call spread other)
-
--- an import has an expression, however it is called
-abbrev pub has_expression : AuxImport → Bool
-has_expression what = is_some (expression calls.Normal false false what)
+-- an import has an expression, whatever names are drawn and however it is called
+abbrev pub has_expression : Settings → AuxImport → Bool
+has_expression s what = is_some (expression s no_names calls.Normal false false what)

@@ -86,6 +86,15 @@ thrown_error =
     p.Key key.THROW ∷ p.Space ∷ p.Key key.NEW ∷ p.Space ∷ host (codes "Error")
     ∷ p.Punct punct.OPEN_PAREN ∷ p.Whole 0 ∷ p.Punct punct.CLOSE_PAREN ∷ []
 
+-- `debugString(a)`
+abbrev pub debug_text : List Part
+debug_text = p.Name (codes "debugString") ∷ p.Punct punct.OPEN_PAREN ∷ p.Whole 0 ∷ p.Punct punct.CLOSE_PAREN ∷ []
+
+-- `new PanicError(a)`
+abbrev pub panic_error : List Part
+panic_error =
+    p.Key key.NEW ∷ p.Space ∷ p.Name (codes "PanicError") ∷ p.Punct punct.OPEN_PAREN ∷ p.Whole 0 ∷ p.Punct punct.CLOSE_PAREN ∷ []
+
 -- the expressions of other intrinsics, by whether the answer is bound to a local. `Reinit` gives `undefined` where no module is made
 -- anew; `Throw` and `Rethrow` are statements
 abbrev pub other_intrinsic : Bool → Intrinsic → Option (List Part)
@@ -99,6 +108,8 @@ other_intrinsic bound i.ObjectDropRef = Some (same bound)
 other_intrinsic bound i.Exports = Some (p.Exports ∷ [])
 other_intrinsic bound i.Reinit = Some (host (codes "undefined") ∷ [])
 other_intrinsic bound i.CopyToTypedArray = Some copy_to_array
+other_intrinsic bound i.DebugString = Some debug_text
+other_intrinsic bound i.PanicError = Some panic_error
 other_intrinsic bound i.Throw = Some thrown_error
 other_intrinsic bound i.Rethrow = Some (p.Key key.THROW ∷ p.Space ∷ p.Operand 0 ∷ [])
 other_intrinsic bound other = None

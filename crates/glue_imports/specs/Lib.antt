@@ -1,3 +1,4 @@
+pub mod Roots
 pub mod Intrinsics
 pub mod Preludes
 pub mod Expressions

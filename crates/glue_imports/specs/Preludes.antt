@@ -1,9 +1,11 @@
 -- Expressions with statements before them, which declare locals of their own.
-use Rattle.std.specs.Prelude.{ℕ, Bool, List, [], ◌∷◌, ◌++◌, map, codes, Option, Some, None}
+use Rattle.std.specs.Prelude.{ℕ, pos, Bool, true, false, List, [], ◌∷◌, ◌++◌, map, codes, Option, Some, None, option_map}
 use Rattle.glue_words.specs.declared.punct.TheConstants as punct
 use Rattle.glue_words.specs.declared.key.TheConstants as key
 use Rattle.glue_shared.specs.declared.import.Intrinsic.{Intrinsic}
 use Rattle.glue_shared.specs.declared.import.Intrinsic.TheVariants as i
+use Rattle.glue_shared.specs.declared.settings.Target.{Target}
+use Rattle.glue_shared.specs.declared.settings.Target.TheVariants as targets
 use Rattle.glue_imports.specs.declared.part.Part.{Part}
 use Rattle.glue_imports.specs.declared.part.Part.TheVariants as p
 use Rattle.glue_imports.specs.declared.part.Expression.{Expression}
@@ -83,10 +85,10 @@ object_test = record {
 -- ---- expressions that are tried
 
 -- whether the operand is an instance of the value; where the test throws it isn't
-abbrev pub instance_of : Part → Expression
+abbrev pub instance_of : (value : List Part) → Expression
 instance_of value = record {
   locals = codes "result" ∷ codes "_" ∷ [];
-  prelude = tried (p.Operand 0 ∷ p.Space ∷ p.Key key.INSTANCEOF ∷ p.Space ∷ value ∷ []) (result_is (p.Key key.FALSE ∷ line_end));
+  prelude = tried (p.Operand 0 ∷ p.Space ∷ p.Key key.INSTANCEOF ∷ p.Space ∷ value) (result_is (p.Key key.FALSE ∷ line_end));
   value = p.Local 0 ∷ [];
 }
 
@@ -130,18 +132,71 @@ checked_quotient = record {
   value = p.Local 0 ∷ [];
 }
 
+-- ---- the count of objects in the object table
+
+-- `let x = value;`, of the local at a place
+abbrev pub let_value : ℕ → Part → List Part
+let_value place value =
+    p.Key key.LET ∷ p.Space ∷ p.Binding place ∷ p.Space ∷ p.Punct punct.ASSIGN ∷ p.Space ∷ value ∷ line_end
+
+-- `let free_count = 0;` and `let next = heap_next;`, of the first and the second local
+abbrev pub count_front : List Part
+count_front = let_value 0 (p.Number (pos 0)) ++ let_value 1 (p.Name (codes "heap_next"))
+
+-- `heap.length`
+abbrev pub heap_length : List Part
+heap_length = p.Name (codes "heap") ∷ p.Property (codes "length") ∷ []
+
+-- `while (next < heap.length) {` and the end of the line
+abbrev pub count_test : List Part
+count_test =
+    p.Key key.WHILE ∷ p.Space ∷ p.Punct punct.OPEN_PAREN ∷ p.Local 1 ∷ p.Space ∷ p.Punct punct.LESS ∷ p.Space ∷ heap_length
+    ++ p.Punct punct.CLOSE_PAREN ∷ p.Space ∷ p.Punct punct.OPEN_BRACE ∷ p.LineFeed ∷ []
+
+-- `free_count += 1;`
+abbrev pub free_counted : List Part
+free_counted = p.Local 0 ∷ p.Space ∷ p.Punct punct.ADD_ASSIGN ∷ p.Space ∷ p.Number (pos 1) ∷ line_end
+
+-- `next = heap[next];`
+abbrev pub next_free : List Part
+next_free =
+    p.Local 1 ∷ p.Space ∷ p.Punct punct.ASSIGN ∷ p.Space ∷ p.Name (codes "heap")
+    ∷ p.Punct punct.OPEN_BRACKET ∷ p.Local 1 ∷ p.Punct punct.CLOSE_BRACKET ∷ line_end
+
+-- ` - a`
+abbrev pub less : Part → List Part
+less value = p.Space ∷ p.Punct punct.MINUS ∷ p.Space ∷ value ∷ []
+
+-- `heap.length - free_count - 1024 - 4`: the places that are neither free, nor of borrowed objects, nor of the four constants
+abbrev pub count_value : List Part
+count_value = heap_length ++ (less (p.Local 0) ++ (less (p.Number (pos 1024)) ++ less (p.Number (pos 4))))
+
+-- how many objects the object table holds: the free places are counted along their chain
+abbrev pub live_objects : Expression
+live_objects = record {
+  locals = codes "free_count" ∷ codes "next" ∷ [];
+  prelude = count_front ++ (count_test ++ (free_counted ++ (next_free ++ close_line)));
+  value = count_value;
+}
+
+-- where references stand in no table of the module, there is an object table
+abbrev pub counted_objects : (externref : Bool) → Option Expression
+counted_objects true = None
+counted_objects false = Some live_objects
+
 -- ---- intrinsics
 
 -- the intrinsics that have statements before their expressions
-abbrev pub intrinsic_prelude : Intrinsic → Option Expression
-intrinsic_prelude i.IsObject = Some object_test
-intrinsic_prelude i.NumberGet = Some (typed_value (codes "obj") (codes "number"))
-intrinsic_prelude i.StringGet = Some (typed_value (codes "obj") (codes "string"))
-intrinsic_prelude i.BooleanGet = Some (typed_value (codes "v") (codes "boolean"))
-intrinsic_prelude i.BigIntGetAsI64 = Some (typed_value (codes "v") (codes "bigint"))
-intrinsic_prelude i.TryIntoNumber = Some number_of
-intrinsic_prelude i.CheckedDiv = Some checked_quotient
-intrinsic_prelude other = None
+abbrev pub intrinsic_prelude : (externref : Bool) → Intrinsic → Option Expression
+intrinsic_prelude externref i.IsObject = Some object_test
+intrinsic_prelude externref i.NumberGet = Some (typed_value (codes "obj") (codes "number"))
+intrinsic_prelude externref i.StringGet = Some (typed_value (codes "obj") (codes "string"))
+intrinsic_prelude externref i.BooleanGet = Some (typed_value (codes "v") (codes "boolean"))
+intrinsic_prelude externref i.BigIntGetAsI64 = Some (typed_value (codes "v") (codes "bigint"))
+intrinsic_prelude externref i.TryIntoNumber = Some number_of
+intrinsic_prelude externref i.CheckedDiv = Some checked_quotient
+intrinsic_prelude externref i.ExternrefHeapLiveCount = counted_objects externref
+intrinsic_prelude externref other = None
 
 -- ---- other kinds
 
@@ -199,6 +254,34 @@ link content = record {
   value = unless_undefined object_url data_url blob_url;
 }
 
+-- `import.meta.url`
+abbrev pub module_url : List Part
+module_url = p.Key key.IMPORT ∷ p.Property (codes "meta") ∷ p.Property (codes "url") ∷ []
+
+-- where the glue file lies, on the targets whose glue file is an ES module
+abbrev pub file_base : Target → Option (List Part)
+file_base (targets.NoModules global) = None
+file_base (targets.Node false) = None
+file_base other = Some module_url
+
+-- `new URL("path", `
+abbrev pub file_front : (path : List ℕ) → List Part
+file_front path =
+    p.Key key.NEW ∷ p.Space ∷ host (codes "URL") ∷ p.Punct punct.OPEN_PAREN ∷ p.Literal path ∷ p.Punct punct.COMMA ∷ p.Space ∷ []
+
+-- `).toString()`
+abbrev pub file_back : List Part
+file_back = p.Punct punct.CLOSE_PAREN ∷ p.Property (codes "toString") ∷ p.Punct punct.OPEN_PAREN ∷ p.Punct punct.CLOSE_PAREN ∷ []
+
+-- `new URL("path", base).toString()`
+abbrev pub file_link : (path : List ℕ) → (base : List Part) → List Part
+file_link path base = file_front path ++ (base ++ file_back)
+
+-- a URL of the file at a path, where linked modules are split off, and else of a script with its content
+abbrev pub linked : (split : Bool) → Target → (path : List ℕ) → (content : Option (List ℕ)) → Option Expression
+linked true target path content = option_map (λ base. plain (file_link path base)) (file_base target)
+linked false target path content = option_map link content
+
 -- `typeof N === "undefined" ? undefined : N`, and the properties that are read from it where it is there
-abbrev pub present : (name : List ℕ) → (fields : List (List ℕ)) → List Part
-present name fields = unless_undefined (host name) (host (codes "undefined") ∷ []) (host name ∷ map p.Chained fields)
+abbrev pub present : (value : Part) → (fields : List (List ℕ)) → List Part
+present value fields = unless_undefined value (host (codes "undefined") ∷ []) (value ∷ map p.Chained fields)

@@ -1,53 +1,54 @@
 //! The expression of an import.
-ghost use Rattle.std.specs.Prelude.{◌≡◌, ◌++◌, ◌∷◌, [], is_some, IfOk};
-ghost use Rattle.std.specs.Option.{option_copied};
+ghost use Rattle.std.specs.Prelude.{◌≡◌, ◌++◌, ◌∷◌, [], IfOk};
 ghost use Rattle.glue_imports.specs.Expressions as spec;
 ghost use Rattle.glue_imports.specs.declared.part.Part.TheVariants as p;
 
 use crate::intrinsic::{has_parts, intrinsic_parts};
 use crate::part::{Expression, Part};
-use crate::prelude::{cast, instance_of, intrinsic_prelude, link, plain, present};
-use glue_shared::{AdapterJsImportKind, AuxImport, AuxValue, Intrinsic, JsImport, JsImportName};
+use crate::prelude::{
+    cast, has_link, instance_of, intrinsic_prelude, joined, linked, plain, present,
+};
+use crate::root::root;
+use glue_shared::{
+    AdapterJsImportKind, AuxImport, AuxValue, Intrinsic, JsImport, NameMap, Settings,
+};
 use glue_words::{key, punct};
 use std::alloc::{AllocError, Global};
 use values::{Duplicate, Seq, Text};
 
-/// The name of a global.
-pub fn global_name(name: &JsImportName) -> Option<&Text>
-    ensures name { option_copied result ≡ spec.global_name name.now }
-{
-    match name {
-        JsImportName::Global { name } => Some(name),
-        _ => None,
-    }
+/// What the expression of an import goes by, beside what is described of it.
+#[derive(Clone, Copy)]
+pub struct Basis<'a> {
+    /// The settings of the call.
+    pub settings: &'a Settings,
+    /// The names that are drawn.
+    pub names: &'a NameMap,
 }
 
-// The value that an import names, with parts before and behind it, where it is a global or a property of one.
+// The value that an import names, with parts before and behind it.
 fn around(
     alloc: Global,
+    names: &NameMap,
     front: Seq<Part>,
     js: &JsImport,
     behind: Seq<Part>,
-) -> Result<Option<Seq<Part>>, AllocError>
-    ensures parts { IfOk result (λ parts. parts ≡ spec.around front js.now behind) }
+) -> Result<Seq<Part>, AllocError>
+    ensures parts { IfOk result (λ parts. parts ≡ spec.around names.now front js.now behind) }
 {
-    match &js.name {
-        JsImportName::Global { name } => {
-            let mut parts = front;
-            parts.push(Part::Host(name.copy(alloc)?, js.fields.copy(alloc)?))?;
-            parts.append(behind)?;
-            Ok(Some(parts))
-        }
-        _ => Ok(None),
-    }
+    joined(front, joined(root(alloc, names, js)?, behind)?)
 }
 
 // The same without parts before it.
-fn before(alloc: Global, js: &JsImport, behind: Seq<Part>) -> Result<Option<Seq<Part>>, AllocError>
-    ensures parts { IfOk result (λ parts. parts ≡ spec.around [] js.now behind) }
+fn before(
+    alloc: Global,
+    names: &NameMap,
+    js: &JsImport,
+    behind: Seq<Part>,
+) -> Result<Seq<Part>, AllocError>
+    ensures parts { IfOk result (λ parts. parts ≡ spec.around names.now [] js.now behind) }
 {
     let none = Seq::new(alloc);
-    around(alloc, none, js, behind)
+    around(alloc, names, none, js, behind)
 }
 
 // One part by itself.
@@ -87,65 +88,143 @@ fn index(parts: Seq<Part>, place: usize) -> Result<Seq<Part>, AllocError>
     Ok(parts)
 }
 
+// A property of a value.
+fn property(alloc: Global, name: &Text) -> Result<Part, AllocError>
+    ensures part { IfOk result (λ part. part ≡ p.Property name.now) }
+{
+    Ok(Part::Property(name.copy(alloc)?))
+}
+
 // A value that is called, as a function, as a method of the first argument, or as a constructor.
 fn called(
     alloc: Global,
+    names: &NameMap,
     call: AdapterJsImportKind,
     spread: bool,
     js: &JsImport,
-) -> Result<Option<Seq<Part>>, AllocError>
-    ensures parts { IfOk result (λ parts. parts ≡ spec.called call spread js.now) }
+) -> Result<Seq<Part>, AllocError>
+    ensures parts { IfOk result (λ parts. parts ≡ spec.called names.now call spread js.now) }
 {
     match call {
-        AdapterJsImportKind::Normal => before(alloc, js, one(alloc, Part::Arguments(spread))?),
+        AdapterJsImportKind::Normal => {
+            before(alloc, names, js, one(alloc, Part::Arguments(spread))?)
+        }
         AdapterJsImportKind::Method => {
             let property = Part::Property(Text::from_str(alloc, "call")?);
-            before(alloc, js, two(alloc, property, Part::Arguments(spread))?)
+            let behind = two(alloc, property, Part::Arguments(spread))?;
+            before(alloc, names, js, behind)
         }
         AdapterJsImportKind::Constructor => {
             let front = two(alloc, Part::Key(key::NEW), Part::Space)?;
-            around(alloc, front, js, one(alloc, Part::Arguments(spread))?)
+            around(
+                alloc,
+                names,
+                front,
+                js,
+                one(alloc, Part::Arguments(spread))?,
+            )
         }
     }
 }
 
-// The values themselves: accessors need a helper function.
+// `, "field").get.call(..)`, or `.set`
+fn described_call(
+    alloc: Global,
+    field: &Text,
+    which: &str,
+    spread: bool,
+) -> Result<Seq<Part>, AllocError>
+    ensures parts { IfOk result (λ parts. parts ≡ spec.described_call field.now which.now spread) }
+{
+    let parts = vec![in alloc;
+        Part::Punct(punct::COMMA),
+        Part::Space,
+        Part::Literal(field.copy(alloc)?),
+        Part::Punct(punct::CLOSE_PAREN),
+        Part::Property(Text::from_str(alloc, which)?),
+        Part::Property(Text::from_str(alloc, "call")?),
+        Part::Arguments(spread),
+    ]?;
+    Ok(Seq::from_vec(parts))
+}
+
+// `.prototype`, where a property is one of instances.
+fn owner(alloc: Global, of_instances: bool) -> Result<Seq<Part>, AllocError>
+    ensures parts { IfOk result (λ parts. parts ≡ spec.owner of_instances) }
+{
+    if of_instances {
+        one(alloc, Part::Property(Text::from_str(alloc, "prototype")?))
+    } else {
+        Ok(Seq::new(alloc))
+    }
+}
+
+// The accessor of a property, of instances or of the class itself, called as a method.
+fn accessor(
+    alloc: Global,
+    names: &NameMap,
+    js: &JsImport,
+    of_instances: bool,
+    call: Seq<Part>,
+) -> Result<Seq<Part>, AllocError>
+    ensures parts { IfOk result (λ parts. parts ≡ spec.accessor names.now js.now of_instances call) }
+{
+    let helper = Part::Name(Text::from_str(alloc, "GetOwnOrInheritedPropertyDescriptor")?);
+    let front = two(alloc, helper, Part::Punct(punct::OPEN_PAREN))?;
+    around(
+        alloc,
+        names,
+        front,
+        js,
+        joined(owner(alloc, of_instances)?, call)?,
+    )
+}
+
+// The values themselves, and accessors of properties.
 fn value_parts(
     alloc: Global,
+    names: &NameMap,
     call: AdapterJsImportKind,
     spread: bool,
     value: &AuxValue,
-) -> Result<Option<Seq<Part>>, AllocError>
-    ensures parts { IfOk result (λ parts. parts ≡ spec.value_parts call spread value.now) }
+) -> Result<Seq<Part>, AllocError>
+    ensures parts { IfOk result (λ parts. parts ≡ spec.value_parts names.now call spread value.now) }
 {
     match value {
-        AuxValue::Bare(js) => called(alloc, call, spread, js),
-        _ => Ok(None),
+        AuxValue::Bare(js) => called(alloc, names, call, spread, js),
+        AuxValue::Getter(js, field) => {
+            let get = described_call(alloc, field, "get", spread)?;
+            accessor(alloc, names, js, true, get)
+        }
+        AuxValue::ClassGetter(js, field) => {
+            let get = described_call(alloc, field, "get", spread)?;
+            accessor(alloc, names, js, false, get)
+        }
+        AuxValue::Setter(js, field) => {
+            let set = described_call(alloc, field, "set", spread)?;
+            accessor(alloc, names, js, true, set)
+        }
+        AuxValue::ClassSetter(js, field) => {
+            let set = described_call(alloc, field, "set", spread)?;
+            accessor(alloc, names, js, false, set)
+        }
     }
 }
 
 // A static value, which may be absent.
 fn static_parts(
     alloc: Global,
+    names: &NameMap,
     js: &JsImport,
     optional: bool,
-) -> Result<Option<Seq<Part>>, AllocError>
-    ensures parts { IfOk result (λ parts. parts ≡ spec.static_parts js.now optional) }
+) -> Result<Seq<Part>, AllocError>
+    ensures parts { IfOk result (λ parts. parts ≡ spec.static_parts names.now js.now optional) }
 {
-    if !optional {
-        return before(alloc, js, Seq::new(alloc));
+    if optional {
+        present(alloc, names, &js.name, js.fields.as_slice())
+    } else {
+        root(alloc, names, js)
     }
-    match &js.name {
-        JsImportName::Global { name } => { Ok(Some(present(alloc, name, js.fields.as_slice())?)) }
-        _ => Ok(None),
-    }
-}
-
-// A property of a value.
-fn property(alloc: Global, name: &Text) -> Result<Part, AllocError>
-    ensures part { IfOk result (λ part. part ≡ p.Property name.now) }
-{
-    Ok(Part::Property(name.copy(alloc)?))
 }
 
 // A property of the first operand.
@@ -165,31 +244,39 @@ fn own_method(alloc: Global, spread: bool, name: &Text) -> Result<Seq<Part>, All
 }
 
 // The expression of what is named by a value and something of it.
-fn of_value(alloc: Global, spread: bool, what: &AuxImport) -> Result<Option<Seq<Part>>, AllocError>
-    ensures parts { IfOk result (λ parts. parts ≡ spec.of_value spread what.now) }
+fn of_value(
+    alloc: Global,
+    names: &NameMap,
+    spread: bool,
+    what: &AuxImport,
+) -> Result<Option<Seq<Part>>, AllocError>
+    ensures parts { IfOk result (λ parts. parts ≡ spec.of_value names.now spread what.now) }
 {
-    match what {
+    let parts = match what {
         AuxImport::ValueWithThis(js, name) => {
             let part = property(alloc, name)?;
-            before(alloc, js, two(alloc, part, Part::Arguments(spread))?)
+            before(alloc, names, js, two(alloc, part, Part::Arguments(spread))?)?
         }
         AuxImport::StructuralClassGetter(js, name) => {
-            before(alloc, js, one(alloc, property(alloc, name)?)?)
+            before(alloc, names, js, one(alloc, property(alloc, name)?)?)?
         }
         AuxImport::StructuralClassSetter(js, name) => {
             let part = one(alloc, property(alloc, name)?)?;
-            before(alloc, js, assign(part, 0)?)
+            before(alloc, names, js, assign(part, 0)?)?
         }
-        AuxImport::IndexingGetterOfClass(js) => before(alloc, js, index(Seq::new(alloc), 0)?),
+        AuxImport::IndexingGetterOfClass(js) => {
+            before(alloc, names, js, index(Seq::new(alloc), 0)?)?
+        }
         AuxImport::IndexingSetterOfClass(js) => {
-            before(alloc, js, assign(index(Seq::new(alloc), 0)?, 1)?)
+            before(alloc, names, js, assign(index(Seq::new(alloc), 0)?, 1)?)?
         }
         AuxImport::IndexingDeleterOfClass(js) => {
             let front = two(alloc, Part::Key(key::DELETE), Part::Space)?;
-            around(alloc, front, js, index(Seq::new(alloc), 0)?)
+            around(alloc, names, front, js, index(Seq::new(alloc), 0)?)?
         }
-        _ => Ok(None),
-    }
+        _ => return Ok(None),
+    };
+    Ok(Some(parts))
 }
 
 // The expression of what is something of the first operand.
@@ -221,50 +308,39 @@ fn of_operand(
 // The expression of an import that has no statements before it.
 fn parts_of(
     alloc: Global,
+    names: &NameMap,
     call: AdapterJsImportKind,
     spread: bool,
     what: &AuxImport,
 ) -> Result<Option<Seq<Part>>, AllocError>
-    ensures parts { IfOk result (λ parts. parts ≡ spec.parts_of call spread what.now) }
+    ensures parts { IfOk result (λ parts. parts ≡ spec.parts_of names.now call spread what.now) }
 {
     match what {
-        AuxImport::Value(value) => value_parts(alloc, call, spread, value),
-        AuxImport::Static(js, optional) => static_parts(alloc, js, *optional),
+        AuxImport::Value(value) => Ok(Some(value_parts(alloc, names, call, spread, value)?)),
+        AuxImport::Static(js, optional) => Ok(Some(static_parts(alloc, names, js, *optional)?)),
         AuxImport::String(text) => Ok(Some(one(alloc, Part::Literal(text.copy(alloc)?))?)),
         AuxImport::ValueWithThis(_, _)
         | AuxImport::StructuralClassGetter(_, _)
         | AuxImport::StructuralClassSetter(_, _)
         | AuxImport::IndexingGetterOfClass(_)
         | AuxImport::IndexingSetterOfClass(_)
-        | AuxImport::IndexingDeleterOfClass(_) => of_value(alloc, spread, what),
+        | AuxImport::IndexingDeleterOfClass(_) => of_value(alloc, names, spread, what),
         _ => of_operand(alloc, spread, what),
-    }
-}
-
-// Whether the operand is an instance of what an import names.
-fn instance_test(alloc: Global, js: &JsImport) -> Result<Option<Expression>, AllocError>
-    ensures expression { IfOk result (λ e. e ≡ spec.instance_test js.now) }
-{
-    match &js.name {
-        JsImportName::Global { name } => {
-            let value = Part::Host(name.copy(alloc)?, js.fields.copy(alloc)?);
-            Ok(Some(instance_of(alloc, value)?))
-        }
-        _ => Ok(None),
     }
 }
 
 // The expression of an intrinsic.
 fn intrinsic_expression(
     alloc: Global,
+    externref: bool,
     bound: bool,
     intrinsic: Intrinsic,
 ) -> Result<Option<Expression>, AllocError>
-    ensures expression { IfOk result (λ e. e ≡ spec.intrinsic_expression bound intrinsic) }
+    ensures expression { IfOk result (λ e. e ≡ spec.intrinsic_expression externref bound intrinsic) }
 {
     match plain(alloc, intrinsic_parts(alloc, bound, intrinsic)?) {
         Some(expression) => Ok(Some(expression)),
-        None => intrinsic_prelude(alloc, intrinsic),
+        None => intrinsic_prelude(alloc, externref, intrinsic),
     }
 }
 
@@ -272,53 +348,42 @@ fn intrinsic_expression(
 /// where it isn't built. Want of memory is the only error.
 pub fn expression(
     alloc: Global,
+    basis: &Basis<'_>,
     call: AdapterJsImportKind,
     spread: bool,
     bound: bool,
     what: &AuxImport,
 ) -> Result<Option<Expression>, AllocError>
-    ensures expression { IfOk result (λ e. e ≡ spec.expression call spread bound what.now) }
+    ensures expression { IfOk result (λ e. e ≡ spec.expression basis.now.settings.now basis.now.names.now call spread bound what.now) }
 {
+    let settings = basis.settings;
     match what {
-        AuxImport::Instanceof(js) => instance_test(alloc, js),
+        AuxImport::Instanceof(js) => {
+            let value = root(alloc, basis.names, js)?;
+            Ok(Some(instance_of(alloc, value)?))
+        }
         AuxImport::Cast(comment) => Ok(Some(cast(alloc, bound, comment)?)),
-        AuxImport::LinkTo(_, content) => link(alloc, content),
-        AuxImport::Intrinsic(intrinsic) => intrinsic_expression(alloc, bound, *intrinsic),
-        _ => Ok(plain(alloc, parts_of(alloc, call, spread, what)?)),
+        AuxImport::LinkTo(path, content) => {
+            let split = settings.split_linked_modules;
+            linked(alloc, split, &settings.target, path, content)
+        }
+        AuxImport::Intrinsic(intrinsic) => {
+            intrinsic_expression(alloc, settings.externref, bound, *intrinsic)
+        }
+        _ => Ok(plain(alloc, parts_of(alloc, basis.names, call, spread, what)?)),
     }
 }
 
-// Whether an import names a global or a property of one.
-fn names_global(js: &JsImport) -> bool
-    ensures test { result ≡ is_some (spec.global_name js.now.name) }
-{
-    global_name(&js.name).is_some()
-}
-
-/// Whether an import has an expression, however it is called.
-pub fn has_expression(what: &AuxImport) -> bool
-    ensures test { result ≡ spec.has_expression what.now }
+/// Whether an import has an expression, whatever names are drawn and however it is called.
+pub fn has_expression(settings: &Settings, what: &AuxImport) -> bool
+    ensures test { result ≡ spec.has_expression settings.now what.now }
 {
     match what {
-        AuxImport::Value(AuxValue::Bare(js))
-        | AuxImport::ValueWithThis(js, _)
-        | AuxImport::Instanceof(js)
-        | AuxImport::Static(js, _)
-        | AuxImport::StructuralClassGetter(js, _)
-        | AuxImport::StructuralClassSetter(js, _)
-        | AuxImport::IndexingGetterOfClass(js)
-        | AuxImport::IndexingSetterOfClass(js)
-        | AuxImport::IndexingDeleterOfClass(js) => names_global(js),
-        AuxImport::LinkTo(_, content) => content.is_some(),
-        AuxImport::String(_)
-        | AuxImport::Cast(_)
-        | AuxImport::StructuralMethod(_)
-        | AuxImport::StructuralGetter(_)
-        | AuxImport::StructuralSetter(_)
-        | AuxImport::IndexingGetterOfObject
-        | AuxImport::IndexingSetterOfObject
-        | AuxImport::IndexingDeleterOfObject => true,
-        AuxImport::Intrinsic(intrinsic) => has_parts(*intrinsic),
-        _ => false,
+        AuxImport::LinkTo(_, content) => {
+            has_link(settings.split_linked_modules, &settings.target, content)
+        }
+        AuxImport::Intrinsic(intrinsic) => has_parts(settings.externref, *intrinsic),
+        AuxImport::WrapInExportedClass(_) | AuxImport::UnwrapExportedClass(_) => false,
+        _ => true,
     }
 }

@@ -171,6 +171,34 @@ fn copy_to_array(alloc: Global) -> Result<Seq<Part>, AllocError>
     Ok(Seq::from_vec(parts))
 }
 
+// `debugString(a)`
+fn debug_text(alloc: Global) -> Result<Seq<Part>, AllocError>
+    ensures parts { IfOk result (λ parts. parts ≡ spec.debug_text) }
+{
+    let parts = vec![in alloc;
+        Part::Name(Text::from_str(alloc, "debugString")?),
+        Part::Punct(punct::OPEN_PAREN),
+        Part::Whole(0),
+        Part::Punct(punct::CLOSE_PAREN),
+    ]?;
+    Ok(Seq::from_vec(parts))
+}
+
+// `new PanicError(a)`
+fn panic_error(alloc: Global) -> Result<Seq<Part>, AllocError>
+    ensures parts { IfOk result (λ parts. parts ≡ spec.panic_error) }
+{
+    let parts = vec![in alloc;
+        Part::Key(key::NEW),
+        Part::Space,
+        Part::Name(Text::from_str(alloc, "PanicError")?),
+        Part::Punct(punct::OPEN_PAREN),
+        Part::Whole(0),
+        Part::Punct(punct::CLOSE_PAREN),
+    ]?;
+    Ok(Seq::from_vec(parts))
+}
+
 // `throw new Error(a)`
 fn thrown_error(alloc: Global) -> Result<Seq<Part>, AllocError>
     ensures parts { IfOk result (λ parts. parts ≡ spec.thrown_error) }
@@ -228,6 +256,8 @@ fn other_intrinsic(
         Intrinsic::Exports => one(alloc, Part::Exports)?,
         Intrinsic::Reinit => one(alloc, host(alloc, "undefined")?)?,
         Intrinsic::CopyToTypedArray => copy_to_array(alloc)?,
+        Intrinsic::DebugString => debug_text(alloc)?,
+        Intrinsic::PanicError => panic_error(alloc)?,
         Intrinsic::Throw => thrown_error(alloc)?,
         Intrinsic::Rethrow => keyword_before(alloc, key::THROW)?,
         _ => return Ok(None),
@@ -264,19 +294,17 @@ pub fn intrinsic_parts(
     }
 }
 
-/// Whether an intrinsic has an expression here.
-pub fn has_parts(intrinsic: Intrinsic) -> bool
-    ensures test { result ≡ is_some (exprs.intrinsic_expression false intrinsic) }
+/// Whether an intrinsic has an expression here, where the setting `externref` has this value.
+pub fn has_parts(externref: bool, intrinsic: Intrinsic) -> bool
+    ensures test { result ≡ is_some (exprs.intrinsic_expression externref false intrinsic) }
 {
     match intrinsic {
-        Intrinsic::DebugString
-        | Intrinsic::ExternrefHeapLiveCount
-        | Intrinsic::FunctionTable
+        Intrinsic::ExternrefHeapLiveCount => !externref,
+        Intrinsic::FunctionTable
         | Intrinsic::InitExternrefTable
         | Intrinsic::Instance
         | Intrinsic::Memory
         | Intrinsic::Module
-        | Intrinsic::PanicError
         | Intrinsic::StringFromUtf8Lossy => false,
         _ => true,
     }

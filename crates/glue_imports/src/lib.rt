@@ -1,11 +1,13 @@
 //! The JavaScript expression that a description asks for where an import is called.
 //!
-//! `expression` gives it as parts: words that are known from the description, and places for the operands, and for the locals of the
-//! statements before it, where it has some. Promised: exactly the parts of `expression` in `specs/Expressions.antt`, of intrinsics those
-//! of the tables in `specs/Intrinsics.antt`, and with statements those of `specs/Preludes.antt`; nothing but want of memory fails. Whether
-//! an import has an expression doesn't depend on how it is called (`proofs/Any.antt`). That the parts of each stand well beside one
-//! another is shown above, in `glue_context`. Values of another root than a global, accessors, and what needs a helper or another export
-//! have no parts here yet.
+//! `expression` gives it as parts: words that are known from the description, the settings and the names that are drawn (`Basis`), and
+//! places for the operands, and for the locals of the statements before it, where it has some. What the value that an import names begins
+//! with is a global, or else the name that was drawn for it (`specs/Roots.antt`). Promised: exactly the parts of `expression` in
+//! `specs/Expressions.antt`, of intrinsics those of the tables in `specs/Intrinsics.antt`, and with statements those of
+//! `specs/Preludes.antt`; nothing but want of memory fails. Whether an import has an expression depends neither on the names nor on how it
+//! is called (`proofs/Any.antt`). That the parts of each stand well beside one another is shown above, in `glue_context`. Classes that are
+//! wrapped or unwrapped, and operations that need another export, have no parts here yet, nor have links to files on a target whose glue
+//! file is no ES module. Helpers are named by the names that they bind.
 //!
 //! A kind of import more is a line of the definition and an arm of the function; an intrinsic more is a line of a table in both.
 //!
@@ -16,6 +18,8 @@ mod expressions;
 mod intrinsic;
 mod part;
 mod prelude;
+mod root;
 
-pub use expressions::{expression, global_name, has_expression};
+pub use expressions::{Basis, expression, has_expression};
 pub use part::{Expression, Part};
+pub use root::global_name;

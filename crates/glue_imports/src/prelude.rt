@@ -1,12 +1,14 @@
 //! Expressions with statements before them, which declare locals of their own.
-ghost use Rattle.std.specs.Prelude.{◌≡◌, ◌++◌, ◌∷◌, [], map, option_map, IfOk, OnOk};
+ghost use Rattle.std.specs.Prelude.{◌≡◌, ◌++◌, ◌∷◌, [], ℕ, List, true, None, map, is_some, option_map, IfOk, OnOk};
 ghost use Rattle.glue_imports.specs.declared.part.Part.TheVariants as p;
 ghost use Rattle.glue_imports.specs.Intrinsics as words;
 ghost use Rattle.glue_imports.specs.Preludes as spec;
+ghost use Rattle.glue_imports.specs.Roots as roots;
 
 use crate::intrinsic::{host, same};
 use crate::part::{Expression, Part};
-use glue_shared::Intrinsic;
+use crate::root::root_name;
+use glue_shared::{Intrinsic, JsImportName, NameMap, Target};
 use glue_words::{key, punct};
 use std::alloc::{AllocError, Global};
 use values::{Duplicate, Seq, Text};
@@ -51,8 +53,8 @@ fn one(alloc: Global, part: Part) -> Result<Seq<Part>, AllocError>
     Ok(Seq::from_vec(vec![in alloc; part]?))
 }
 
-// Parts behind others.
-fn joined(front: Seq<Part>, behind: Seq<Part>) -> Result<Seq<Part>, AllocError>
+/// Parts behind others.
+pub fn joined(front: Seq<Part>, behind: Seq<Part>) -> Result<Seq<Part>, AllocError>
     ensures parts { IfOk result (λ parts. parts ≡ front ++ behind) }
 {
     let mut parts = front;
@@ -241,7 +243,7 @@ fn object_test(alloc: Global) -> Result<Expression, AllocError>
 // ---- expressions that are tried
 
 /// Whether the operand is an instance of a value; where the test throws it isn't.
-pub fn instance_of(alloc: Global, value: Part) -> Result<Expression, AllocError>
+pub fn instance_of(alloc: Global, value: Seq<Part>) -> Result<Expression, AllocError>
     ensures expression { IfOk result (λ e. e ≡ spec.instance_of value) }
 {
     let test = vec![in alloc;
@@ -249,12 +251,12 @@ pub fn instance_of(alloc: Global, value: Part) -> Result<Expression, AllocError>
         Part::Space,
         Part::Key(key::INSTANCEOF),
         Part::Space,
-        value,
     ]?;
+    let test = joined(Seq::from_vec(test), value)?;
     let caught = result_is(alloc, ended(one(alloc, Part::Key(key::FALSE))?)?)?;
     Ok(Expression {
         locals: two_names(alloc, "result", "_")?,
-        prelude: tried(alloc, Seq::from_vec(test), caught)?,
+        prelude: tried(alloc, test, caught)?,
         value: one(alloc, Part::Local(0))?,
     })
 }
@@ -354,14 +356,161 @@ fn checked_quotient(alloc: Global) -> Result<Expression, AllocError>
     })
 }
 
+// ---- the count of objects in the object table
+
+// A name of the module's scope.
+fn scoped(alloc: Global, name: &str) -> Result<Part, AllocError>
+    ensures part { IfOk result (λ part. part ≡ p.Name name.now) }
+{
+    Ok(Part::Name(Text::from_str(alloc, name)?))
+}
+
+// A property by its name.
+fn property(alloc: Global, name: &str) -> Result<Part, AllocError>
+    ensures part { IfOk result (λ part. part ≡ p.Property name.now) }
+{
+    Ok(Part::Property(Text::from_str(alloc, name)?))
+}
+
+// `let x = value;`
+fn let_value(alloc: Global, place: usize, value: Part) -> Result<Seq<Part>, AllocError>
+    ensures parts { IfOk result (λ parts. parts ≡ spec.let_value place value) }
+{
+    let parts = vec![in alloc;
+        Part::Key(key::LET),
+        Part::Space,
+        Part::Binding(place),
+        Part::Space,
+        Part::Punct(punct::ASSIGN),
+        Part::Space,
+        value,
+    ]?;
+    ended(Seq::from_vec(parts))
+}
+
+// `let free_count = 0;` and `let next = heap_next;`
+fn count_front(alloc: Global) -> Result<Seq<Part>, AllocError>
+    ensures parts { IfOk result (λ parts. parts ≡ spec.count_front) }
+{
+    let first = let_value(alloc, 0, Part::Number(0))?;
+    joined(first, let_value(alloc, 1, scoped(alloc, "heap_next")?)?)
+}
+
+// `heap.length`
+fn heap_length(alloc: Global) -> Result<Seq<Part>, AllocError>
+    ensures parts { IfOk result (λ parts. parts ≡ spec.heap_length) }
+{
+    let parts = vec![in alloc; scoped(alloc, "heap")?, property(alloc, "length")?]?;
+    Ok(Seq::from_vec(parts))
+}
+
+// `while (next < heap.length) {` and a line feed
+fn count_test(alloc: Global) -> Result<Seq<Part>, AllocError>
+    ensures parts { IfOk result (λ parts. parts ≡ spec.count_test) }
+{
+    let front = vec![in alloc;
+        Part::Key(key::WHILE),
+        Part::Space,
+        Part::Punct(punct::OPEN_PAREN),
+        Part::Local(1),
+        Part::Space,
+        Part::Punct(punct::LESS),
+        Part::Space,
+    ]?;
+    let back = vec![in alloc;
+        Part::Punct(punct::CLOSE_PAREN),
+        Part::Space,
+        Part::Punct(punct::OPEN_BRACE),
+        Part::LineFeed,
+    ]?;
+    let test = joined(heap_length(alloc)?, Seq::from_vec(back))?;
+    joined(Seq::from_vec(front), test)
+}
+
+// `free_count += 1;`
+fn free_counted(alloc: Global) -> Result<Seq<Part>, AllocError>
+    ensures parts { IfOk result (λ parts. parts ≡ spec.free_counted) }
+{
+    let parts = vec![in alloc;
+        Part::Local(0),
+        Part::Space,
+        Part::Punct(punct::ADD_ASSIGN),
+        Part::Space,
+        Part::Number(1),
+    ]?;
+    ended(Seq::from_vec(parts))
+}
+
+// `next = heap[next];`
+fn next_free(alloc: Global) -> Result<Seq<Part>, AllocError>
+    ensures parts { IfOk result (λ parts. parts ≡ spec.next_free) }
+{
+    let parts = vec![in alloc;
+        Part::Local(1),
+        Part::Space,
+        Part::Punct(punct::ASSIGN),
+        Part::Space,
+        scoped(alloc, "heap")?,
+        Part::Punct(punct::OPEN_BRACKET),
+        Part::Local(1),
+        Part::Punct(punct::CLOSE_BRACKET),
+    ]?;
+    ended(Seq::from_vec(parts))
+}
+
+// ` - a`
+fn less(alloc: Global, value: Part) -> Result<Seq<Part>, AllocError>
+    ensures parts { IfOk result (λ parts. parts ≡ spec.less value) }
+{
+    let parts = vec![in alloc; Part::Space, Part::Punct(punct::MINUS), Part::Space, value]?;
+    Ok(Seq::from_vec(parts))
+}
+
+// `heap.length - free_count - 1024 - 4`
+fn count_value(alloc: Global) -> Result<Seq<Part>, AllocError>
+    ensures parts { IfOk result (λ parts. parts ≡ spec.count_value) }
+{
+    let fixed = joined(
+        less(alloc, Part::Number(1024))?,
+        less(alloc, Part::Number(4))?,
+    )?;
+    let taken = joined(less(alloc, Part::Local(0))?, fixed)?;
+    joined(heap_length(alloc)?, taken)
+}
+
+// How many objects the object table holds.
+fn live_objects(alloc: Global) -> Result<Expression, AllocError>
+    ensures expression { IfOk result (λ e. e ≡ spec.live_objects) }
+{
+    let step = joined(free_counted(alloc)?, closed(next_free(alloc)?)?)?;
+    let counted = joined(count_test(alloc)?, step)?;
+    Ok(Expression {
+        locals: two_names(alloc, "free_count", "next")?,
+        prelude: joined(count_front(alloc)?, counted)?,
+        value: count_value(alloc)?,
+    })
+}
+
+// The same, where there is an object table.
+fn counted_objects(alloc: Global, externref: bool) -> Result<Option<Expression>, AllocError>
+    ensures expression { IfOk result (λ e. e ≡ spec.counted_objects externref) }
+{
+    if externref {
+        Ok(None)
+    } else {
+        Ok(Some(live_objects(alloc)?))
+    }
+}
+
 // ---- intrinsics
 
-/// The expression of an intrinsic that has statements before it.
+/// The expression of an intrinsic that has statements before it, where the setting `externref` has this value.
 pub fn intrinsic_prelude(
     alloc: Global,
+    externref: bool,
     intrinsic: Intrinsic,
 ) -> Result<Option<Expression>, AllocError>
-    ensures expression { IfOk result (λ e. e ≡ spec.intrinsic_prelude intrinsic) }
+    ensures expression { IfOk result (λ e. e ≡ spec.intrinsic_prelude externref intrinsic) }
 {
     let expression = match intrinsic {
         Intrinsic::IsObject => object_test(alloc)?,
@@ -371,6 +520,7 @@ pub fn intrinsic_prelude(
         Intrinsic::BigIntGetAsI64 => typed_value(alloc, "v", "bigint")?,
         Intrinsic::TryIntoNumber => number_of(alloc)?,
         Intrinsic::CheckedDiv => checked_quotient(alloc)?,
+        Intrinsic::ExternrefHeapLiveCount => return counted_objects(alloc, externref),
         _ => return Ok(None),
     };
     Ok(Some(expression))
@@ -510,13 +660,111 @@ fn link_of(alloc: Global, content: &Text) -> Result<Expression, AllocError>
     })
 }
 
-/// A URL of a script with this content, where there is one.
-pub fn link(alloc: Global, content: &Option<Text>) -> Result<Option<Expression>, AllocError>
+// A URL of a script with this content, where there is one.
+fn link(alloc: Global, content: &Option<Text>) -> Result<Option<Expression>, AllocError>
     ensures expression { IfOk result (λ e. e ≡ option_map spec.link content.now) }
 {
     match content {
         None => Ok(None),
         Some(content) => Ok(Some(link_of(alloc, content)?)),
+    }
+}
+
+// `import.meta.url`
+fn module_url(alloc: Global) -> Result<Seq<Part>, AllocError>
+    ensures parts { IfOk result (λ parts. parts ≡ spec.module_url) }
+{
+    let parts = vec![in alloc;
+        Part::Key(key::IMPORT),
+        property(alloc, "meta")?,
+        property(alloc, "url")?,
+    ]?;
+    Ok(Seq::from_vec(parts))
+}
+
+// Whether the glue file of a target is an ES module.
+fn has_file_base(target: &Target) -> bool
+    ensures test { result ≡ is_some (spec.file_base target.now) }
+{
+    !matches!(
+        target,
+        Target::NoModules { .. } | Target::Node { module: false }
+    )
+}
+
+// `new URL("path", `
+fn file_front(alloc: Global, path: &Text) -> Result<Seq<Part>, AllocError>
+    ensures parts { IfOk result (λ parts. parts ≡ spec.file_front path.now) }
+{
+    let parts = vec![in alloc;
+        Part::Key(key::NEW),
+        Part::Space,
+        host(alloc, "URL")?,
+        Part::Punct(punct::OPEN_PAREN),
+        Part::Literal(path.copy(alloc)?),
+        Part::Punct(punct::COMMA),
+        Part::Space,
+    ]?;
+    Ok(Seq::from_vec(parts))
+}
+
+// `).toString()`
+fn file_back(alloc: Global) -> Result<Seq<Part>, AllocError>
+    ensures parts { IfOk result (λ parts. parts ≡ spec.file_back) }
+{
+    let parts = vec![in alloc;
+        Part::Punct(punct::CLOSE_PAREN),
+        property(alloc, "toString")?,
+        Part::Punct(punct::OPEN_PAREN),
+        Part::Punct(punct::CLOSE_PAREN),
+    ]?;
+    Ok(Seq::from_vec(parts))
+}
+
+// `new URL("path", base).toString()`
+fn file_link(alloc: Global, path: &Text, base: Seq<Part>) -> Result<Seq<Part>, AllocError>
+    ensures parts { IfOk result (λ parts. parts ≡ spec.file_link path.now base) }
+{
+    joined(file_front(alloc, path)?, joined(base, file_back(alloc)?)?)
+}
+
+// A URL of the file at a path, on the targets whose glue file is an ES module.
+fn split_link(alloc: Global, target: &Target, path: &Text) -> Result<Option<Expression>, AllocError>
+    ensures expression { IfOk result (λ e. e ≡ spec.linked true target.now path.now None) }
+{
+    if has_file_base(target) {
+        let value = file_link(alloc, path, module_url(alloc)?)?;
+        Ok(plain(alloc, Some(value)))
+    } else {
+        Ok(None)
+    }
+}
+
+/// A URL of the file at a path, where linked modules are split off, and else of a script with its content, where there is one.
+pub fn linked(
+    alloc: Global,
+    split: bool,
+    target: &Target,
+    path: &Text,
+    content: &Option<Text>,
+) -> Result<Option<Expression>, AllocError>
+    ensures expression { IfOk result (λ e. e ≡ spec.linked split target.now path.now content.now) }
+{
+    if split {
+        split_link(alloc, target, path)
+    } else {
+        link(alloc, content)
+    }
+}
+
+/// Whether there is such a URL.
+pub fn has_link(split: bool, target: &Target, content: &Option<Text>) -> bool
+    ensures test { (path : List ℕ) → result ≡ is_some (spec.linked split target.now path content.now) }
+{
+    if split {
+        has_file_base(target)
+    } else {
+        content.is_some()
     }
 }
 
@@ -530,12 +778,17 @@ fn push_chained(alloc: Global, fields: &[Text], parts: &mut Seq<Part>) -> Result
     Ok(())
 }
 
-/// The value of a global that may be absent, and the properties that are read from it.
-pub fn present(alloc: Global, name: &Text, fields: &[Text]) -> Result<Seq<Part>, AllocError>
-    ensures parts { IfOk result (λ parts. parts ≡ spec.present name.now fields.now) }
+/// The value of a name that may be absent, and the properties that are read from it.
+pub fn present(
+    alloc: Global,
+    names: &NameMap,
+    name: &JsImportName,
+    fields: &[Text],
+) -> Result<Seq<Part>, AllocError>
+    ensures parts { IfOk result (λ parts. parts ≡ spec.present (roots.root_name names.now name.now) fields.now) }
 {
-    let mut read = one(alloc, host(alloc, name.as_str())?)?;
+    let mut read = one(alloc, root_name(alloc, names, name)?)?;
     push_chained(alloc, fields, &mut read)?;
     let undefined = one(alloc, host(alloc, "undefined")?)?;
-    unless_undefined(alloc, host(alloc, name.as_str())?, undefined, read)
+    unless_undefined(alloc, root_name(alloc, names, name)?, undefined, read)
 }

@@ -207,7 +207,7 @@ at_once one other name (w ∷ list) (n ∷ names) d (inl p) (inr k) = absurd (d.
 at_once one other name (w ∷ list) (n ∷ names) d (inr h) (inl q) = absurd (d.0 (subst (λ (x : List ℕ). IsIn x names) q.1 (at_in one name list names h)))
 at_once one other name (w ∷ list) (n ∷ names) d (inr h) (inr k) = at_once one other name list names d.1 h k
 
-all_at : (p : List ℕ → Bool) (x : List ℕ) (xs : List (List ℕ)) → list_all p xs ≡ true → IsIn x xs → p x ≡ true
+pub all_at : {A : Type 0} (p : A → Bool) (x : A) (xs : List A) → list_all p xs ≡ true → IsIn x xs → p x ≡ true
 all_at p x [] h i = absurd i
 all_at p x (y ∷ xs) h (inl same) = ap p same ∙ (and_parts (p y) (list_all p xs) h).0
 all_at p x (y ∷ xs) h (inr i) = all_at p x xs (and_parts (p y) (list_all p xs) h).1 i
@@ -215,7 +215,7 @@ all_at p x (y ∷ xs) h (inr i) = all_at p x xs (and_parts (p y) (list_all p xs)
 pub stands : (list : List Wanted) (names : List (List ℕ)) (m : NameMap) (thing : Named) (name : List ℕ) → m ≡ map_of no_names list names → name_in m thing ≡ Some name → IsAt thing name list names
 stands list names m thing name is e = elim (located no_names list names thing name (ap (λ (x : NameMap). name_in x thing) (sym is) ∙ e)) [ inl h ↦ h | inr n ↦ absurd (none_in thing name n) ]
 
-pub not_there : (b : Bool) → (b ≡ true → ⊥) → b ≡ false
+not_there : (b : Bool) → (b ≡ true → ⊥) → b ≡ false
 not_there true h = absurd (h refl)
 not_there false h = refl
 

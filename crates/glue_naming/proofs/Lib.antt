@@ -1,8 +1,9 @@
 pub mod Arranged
+pub mod CalledNames
 mod Draws
-mod Globals
+pub mod Functions
 mod ImportOrder
 mod Kept
 mod Once
-pub mod Own
+pub mod OnceNames
 mod Reserved

@@ -1,14 +1,19 @@
--- Names that are given, put into a set one list after another.
-use Rattle.std.proofs.Common.{◌≡◌, ℕ, zero, suc, List, [], ◌∷◌, ◌++◌, map, Option, Some, None, refl, ◌∙◌}
+-- Names that no drawn one may be: put into a set one list after another, and what is among them.
+use Rattle.std.proofs.Common.{◌≡◌, ℕ, zero, suc, true, false, true≢false, List, [], ◌∷◌, ◌++◌, map, Option, Some, None, refl, sym, ◌∙◌}
+use Rattle.std.specs.FinSet as set
 use Rattle.std.specs.List.{flat_map}
+use Rattle.values.specs.Lists.{IsIn, AreApart}
 use Rattle.values.specs.TextSet.{with_texts}
 use Rattle.wasm_core.specs.declared.types.Import.{Import}
+use Rattle.glue_words.proofs.Among.{apart_by}
+use Rattle.glue_scope.proofs.Drawn.{with_texts-append, with_texts_keeps, with_texts_there}
 use Rattle.glue_shared.specs.declared.description.Lowered.{Lowered}
 use Rattle.glue_shared.specs.declared.settings.Settings.{Settings}
-use Rattle.glue_shared.specs.Names.{name_at, own_imports, own_names}
-use Rattle.glue_scope.proofs.Drawn.{with_texts-append}
+use Rattle.glue_shared.specs.Names.{fixed_names, host_names, name_at, own_imports, own_names}
 use Rattle.glue_check.specs.Taken.{taken_names}
-use Rattle.glue_naming.specs.Given.{closure_export, import_name_at, values_name, bundled_names, reserved_names}
+use Rattle.glue_naming.specs.Given.{closure_export, import_name_at, values_name, bundled_names, given_names, reserved_names}
+
+-- ---- lists of given names
 
 -- the reserved names are those of four lists
 pub given_joined : (s : Settings) (l : Lowered) → reserved_names s l
@@ -33,3 +38,27 @@ names_found imports (place ∷ places) = rw (name_found imports place, names_fou
 pub own_joined : (s : Settings) (l : Lowered) → own_names s l.«module» l.wit l.aux ≡ flat_map (import_name_at l.«module».imports) (own_imports s l.«module» l.wit l.aux)
 unfolding own_names
 own_joined s l = names_found l.«module».imports (own_imports s l.«module» l.wit l.aux)
+
+-- ---- what is reserved
+
+module _ (s : Settings) (l : Lowered) where
+  -- names of the outside, and those that the glue file binds in each case, are reserved
+  host_reserved : (name : List ℕ) → IsIn name (host_names s l.aux) → set.contains (reserved_names s l) name ≡ true
+  host_reserved name i =
+      with_texts_keeps (taken_names s l) (given_names s l) name
+      (with_texts_keeps (with_texts set.empty (host_names s l.aux)) (fixed_names s l.«module») name
+      (with_texts_there set.empty (host_names s l.aux) name i))
+
+  fixed_reserved : (name : List ℕ) → IsIn name (fixed_names s l.«module») → set.contains (reserved_names s l) name ≡ true
+  fixed_reserved name i =
+      with_texts_keeps (taken_names s l) (given_names s l) name
+      (with_texts_there (with_texts set.empty (host_names s l.aux)) (fixed_names s l.«module») name i)
+
+  -- so names none of which is reserved are none of these
+  pub free_no_host : (names : List (List ℕ)) → ((name : List ℕ) → IsIn name names → set.contains (reserved_names s l) name ≡ false)
+      → AreApart names (host_names s l.aux)
+  free_no_host names free = apart_by names (host_names s l.aux) (λ name i k. true≢false (sym (host_reserved name k) ∙ free name i))
+
+  pub free_no_fixed : (names : List (List ℕ)) → ((name : List ℕ) → IsIn name names → set.contains (reserved_names s l) name ≡ false)
+      → AreApart names (fixed_names s l.«module»)
+  free_no_fixed names free = apart_by names (fixed_names s l.«module») (λ name i k. true≢false (sym (fixed_reserved name k) ∙ free name i))

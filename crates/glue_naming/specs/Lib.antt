@@ -6,3 +6,4 @@ pub mod Imported
 pub mod Handed
 pub mod Wanted
 pub mod Naming
+pub mod Listed

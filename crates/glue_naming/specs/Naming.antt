@@ -1,6 +1,5 @@
 -- The names of what a description declares.
-use Rattle.std.specs.Prelude.{ℕ, Bool, false, List, Option, Some, None}
-use Rattle.std.specs.Str.{bytes_eq}
+use Rattle.std.specs.Prelude.{ℕ, Bool, List, [], Option, is_some, unwrap_or}
 use Rattle.glue_shared.specs.declared.aux.AuxExport.{AuxExport}
 use Rattle.glue_shared.specs.declared.description.Lowered.{Lowered}
 use Rattle.glue_shared.specs.declared.import.JsImportName.{JsImportName}
@@ -17,17 +16,17 @@ use Rattle.glue_naming.specs.Wanted.{AreWanted}
 abbrev pub function_name : NameMap → AuxExport → Option (List ℕ)
 function_name m e = name_in m (Function (qualified e))
 
+-- an export's function was given a name
+abbrev pub is_named : NameMap → AuxExport → Bool
+is_named m e = is_some (function_name m e)
+
+-- that name, or the empty text where none was given
+abbrev pub declared_name : NameMap → AuxExport → List ℕ
+declared_name m e = unwrap_or (function_name m e) []
+
 -- the name that stands for what an import begins with, where one was drawn
 abbrev pub import_name : NameMap → JsImportName → Option (List ℕ)
 import_name m name = name_in m (Import name)
-
--- the function of an export was given its own name
-abbrev pub is_own_name : NameMap → AuxExport → Bool
-is_own_name m e = is_that (function_name m e)
-  where
-    is_that : Option (List ℕ) → Bool
-    is_that None = false
-    is_that (Some name) = bytes_eq name e.name
 
 -- the maps have the names that are drawn for what is described, in its order, where the reserved ones are bound
 pub record AreNames (s : Settings) (l : Lowered) (m : NameMap) : Type 0 where

@@ -146,8 +146,8 @@ fn own_called(
     Ok(list)
 }
 
-// What the adapters of own imports among these pairs call.
-fn names_called(
+/// What the adapters of own imports among these pairs call. Want of memory is the only error.
+pub(crate) fn names_called(
     alloc: Global,
     settings: &Settings,
     lowered: &Lowered,
@@ -177,8 +177,11 @@ fn push_new(
     Ok(())
 }
 
-// Each of these names once, where it comes first.
-fn each_once(alloc: Global, list: &[JsImportName]) -> Result<Seq<JsImportName>, AllocError>
+/// Each of these names once, where it comes first. Want of memory is the only error.
+pub(crate) fn each_once(
+    alloc: Global,
+    list: &[JsImportName],
+) -> Result<Seq<JsImportName>, AllocError>
     ensures once { IfOk result (λ once. once ≡ spec.each_once list.now) }
 {
     let mut seen = Map::new(alloc);

@@ -11,9 +11,12 @@
 //!
 //! Promised of `draw_names` (`names`, by the record `AreNames` in `specs/Naming.antt`): the maps have the names that any scope
 //! (`glue_scope::Names`) draws for that list; each is an identifier and none that is reserved, and two things have two names
-//! (`AreGood` in `specs/Drawing.antt`). And (`own`): each exported function of a description that is checked draws its own name; of
-//! imports it draws none, since all that they begin with are globals (`proofs/Globals.antt`). `function_name` and `import_name` read the
-//! maps. `pairs_by_import` (`sorted`) gives the pairs in the order in which imports are named, and defined in the crate above.
+//! (`AreGood` in `specs/Drawing.antt`). And (`named`): each exported function of a description that is checked has a name, its own where
+//! that is an identifier, not reserved and not drawn earlier (`kept` of `IsDrawnMap`). `proofs/Functions.antt` says of these names, and
+//! `proofs/CalledNames.antt` of those that are drawn for what own imports call, that they are distinct identifiers that stand for nothing
+//! else. `function_name` and `import_name` read the maps, and `drawn_imports` (`listed`) gives what own imports call with the names that
+//! were drawn for it, each once (`specs/Listed.antt`). `pairs_by_import` (`sorted`) gives the pairs in the order in which imports are
+//! named, and defined in the crate above.
 //!
 //! Stands on `glue_check`, `glue_scope`, `glue_words`, `glue_shared` and `wasm_core`. It knows no item.
 #![tactic(auto)]
@@ -23,6 +26,7 @@ mod drawing;
 mod given;
 mod handed;
 mod imported;
+mod listed;
 mod named;
 mod naming;
 mod pairs;
@@ -32,6 +36,7 @@ mod tests;
 pub use asked::wanted;
 pub use drawing::name_all;
 pub use handed::handed_imports;
+pub use listed::drawn_imports;
 pub use named::{Named, Wanted, WantedName, name_in};
 pub use naming::{draw_names, function_name, import_name, names_of};
 pub use pairs::{own_pairs_by_import, pairs_by_import};

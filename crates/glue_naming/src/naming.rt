@@ -1,7 +1,7 @@
 //! The names of what a description declares.
-ghost use Rattle.std.specs.Prelude.{◌≡◌, IfOk, Some};
+ghost use Rattle.std.specs.Prelude.{◌≡◌, IfOk, true};
+ghost use Rattle.std.specs.List.{list_all};
 ghost use Rattle.std.specs.Option.{option_copied};
-ghost use Rattle.values.specs.Lists.{IsIn};
 ghost use Rattle.glue_naming.specs.Naming as spec;
 
 use crate::asked::wanted;
@@ -27,10 +27,11 @@ pub fn names_of<N: Names>(
     name_all(alloc, scope, list.as_slice())
 }
 
-/// The names of what a checked description declares. Want of memory is the only error.
+/// The names of what a checked description declares. Each exported function has one: its own where that is an identifier, not reserved and
+/// not drawn earlier. Want of memory is the only error.
 pub fn draw_names<N: Names>(alloc: Global, checked: &Checked) -> Result<NameMap, AllocError>
     ensures names { IfOk result (λ map. spec.AreNames checked.now.settings checked.now.lowered map) }
-    ensures own { IfOk result (λ map. (e : AuxExport) → IsIn e checked.now.lowered.aux.exports → spec.function_name map e ≡ Some e.name) }
+    ensures named { IfOk result (λ map. list_all (spec.is_named map) checked.now.lowered.aux.exports ≡ true) }
 {
     names_of::<N>(alloc, checked.settings(), checked.lowered())
 }

@@ -1,1 +1,2 @@
 mod Resolved
+pub mod Named

@@ -15,6 +15,8 @@ use Rattle.glue_shared.specs.declared.adapter.Instruction.{Instruction}
 use Rattle.glue_shared.specs.declared.adapter.Instruction.TheVariants as instr
 use Rattle.glue_shared.specs.declared.import.AuxImport.{AuxImport}
 use Rattle.glue_shared.specs.declared.description.Lowered.{Lowered}
+use Rattle.glue_shared.specs.declared.name_map.NameMap.{NameMap}
+use Rattle.glue_shared.specs.declared.settings.Settings.{Settings}
 use Rattle.glue_shared.specs.Names.{has_number}
 use Rattle.glue_imports.specs.declared.part.Expression.{Expression}
 use Rattle.glue_imports.specs.Expressions.{expression}
@@ -60,47 +62,48 @@ expression_step id a e = steps.CallImport id (length a.args) (is_some_item a.res
 abbrev pub is_spread : Lowered → ℕ → Bool
 is_spread l id = has_number id l.aux.imports_with_variadic
 
--- the call of an import adapter that is called in this way, by what it is described as
-abbrev pub import_step_of : Lowered → ℕ → Adapter → AdapterJsImportKind → AuxImport → Option Step
-import_step_of l id a call what = option_map (expression_step id a) (expression call (is_spread l id) (is_some_item a.results) what)
+-- the call of an import adapter that is called in this way, by what it is described as, where these names are drawn
+abbrev pub import_step_of : Settings → NameMap → Lowered → ℕ → Adapter → AdapterJsImportKind → AuxImport → Option Step
+import_step_of s names l id a call what =
+    option_map (expression_step id a) (expression s names call (is_spread l id) (is_some_item a.results) what)
 
 -- what the description says of an import adapter
 abbrev pub described_import : List (ℕ × AuxImport) → ℕ → Option AuxImport
 described_import entries id = option_map (λ (e : ℕ × AuxImport). e.1) (find (λ (e : ℕ × AuxImport). e.0 == id) entries)
 
-abbrev pub called_import : Lowered → ℕ → Adapter → AdapterKind → Option Step
-called_import l id a (kinds.Import call) = option_and_then (import_step_of l id a call) (described_import l.aux.imports id)
-called_import l id a (kinds.Local code) = None
+abbrev pub called_import : Settings → NameMap → Lowered → ℕ → Adapter → AdapterKind → Option Step
+called_import s names l id a (kinds.Import call) = option_and_then (import_step_of s names l id a call) (described_import l.aux.imports id)
+called_import s names l id a (kinds.Local code) = None
 
-abbrev pub import_step : Lowered → ℕ → Option Step
-import_step l id = option_and_then (λ (a : Adapter). called_import l id a a.kind) (look_up nat_cmp l.wit.adapters id)
+abbrev pub import_step : Settings → NameMap → Lowered → ℕ → Option Step
+import_step s names l id = option_and_then (λ (a : Adapter). called_import s names l id a a.kind) (look_up nat_cmp l.wit.adapters id)
 
 -- the step that an instruction is, where it is built
-abbrev pub step_of : Lowered → Instruction → Option Step
-step_of l (instr.ArgGet n) = Some (steps.Parameter n)
-step_of l instr.Int32ToWasm = Some steps.Unchanged
-step_of l (instr.WasmToInt32 false) = Some steps.Unchanged
-step_of l (instr.WasmToInt32 true) = Some steps.ToUnsigned
-step_of l (instr.CallExport id) = export_step l.module id.0
-step_of l (instr.CallAdapter id) = import_step l id
-step_of l instr.TakeIndex = Some steps.TakeIndex
-step_of l instr.IndexFromBorrow = Some steps.IndexFromBorrow
-step_of l instr.UnwrapResult = Some steps.UnwrapResult
-step_of l other = None
+abbrev pub step_of : Settings → NameMap → Lowered → Instruction → Option Step
+step_of s names l (instr.ArgGet n) = Some (steps.Parameter n)
+step_of s names l instr.Int32ToWasm = Some steps.Unchanged
+step_of s names l (instr.WasmToInt32 false) = Some steps.Unchanged
+step_of s names l (instr.WasmToInt32 true) = Some steps.ToUnsigned
+step_of s names l (instr.CallExport id) = export_step l.module id.0
+step_of s names l (instr.CallAdapter id) = import_step s names l id
+step_of s names l instr.TakeIndex = Some steps.TakeIndex
+step_of s names l instr.IndexFromBorrow = Some steps.IndexFromBorrow
+step_of s names l instr.UnwrapResult = Some steps.UnwrapResult
+step_of s names l other = None
 
 abbrev pub with_step : Option Step → Option (List Step) → Option (List Step)
 with_step None rest = None
 with_step (Some step) None = None
 with_step (Some step) (Some rest) = Some (step ∷ rest)
 
-abbrev pub steps_of : Lowered → List Instruction → Option (List Step)
-steps_of l [] = Some []
-steps_of l (instruction ∷ code) = with_step (step_of l instruction) (steps_of l code)
+abbrev pub steps_of : Settings → NameMap → Lowered → List Instruction → Option (List Step)
+steps_of s names l [] = Some []
+steps_of s names l (instruction ∷ code) = with_step (step_of s names l instruction) (steps_of s names l code)
 
-abbrev pub code_steps : Lowered → AdapterKind → Option (List Step)
-code_steps l (kinds.Local code) = steps_of l code
-code_steps l (kinds.Import call) = None
+abbrev pub code_steps : Settings → NameMap → Lowered → AdapterKind → Option (List Step)
+code_steps s names l (kinds.Local code) = steps_of s names l code
+code_steps s names l (kinds.Import call) = None
 
--- the steps of an adapter, where it has code and each of its instructions is built
-abbrev pub adapter_steps : Lowered → ℕ → Option (List Step)
-adapter_steps l id = option_and_then (λ (a : Adapter). code_steps l a.kind) (look_up nat_cmp l.wit.adapters id)
+-- the steps of an adapter, where it has code, each of its instructions is built, and these names are drawn
+abbrev pub adapter_steps : Settings → NameMap → Lowered → ℕ → Option (List Step)
+adapter_steps s names l id = option_and_then (λ (a : Adapter). code_steps s names l a.kind) (look_up nat_cmp l.wit.adapters id)

@@ -1,8 +1,9 @@
 //! Steps: the instructions of an adapter with what their ids name, and what they mean.
 //!
 //! `adapter_steps` looks up what an adapter's instructions name in the module and the description, of which `Indexed` has an index that is
-//! made once. Promised: it answers exactly what
-//! `specs/Resolving.antt` says, and nothing but want of memory fails. `specs/AdapterMeaning.antt` says what steps mean: a run over a
+//! made once; the expressions of imports go by the settings and by names that are drawn (`Basis` of `glue_imports`). Promised: it answers
+//! exactly what `specs/Resolving.antt` says, and nothing but want of memory fails. Whether an adapter has steps doesn't depend on the names
+//! (`proofs/Named.antt`). `specs/AdapterMeaning.antt` says what steps mean: a run over a
 //! stack of operands, with a trace of all that it does to the outside. `specs/Exported.antt` has the names under which a module exports,
 //! of which a call names one.
 //!

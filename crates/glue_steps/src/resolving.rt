@@ -5,7 +5,7 @@ ghost use Rattle.glue_steps.specs.Resolving as spec;
 
 use crate::indexed::Indexed;
 use crate::step::Step;
-use glue_imports::{Expression, expression};
+use glue_imports::{Basis, Expression, expression};
 use glue_shared::{Adapter, AdapterId, AdapterJsImportKind, AdapterKind, AuxImport, Instruction};
 use std::alloc::{AllocError, Global};
 use values::{Duplicate, Seq, Text};
@@ -68,16 +68,24 @@ fn expression_step(id: AdapterId, adapter: &Adapter, expression: Expression) -> 
 // The call of what an import adapter is described as, where its expression is built.
 fn described_step(
     alloc: Global,
+    basis: &Basis<'_>,
     indexed: &Indexed<'_>,
     id: AdapterId,
     adapter: &Adapter,
     call: AdapterJsImportKind,
     import: &AuxImport,
 ) -> Result<Option<Step>, AllocError>
-    ensures step { IfOk result (λ step. step ≡ spec.import_step_of indexed.now id adapter.now call import.now) }
+    ensures step { IfOk result (λ step. step ≡ spec.import_step_of basis.now.settings.now basis.now.names.now indexed.now id adapter.now call import.now) }
 {
     let has_result = !adapter.results.is_empty();
-    match expression(alloc, call, indexed.is_spread(id), has_result, import)? {
+    match expression(
+        alloc,
+        basis,
+        call,
+        indexed.is_spread(id),
+        has_result,
+        import,
+    )? {
         None => Ok(None),
         Some(expression) => Ok(Some(expression_step(id, adapter, expression))),
     }
@@ -86,16 +94,17 @@ fn described_step(
 // The call of an import adapter.
 fn called_import(
     alloc: Global,
+    basis: &Basis<'_>,
     indexed: &Indexed<'_>,
     id: AdapterId,
     adapter: &Adapter,
 ) -> Result<Option<Step>, AllocError>
-    ensures step { IfOk result (λ step. step ≡ spec.called_import indexed.now id adapter.now adapter.now.kind) }
+    ensures step { IfOk result (λ step. step ≡ spec.called_import basis.now.settings.now basis.now.names.now indexed.now id adapter.now adapter.now.kind) }
 {
     match adapter.kind {
         AdapterKind::Import(call) => match indexed.described_import(id) {
             None => Ok(None),
-            Some(import) => described_step(alloc, indexed, id, adapter, call, import),
+            Some(import) => described_step(alloc, basis, indexed, id, adapter, call, import),
         },
         _ => Ok(None),
     }
@@ -104,31 +113,36 @@ fn called_import(
 // The call of an adapter, where it is an import adapter.
 fn import_step(
     alloc: Global,
+    basis: &Basis<'_>,
     indexed: &Indexed<'_>,
     id: AdapterId,
 ) -> Result<Option<Step>, AllocError>
-    ensures step { IfOk result (λ step. step ≡ spec.import_step indexed.now id) }
+    ensures step { IfOk result (λ step. step ≡ spec.import_step basis.now.settings.now basis.now.names.now indexed.now id) }
 {
     match indexed.lowered().wit.adapters.get(&id) {
         None => Ok(None),
-        Some(adapter) => called_import(alloc, indexed, id, adapter),
+        Some(adapter) => {
+            let step = called_import(alloc, basis, indexed, id, adapter)?;
+            Ok(step)
+        }
     }
 }
 
 // The step that an instruction is, where it is built.
 fn step_of(
     alloc: Global,
+    basis: &Basis<'_>,
     indexed: &Indexed<'_>,
     instruction: &Instruction,
 ) -> Result<Option<Step>, AllocError>
-    ensures step { IfOk result (λ step. step ≡ spec.step_of indexed.now instruction.now) }
+    ensures step { IfOk result (λ step. step ≡ spec.step_of basis.now.settings.now basis.now.names.now indexed.now instruction.now) }
 {
     match instruction {
         Instruction::ArgGet(place) => Ok(Some(Step::Parameter(*place))),
         Instruction::Int32ToWasm | Instruction::WasmToInt32(false) => Ok(Some(Step::Unchanged)),
         Instruction::WasmToInt32(true) => Ok(Some(Step::ToUnsigned)),
         Instruction::CallExport(id) => export_step(alloc, &indexed.lowered().module, *id),
-        Instruction::CallAdapter(id) => import_step(alloc, indexed, *id),
+        Instruction::CallAdapter(id) => import_step(alloc, basis, indexed, *id),
         Instruction::TakeIndex => Ok(Some(Step::TakeIndex)),
         Instruction::IndexFromBorrow => Ok(Some(Step::IndexFromBorrow)),
         Instruction::UnwrapResult => Ok(Some(Step::UnwrapResult)),
@@ -139,14 +153,15 @@ fn step_of(
 // The steps of code, where each instruction is built.
 fn steps_of(
     alloc: Global,
+    basis: &Basis<'_>,
     indexed: &Indexed<'_>,
     code: &[Instruction],
 ) -> Result<Option<Seq<Step>>, AllocError>
-    ensures steps { IfOk result (λ steps. steps ≡ spec.steps_of indexed.now code.now) }
+    ensures steps { IfOk result (λ steps. steps ≡ spec.steps_of basis.now.settings.now basis.now.names.now indexed.now code.now) }
 {
     let mut steps = Seq::new(alloc);
     for instruction in code {
-        match step_of(alloc, indexed, instruction)? {
+        match step_of(alloc, basis, indexed, instruction)? {
             None => return Ok(None),
             Some(step) => steps.push(step)?,
         }
@@ -154,18 +169,19 @@ fn steps_of(
     Ok(Some(steps))
 }
 
-/// The steps of an adapter, where it has code and each of its instructions is built.
+/// The steps of an adapter, where it has code and each of its instructions is built. Want of memory is the only error.
 pub fn adapter_steps(
     alloc: Global,
+    basis: &Basis<'_>,
     indexed: &Indexed<'_>,
     id: AdapterId,
 ) -> Result<Option<Seq<Step>>, AllocError>
-    ensures steps { IfOk result (λ steps. steps ≡ spec.adapter_steps indexed.now id) }
+    ensures steps { IfOk result (λ steps. steps ≡ spec.adapter_steps basis.now.settings.now basis.now.names.now indexed.now id) }
 {
     match indexed.lowered().wit.adapters.get(&id) {
         None => Ok(None),
         Some(adapter) => match &adapter.kind {
-            AdapterKind::Local(code) => steps_of(alloc, indexed, code.as_slice()),
+            AdapterKind::Local(code) => steps_of(alloc, basis, indexed, code.as_slice()),
             AdapterKind::Import(_) => Ok(None),
         },
     }

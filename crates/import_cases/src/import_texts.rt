@@ -1,14 +1,15 @@
 use crate::hostile::HOSTILE;
-use crate::texts::{Case, INTRINSICS, PRELUDES, PROPERTIES, VALUES};
+use crate::texts::{Case, DRAWN, HELPED, INTRINSICS, PRELUDES, PROPERTIES, VALUES};
 use glue_binding::bind;
+use glue_imports::Basis;
 use glue_inputs::{CONFIG, printed, settings, texts, with_custom};
 use glue_lower::{JsonLowering, LowerFault, Lowering};
 use glue_scope::IdentScope;
-use glue_shared::{AdapterId, EncodeInto, Lowered, Target};
+use glue_shared::{AdapterId, EncodeInto, JsImportName, Lowered, NameMap, Settings, Target};
 use glue_steps::{Indexed, Step, adapter_steps};
 use std::alloc::{AllocError, Global};
 use std::process::Abort;
-use values::Seq;
+use values::{Seq, Text};
 use wasm_core::Module;
 
 /// A module without anything.
@@ -87,10 +88,43 @@ fn lowered(alloc: Global, case: &Case) -> Result<Lowered, LowerFault> {
     }
 }
 
+/// The settings of a case: linked modules are split off where its way of calling says `split`.
+fn set_for(alloc: Global, case: &Case) -> Result<Settings, AllocError> {
+    let mut set = settings(alloc, Target::Deno, EncodeInto::Always)?;
+    set.split_linked_modules = case.1.contains("split");
+    Ok(set)
+}
+
+/// The names that are drawn: `run2` for what a module exports as `run`, and `lAudio` for a vendor's `Audio`.
+fn drawn(alloc: Global) -> Result<NameMap, AllocError> {
+    let mut names = NameMap::new(alloc);
+    let run = JsImportName::Module {
+        module: Text::from_str(alloc, "./m.js")?,
+        name: Text::from_str(alloc, "run")?,
+    };
+    let audio = JsImportName::VendorPrefixed {
+        name: Text::from_str(alloc, "Audio")?,
+        prefixes: Seq::from_vec(vec![in alloc; Text::from_str(alloc, "webkit")?]?),
+    };
+    drop(names.imports.insert(run, Text::from_str(alloc, "run2")?)?);
+    drop(
+        names
+            .imports
+            .insert(audio, Text::from_str(alloc, "lAudio")?)?,
+    );
+    Ok(names)
+}
+
 /// The steps of the adapter, none where they aren't built.
-fn steps(alloc: Global, lowered: &Lowered) -> Result<Seq<Step>, AllocError> {
+fn steps(alloc: Global, case: &Case, lowered: &Lowered) -> Result<Seq<Step>, AllocError> {
     let indexed = Indexed::new(alloc, lowered)?;
-    match adapter_steps(alloc, &indexed, AdapterId(0))? {
+    let settings = set_for(alloc, case)?;
+    let names = drawn(alloc)?;
+    let basis = Basis {
+        settings: &settings,
+        names: &names,
+    };
+    match adapter_steps(alloc, &basis, &indexed, AdapterId(0))? {
         Some(steps) => Ok(steps),
         None => Ok(Seq::new(alloc)),
     }
@@ -99,7 +133,7 @@ fn steps(alloc: Global, lowered: &Lowered) -> Result<Seq<Step>, AllocError> {
 /// The function of a case, printed.
 fn function(alloc: Global, case: &Case) -> Result<String, LowerFault> {
     let lowered = lowered(alloc, case)?;
-    let steps = steps(alloc, &lowered)?;
+    let steps = steps(alloc, case, &lowered)?;
     let names = ["arg0", "arg1", "arg2"];
     let count = case.2.len().min(names.len());
     let wanted = texts(alloc, names.split_at(count).0)?;
@@ -150,4 +184,14 @@ fn import_texts_of_intrinsics(rt: HostRuntime) -> Result<(), LowerFault> {
 #[test]
 fn import_texts_of_preludes(rt: HostRuntime) -> Result<(), LowerFault> {
     assert_texts(&rt, rt.alloc(), PRELUDES)
+}
+
+#[test]
+fn import_texts_of_drawn_names(rt: HostRuntime) -> Result<(), LowerFault> {
+    assert_texts(&rt, rt.alloc(), DRAWN)
+}
+
+#[test]
+fn import_texts_with_helpers(rt: HostRuntime) -> Result<(), LowerFault> {
+    assert_texts(&rt, rt.alloc(), HELPED)
 }

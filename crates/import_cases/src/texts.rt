@@ -773,3 +773,176 @@ return ret;"#,
         r#"typeof Thing === "undefined" ? undefined : Thing?.a;"#,
     ),
 ];
+
+/// Values of modules, and one with vendor prefixes, by the names that are drawn for them, and the link to a file that is split off.
+pub const DRAWN: &[Case] = &[
+    (
+        r#"["Bare",{"module":"./m.js","name":"run"}]"#,
+        "normal bound",
+        "u",
+        r#"const ret = run2(arg0 >>> 0);
+return ret;"#,
+    ),
+    (
+        r#"["Bare",{"module":"./m.js","name":"run","fields":["a","b-c"]}]"#,
+        "method spread",
+        "ii",
+        r#"run2.a["b-c"].call(arg0, ...(arg1));"#,
+    ),
+    (
+        r#"["Bare",{"module":"./m.js","name":"run","fields":["a","b-c"]}]"#,
+        "constructor bound",
+        "",
+        r#"const ret = new run2.a["b-c"]();
+return ret;"#,
+    ),
+    (
+        r#"["Bare",{"vendor":"Audio","prefixes":["webkit"]}]"#,
+        "constructor bound",
+        "",
+        r#"const ret = new lAudio();
+return ret;"#,
+    ),
+    (
+        r#"["ValueWithThis",{"module":"./m.js","name":"run"},"go"]"#,
+        "normal",
+        "i",
+        r#"run2.go(arg0);"#,
+    ),
+    (
+        r#"["Instanceof",{"module":"./m.js","name":"run","fields":["a","b-c"]}]"#,
+        "normal bound",
+        "i",
+        r#"let result;
+try {
+result = arg0 instanceof run2.a["b-c"];
+} catch (_) {
+result = false;
+}
+const ret = result;
+return ret;"#,
+    ),
+    (
+        r#"["Static",{"module":"./m.js","name":"run","fields":["a","b-c"]},false]"#,
+        "normal bound",
+        "",
+        r#"const ret = run2.a["b-c"];
+return ret;"#,
+    ),
+    (
+        r#"["Static",{"module":"./m.js","name":"run","fields":["a","b-c"]},true]"#,
+        "normal bound",
+        "",
+        r#"const ret = typeof run2 === "undefined" ? undefined : run2?.a?.["b-c"];
+return ret;"#,
+    ),
+    (
+        r#"["StructuralClassGetter",{"module":"./m.js","name":"run"},"go"]"#,
+        "normal bound",
+        "",
+        r#"const ret = run2.go;
+return ret;"#,
+    ),
+    (
+        r#"["StructuralClassSetter",{"module":"./m.js","name":"run"},"go"]"#,
+        "normal",
+        "u",
+        r#"run2.go = arg0 >>> 0;"#,
+    ),
+    (
+        r#"["IndexingGetterOfClass",{"vendor":"Audio","prefixes":["webkit"]}]"#,
+        "normal bound",
+        "i",
+        r#"const ret = lAudio[arg0];
+return ret;"#,
+    ),
+    (
+        r#"["IndexingSetterOfClass",{"module":"./m.js","name":"run"}]"#,
+        "normal",
+        "ii",
+        r#"run2[arg0] = arg1;"#,
+    ),
+    (
+        r#"["IndexingDeleterOfClass",{"module":"./m.js","name":"run"}]"#,
+        "normal",
+        "i",
+        r#"delete run2[arg0];"#,
+    ),
+    (
+        r#"["LinkTo","./a.js",null]"#,
+        "normal split bound",
+        "",
+        r#"const ret = new URL("./a.js", import.meta.url).toString();
+return ret;"#,
+    ),
+    (
+        r#"["LinkTo","./a.js","let x = 1;"]"#,
+        "normal split bound",
+        "",
+        r#"const ret = new URL("./a.js", import.meta.url).toString();
+return ret;"#,
+    ),
+];
+
+/// Accessors, and operations whose expressions go by helpers.
+pub const HELPED: &[Case] = &[
+    (
+        r#"["Getter",{"global":"Thing"},"do-it"]"#,
+        "method bound",
+        "u",
+        r#"const ret = GetOwnOrInheritedPropertyDescriptor(Thing.prototype, "do-it").get.call(arg0 >>> 0);
+return ret;"#,
+    ),
+    (
+        r#"["ClassGetter",{"global":"Thing"},"go"]"#,
+        "method bound",
+        "",
+        r#"const ret = GetOwnOrInheritedPropertyDescriptor(Thing, "go").get.call();
+return ret;"#,
+    ),
+    (
+        r#"["Setter",{"global":"Thing"},"go"]"#,
+        "method",
+        "ii",
+        r#"GetOwnOrInheritedPropertyDescriptor(Thing.prototype, "go").set.call(arg0, arg1);"#,
+    ),
+    (
+        r#"["ClassSetter",{"global":"Thing"},"do-it"]"#,
+        "method",
+        "u",
+        r#"GetOwnOrInheritedPropertyDescriptor(Thing, "do-it").set.call(arg0 >>> 0);"#,
+    ),
+    (
+        r#"["Setter",{"module":"./m.js","name":"run","fields":["a","b-c"]},"go"]"#,
+        "method spread",
+        "ii",
+        r#"GetOwnOrInheritedPropertyDescriptor(run2.a["b-c"].prototype, "go").set.call(arg0, ...(arg1));"#,
+    ),
+    (
+        r#"["Intrinsic","DebugString"]"#,
+        "normal bound",
+        "u",
+        r#"const ret = debugString(arg0 >>> 0);
+return ret;"#,
+    ),
+    (
+        r#"["Intrinsic","PanicError"]"#,
+        "normal bound",
+        "i",
+        r#"const ret = new PanicError(arg0);
+return ret;"#,
+    ),
+    (
+        r#"["Intrinsic","ExternrefHeapLiveCount"]"#,
+        "normal bound",
+        "",
+        r#"let free_count = 0;
+let next = heap_next;
+while (next < heap.length) {
+free_count += 1;
+next = heap[next];
+}
+const ret = heap.length - free_count - 1024 - 4;
+return ret;"#,
+    ),
+];

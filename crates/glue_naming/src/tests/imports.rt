@@ -1,6 +1,8 @@
 //! Names of imports, drawn for a module of nine imports by what their adapters call.
+use crate::listed::drawn_imports;
 use crate::named::{Named, name_in};
 use crate::naming::{function_name, import_name, names_of};
+use crate::pairs::pairs_by_import;
 use glue_scope::IdentScope;
 use glue_shared::{
     Adapter, AdapterId, AdapterJsImportKind, AdapterKind, AuxEnum, AuxExport, AuxExportKind,
@@ -225,15 +227,20 @@ fn assert_name<H: Abort>(rt: &H, name: Option<&Text>, want: &str) {
     }
 }
 
+// The names that are drawn for the imports of a target.
+fn drawn_names(alloc: Global, target: Target) -> Result<NameMap, ParseFault> {
+    let settings = settings(alloc, target)?;
+    let lowered = lowered_pairs(alloc, PAIRS)?;
+    Ok(names_of::<IdentScope>(alloc, &settings, &lowered)?)
+}
+
 fn assert_names<H: Abort>(
     rt: &H,
     alloc: Global,
     target: Target,
     names: &[(Begins, &str)],
 ) -> Result<(), ParseFault> {
-    let settings = settings(alloc, target)?;
-    let lowered = lowered_pairs(alloc, PAIRS)?;
-    let map = names_of::<IdentScope>(alloc, &settings, &lowered)?;
+    let map = drawn_names(alloc, target)?;
     for (begins, want) in names {
         let name = js_name(alloc, *begins)?;
         assert_name(rt, import_name(&map, &name), want);
@@ -295,4 +302,59 @@ fn imports_come_between_enums_and_functions(rt: HostRuntime) -> Result<(), Parse
     let exported = function_x(alloc)?;
     assert_name(&rt, function_name(alloc, &map, &exported)?, "x3");
     Ok(())
+}
+
+// The list of imports holds this one at the place that comes next.
+fn assert_next<H: Abort>(
+    rt: &H,
+    next: Option<&(JsImportName, Text)>,
+    import: &JsImportName,
+    want: &str,
+) {
+    match next {
+        None => assert!(rt; false, "{want}"),
+        Some(listed) => assert!(rt; listed.0 == *import && listed.1.as_str() == want, "{want}"),
+    }
+}
+
+// The imports of a description with the names that are drawn for them.
+fn listed(
+    alloc: Global,
+    settings: &Settings,
+    lowered: &Lowered,
+) -> Result<Seq<(JsImportName, Text)>, AllocError> {
+    let map = names_of::<IdentScope>(alloc, settings, lowered)?;
+    let pairs = pairs_by_import(alloc, lowered)?;
+    drawn_imports(alloc, settings, lowered, &map, pairs.as_slice())
+}
+
+// Those of the pairs above, for a target.
+fn listed_imports(alloc: Global, target: Target) -> Result<Seq<(JsImportName, Text)>, ParseFault> {
+    let settings = settings(alloc, target)?;
+    let lowered = lowered_pairs(alloc, PAIRS)?;
+    Ok(listed(alloc, &settings, &lowered)?)
+}
+
+// The imports that are listed are those rows that have a name, in order.
+fn assert_listed<H: Abort>(
+    rt: &H,
+    alloc: Global,
+    target: Target,
+    names: &[(Begins, &str)],
+) -> Result<(), ParseFault> {
+    let list = listed_imports(alloc, target)?;
+    let mut listed = list.as_slice().iter();
+    for (begins, want) in names {
+        if !want.is_empty() {
+            assert_next(rt, listed.next(), &js_name(alloc, *begins)?, want);
+        }
+    }
+    assert!(rt; listed.next().is_none());
+    Ok(())
+}
+
+#[test]
+fn lists_imports_in_order_of_first_calls(rt: HostRuntime) -> Result<(), ParseFault> {
+    assert_listed(&rt, rt.alloc(), Target::Deno, NAMES)?;
+    assert_listed(&rt, rt.alloc(), Target::Emscripten, EMSCRIPTEN_NAMES)
 }

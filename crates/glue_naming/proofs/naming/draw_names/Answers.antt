@@ -1,13 +1,12 @@
-use Rattle.std.proofs.Common.{Result, Ok, Err, IfOk}
-use Rattle.glue_naming.proofs.Own.{own_name}
+use Rattle.std.proofs.lemmas.Result.{IfOk-weaker}
+use Rattle.glue_check.proofs.BuiltForm.{exports_built}
+use Rattle.glue_naming.proofs.Functions.{all_named}
 use Rattle.glue_naming.proofs.naming.draw_names.Goals as goal
 
-weaker : {A E : Type 0} (P Q : A → Type 0) → ((x : A) → P x → Q x) → (r : Result A E) → IfOk r P → IfOk r Q
-weaker P Q f (Ok x) h = f x h
-weaker P Q f (Err e) h = tt
-
-pub returns-clause-own : goal.returns-clause-own
-returns-clause-own g c =
+pub returns-clause-named : goal.returns-clause-named
+returns-clause-named g c =
     let checked = c.args.checked.now in
-    weaker _ _ (λ m n. own_name checked.files checked.settings checked.lowered checked.built checked.passed m n) c.names_of.result
+    let l = checked.lowered in
+    IfOk-weaker c.names_of.result _ _
+    (λ m n. all_named checked.settings l m n l.aux.exports (λ e i. (i, exports_built checked.files checked.settings l checked.built e i)))
     (rw (c.settings.ensures, c.lowered.ensures) at c.names_of.ensures.names)

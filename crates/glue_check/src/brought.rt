@@ -1,0 +1,72 @@
+//! The names of the outside that described imports bring, as a list.
+ghost use Rattle.std.specs.Prelude.{◌≡◌, ◌++◌, IfOk, OnOk, false, map};
+ghost use Rattle.std.specs.Option.{option_copied};
+ghost use Rattle.glue_shared.specs.Names as names;
+ghost use Rattle.glue_check.specs.Taken as spec;
+
+use glue_shared::{AuxImport, JsImportName, js_import};
+use std::alloc::{AllocError, Global};
+use values::{Duplicate, Seq, Text};
+
+/// A copy of the text, where there is one. Want of memory is the only error.
+pub(crate) fn copied(alloc: Global, text: Option<&Text>) -> Result<Option<Text>, AllocError>
+    ensures same { IfOk result (λ copy. copy ≡ option_copied text.entry) }
+{
+    match text {
+        None => Ok(None),
+        Some(text) => Ok(Some(text.copy(alloc)?)),
+    }
+}
+
+// Two texts, one behind the other.
+fn joined(alloc: Global, front: &Text, rest: &Text) -> Result<Text, AllocError>
+    ensures joined { IfOk result (λ joined. joined ≡ front.now ++ rest.now) }
+{
+    let mut joined = front.copy(alloc)?;
+    joined.push_str(rest.as_str())?;
+    Ok(joined)
+}
+
+// Adds the name behind each of these prefixes.
+fn push_prefixed(
+    alloc: Global,
+    prefixes: &[Text],
+    name: &Text,
+    names: &mut Seq<Text>,
+) -> Result<(), AllocError>
+    ensures pushed { OnOk result (names.new ≡ names.old ++ map (λ prefix. prefix ++ name.now) prefixes.now) }
+{
+    for prefix in prefixes {
+        names.push(joined(alloc, prefix, name)?)?;
+    }
+    Ok(())
+}
+
+// The names of the outside that a described name brings where imports are kept.
+fn described_hosts(alloc: Global, described: &JsImportName) -> Result<Seq<Text>, AllocError>
+    ensures hosts { IfOk result (λ hosts. hosts ≡ names.described_hosts false described.now) }
+{
+    let mut hosts = Seq::new(alloc);
+    match described {
+        JsImportName::Global { name } => hosts.push(name.copy(alloc)?)?,
+        JsImportName::VendorPrefixed { name, prefixes } => {
+            hosts.push(name.copy(alloc)?)?;
+            push_prefixed(alloc, prefixes.as_slice(), name, &mut hosts)?;
+        }
+        JsImportName::Module { .. }
+        | JsImportName::LocalModule { .. }
+        | JsImportName::InlineJs { .. } => {}
+    }
+    Ok(hosts)
+}
+
+/// The names of the outside that what an import evaluates brings where imports are kept. Want of memory is the only error.
+#[tactic(auto, using(crate::proofs::TakenNames::brought_none, crate::proofs::TakenNames::brought_some))]
+pub(crate) fn brought(alloc: Global, what: &AuxImport) -> Result<Seq<Text>, AllocError>
+    ensures names { IfOk result (λ names. names ≡ spec.brought false what.now) }
+{
+    match js_import(what) {
+        None => Ok(Seq::new(alloc)),
+        Some(js) => described_hosts(alloc, &js.name),
+    }
+}

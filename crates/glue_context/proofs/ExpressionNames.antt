@@ -1,0 +1,304 @@
+-- The parts of each expression, and of the statements before it, use no other names than a file has of the import.
+use Rattle.std.proofs.Common.{◌≡◌, ℕ, List, [], ◌∷◌, ◌++◌, map, refl, ap, sym, subst, ◌∙◌, Bool, true, false, not, ◌&&◌, Option, Some, None, inl, inr}
+use Rattle.std.specs.Prelude.{codes, filter, option_map}
+use Rattle.std.specs.List.{AllByRecursion, list_all}
+use Rattle.std.proofs.lemmas.Bool.{and_parts}
+use Rattle.std.proofs.lemmas.List.{append-nil}
+use Rattle.std.proofs.lemmas.List.Elements.{filter-append}
+use Rattle.values.specs.Lists.{IsIn}
+use Rattle.glue_words.specs.Limits.{is_computed}
+use Rattle.glue_words.specs.Linking.{AreAmong}
+use Rattle.glue_words.proofs.Among.{among_in, among_parts}
+use Rattle.glue_words.proofs.Belonging.{Context}
+use Rattle.glue_words.specs.declared.key.TheConstants as key
+use Rattle.glue_shared.specs.declared.adapter.AdapterJsImportKind.{AdapterJsImportKind}
+use Rattle.glue_shared.specs.declared.adapter.AdapterJsImportKind.TheVariants as calls
+use Rattle.glue_shared.specs.declared.import.AuxImport.{AuxImport}
+use Rattle.glue_shared.specs.declared.import.AuxImport.TheVariants as what
+use Rattle.glue_shared.specs.declared.import.AuxValue.{AuxValue}
+use Rattle.glue_shared.specs.declared.import.AuxValue.TheVariants as v
+use Rattle.glue_shared.specs.declared.import.Intrinsic.{Intrinsic}
+use Rattle.glue_shared.specs.declared.import.Intrinsic.TheVariants as i
+use Rattle.glue_shared.specs.declared.import.JsImport.{JsImport}
+use Rattle.glue_shared.specs.declared.import.JsImportName.{JsImportName}
+use Rattle.glue_shared.specs.declared.import.JsImportName.TheVariants as js
+use Rattle.glue_shared.specs.declared.name_map.NameMap.{NameMap}
+use Rattle.glue_shared.specs.declared.settings.Settings.{Settings}
+use Rattle.glue_shared.specs.declared.settings.Target.{Target}
+use Rattle.glue_shared.specs.declared.settings.Target.TheVariants as targets
+use Rattle.glue_shared.specs.Names.{is_none, is_one_of, js_import, names_of}
+use Rattle.glue_imports.specs.declared.part.Part.{Part}
+use Rattle.glue_imports.specs.declared.part.Part.TheVariants as part
+use Rattle.glue_imports.specs.declared.part.Expression.{Expression}
+use Rattle.glue_imports.specs.Roots.{drawn_name, root_name, root_of, root}
+use Rattle.glue_imports.specs.Preludes.{plain, let_line, try_front, line_end, catch_front, close_line, result_is, unless_undefined, instance_of, cast, linked, present}
+use Rattle.glue_imports.specs.Expressions.{around, assigned, index, new_front, delete_front, accessor_front, owner, described_call, value_parts, static_parts, parts_of, intrinsic_expression, expression}
+use Rattle.helper_table.proofs.Held.{free_names}
+use Rattle.helper_table.specs.Laws.{any_in}
+use Rattle.glue_check.specs.Taken.{brought}
+use Rattle.glue_naming.specs.Listed.{is_global_name}
+use Rattle.glue_context.specs.Keys.{import_properties}
+use Rattle.glue_context.proofs.Declared.{among_is}
+
+-- names of the host that expressions use beside those that are described, and names of helpers
+abbrev pub used_hosts : List (List ℕ)
+used_hosts =
+    codes "undefined" ∷ codes "Error" ∷ codes "Uint8Array" ∷ codes "RangeError" ∷ codes "URL" ∷ codes "encodeURIComponent" ∷ codes "Blob" ∷ []
+
+abbrev used_helpers : List (List ℕ)
+used_helpers = codes "GetOwnOrInheritedPropertyDescriptor" ∷ codes "debugString" ∷ codes "PanicError" ∷ codes "heap" ∷ codes "heap_next" ∷ []
+
+module _ (c : Context) where
+  -- a file has the names that a part uses
+  abbrev pub HasPart : Part → Type 0
+  HasPart (part.Host name fields) = IsIn name c.hosts × AreAmong (filter is_computed fields) c.keys
+  HasPart (part.Name name) = IsIn name c.declared
+  HasPart part.Exports = IsIn (codes "wasm") c.declared
+  HasPart (part.Property name) = AreAmong (filter is_computed (name ∷ [])) c.keys
+  HasPart (part.Chained name) = AreAmong (filter is_computed (name ∷ [])) c.keys
+  HasPart other = Unit {0}
+
+  -- and those that an expression and the statements before it use
+  pub record HasExpression (e : Expression) : Type 0 where
+    pub above : AllByRecursion HasPart e.prelude
+    pub value : AllByRecursion HasPart e.value
+
+  -- what a file has of an import where these names are drawn: the names of the outside that it brings, the name that is drawn for what it begins
+  -- with, its computed keys, and what expressions use besides
+  pub record HasImport (m : NameMap) (w : AuxImport) : Type 0 where
+    pub host : (name : List ℕ) → IsIn name (brought false w) → IsIn name c.hosts
+    pub drawn : (n : JsImportName) → IsIn n (names_of (js_import w)) → is_global_name n ≡ false → IsIn (drawn_name m n) c.declared
+    pub keys : AreAmong (filter is_computed (import_properties w)) c.keys
+    pub used : AreAmong used_hosts c.hosts
+    pub helpers : AreAmong free_names c.declared
+    pub exports : IsIn (codes "wasm") c.declared
+
+  -- an expression, where there is one
+  abbrev HasSome : Option Expression → Type 0
+  HasSome None = Unit {0}
+  HasSome (Some e) = HasExpression e
+
+  both_has : (ps qs : List Part) → AllByRecursion HasPart ps → AllByRecursion HasPart qs → AllByRecursion HasPart (ps ++ qs)
+  both_has [] qs h k = k
+  both_has (p ∷ ps) qs h k = (h.0, both_has ps qs h.1 k)
+
+  plain_has : (parts : List Part) → AllByRecursion HasPart parts → HasExpression (plain parts)
+  plain_has parts h = record { above = tt; value = h }
+
+  -- ---- parts whose names each file has
+
+  -- the names of a part are of those, and its properties no computed keys
+  abbrev is_known : Part → Bool
+  is_known (part.Host name fields) = is_one_of used_hosts name && is_none (filter is_computed fields)
+  is_known (part.Name name) = is_one_of used_helpers name
+  is_known (part.Property name) = not (is_computed name)
+  is_known (part.Chained name) = not (is_computed name)
+  is_known other = true
+
+  abbrev known_if : Option Expression → Bool
+  known_if None = true
+  known_if (Some e) = list_all is_known e.prelude && list_all is_known e.value
+
+  module _ (m : NameMap) (w : AuxImport) (h : HasImport m w) where
+    no_keys : (fields : List (List ℕ)) → is_none (filter is_computed fields) ≡ true → AreAmong (filter is_computed fields) c.keys
+    no_keys fields k = by (filter is_computed fields) k
+      where
+        by : (keys : List (List ℕ)) → is_none keys ≡ true → AreAmong keys c.keys
+        by [] k = tt
+        by (x ∷ xs) k = cc
+
+    no_key : (name : List ℕ) → not (is_computed name) ≡ true → AreAmong (filter is_computed (name ∷ [])) c.keys
+    no_key name k = by (is_computed name) refl k
+      where
+        by : (b : Bool) → is_computed name ≡ b → not b ≡ true → AreAmong (filter is_computed (name ∷ [])) c.keys
+        by false e k = rw e tt
+        by true e k = cc
+
+    helpers_free : AreAmong used_helpers free_names
+    helpers_free = (any_in _ free_names refl, (any_in _ free_names refl, (any_in _ free_names refl, (any_in _ free_names refl, (any_in _ free_names refl, tt)))))
+
+    part_known : (p : Part) → is_known p ≡ true → HasPart p
+    part_known (part.Host name fields) k =
+        let parts = and_parts (is_one_of used_hosts name) (is_none (filter is_computed fields)) k in
+        (among_in name used_hosts c.hosts h.used (among_is name used_hosts parts.0), no_keys fields parts.1)
+    part_known (part.Name name) k =
+        among_in name free_names c.declared h.helpers (among_in name used_helpers free_names helpers_free (among_is name used_helpers k))
+    part_known part.Exports k = h.exports
+    part_known (part.Property name) k = no_key name k
+    part_known (part.Chained name) k = no_key name k
+    part_known other k = tt
+
+    parts_known : (parts : List Part) → list_all is_known parts ≡ true → AllByRecursion HasPart parts
+    parts_known [] k = tt
+    parts_known (p ∷ parts) k = let both = and_parts (is_known p) (list_all is_known parts) k in (part_known p both.0, parts_known parts both.1)
+
+    some_known : (o : Option Expression) → known_if o ≡ true → HasSome o
+    some_known None k = tt
+    some_known (Some e) k =
+        let both = and_parts (list_all is_known e.prelude) (list_all is_known e.value) k in
+        record { above = parts_known e.prelude both.0; value = parts_known e.value both.1 }
+
+    -- ---- what an import begins with
+
+    -- the properties of a value, and one more
+    two_keys : (fields : List (List ℕ)) (name : List ℕ) → AreAmong (filter is_computed (fields ++ name ∷ [])) c.keys
+        → AreAmong (filter is_computed fields) c.keys × AreAmong (filter is_computed (name ∷ [])) c.keys
+    two_keys fields name k = among_parts (filter is_computed fields) (filter is_computed (name ∷ [])) c.keys
+        (subst (λ (ks : List (List ℕ)). AreAmong ks c.keys) (filter-append is_computed fields (name ∷ [])) k)
+
+    fields_has : (fields : List (List ℕ)) (behind : List Part) → AreAmong (filter is_computed fields) c.keys → AllByRecursion HasPart behind
+        → AllByRecursion HasPart (map part.Property fields ++ behind)
+    fields_has [] behind k rest = rest
+    fields_has (field ∷ fields) behind k rest =
+        let parts = among_parts (filter is_computed (field ∷ [])) (filter is_computed fields) c.keys
+        (subst (λ (ks : List (List ℕ)). AreAmong ks c.keys) (filter-append is_computed (field ∷ []) fields) k) in
+        (parts.0, fields_has fields behind parts.1 rest)
+
+    module _ (j : JsImport) (is : js_import w ≡ Some j) where
+      -- a global is brought, and any other name has a drawn one
+      global_host : (name : List ℕ) → j.name ≡ js.Global name → IsIn name c.hosts
+      global_host name e = h.host name (rw (is, e) (inl refl))
+
+      other_drawn : is_global_name j.name ≡ false → IsIn (drawn_name m j.name) c.declared
+      other_drawn e = h.drawn j.name (rw is (inl refl)) e
+
+      root_has : (behind : List Part) → AreAmong (filter is_computed j.fields) c.keys → AllByRecursion HasPart behind
+          → AllByRecursion HasPart (root m j ++ behind)
+      root_has behind k rest = by j.name global_host other_drawn
+        where
+          by : (n : JsImportName) → ((name : List ℕ) → n ≡ js.Global name → IsIn name c.hosts)
+              → (is_global_name n ≡ false → IsIn (drawn_name m n) c.declared) → AllByRecursion HasPart (root_of m j.fields n ++ behind)
+          by (js.Global name) host drawn = ((host name refl, k), rest)
+          by other host drawn = (drawn refl, fields_has j.fields behind k rest)
+
+      name_has : HasPart (root_name m j.name)
+      name_has = by j.name global_host other_drawn
+        where
+          by : (n : JsImportName) → ((name : List ℕ) → n ≡ js.Global name → IsIn name c.hosts)
+              → (is_global_name n ≡ false → IsIn (drawn_name m n) c.declared) → HasPart (root_name m n)
+          by (js.Global name) host drawn = (host name refl, tt)
+          by other host drawn = drawn refl
+
+      around_has : (front behind : List Part) → list_all is_known front ≡ true → AreAmong (filter is_computed j.fields) c.keys
+          → AllByRecursion HasPart behind → HasExpression (plain (around m front j behind))
+      around_has front behind known k rest =
+          plain_has (around m front j behind) (both_has front (root m j ++ behind) (parts_known front known) (root_has behind k rest))
+
+      -- ---- a value that may be absent
+
+      chained_has : (fields : List (List ℕ)) → AreAmong (filter is_computed fields) c.keys → AllByRecursion HasPart (map part.Chained fields)
+      chained_has [] k = tt
+      chained_has (field ∷ fields) k =
+          let parts = among_parts (filter is_computed (field ∷ [])) (filter is_computed fields) c.keys
+          (subst (λ (ks : List (List ℕ)). AreAmong ks c.keys) (filter-append is_computed (field ∷ []) fields) k) in
+          (parts.0, chained_has fields parts.1)
+
+      static_has : (optional : Bool) → AreAmong (filter is_computed j.fields) c.keys → HasExpression (plain (static_parts m j optional))
+      static_has true k =
+          let value = root_name m j.name in
+          let undefined : HasPart (part.Host (codes "undefined") []) = part_known (part.Host (codes "undefined") []) refl in
+          plain_has (present value j.fields) (tt, (tt, (name_has, (tt, (tt, (tt, (tt, (tt, (tt, (tt, (undefined, (tt, (tt, (tt, (name_has, chained_has j.fields k)))))))))))))))
+      static_has false k =
+          plain_has (root m j) (subst (AllByRecursion HasPart) (append-nil (root m j)) (root_has [] k tt))
+
+      -- ---- a test of instances
+
+      instance_has : AreAmong (filter is_computed j.fields) c.keys → HasExpression (instance_of (root m j))
+      instance_has k =
+          let value = part.Operand 0 ∷ part.Space ∷ part.Key key.INSTANCEOF ∷ part.Space ∷ root m j in
+          let result : AllByRecursion HasPart (result_is value) =
+          (tt, (tt, (tt, (tt, (tt, (tt, (tt, (tt, subst (AllByRecursion HasPart) (append-nil (root m j)) (root_has [] k tt))))))))) in
+          let body = result_is value ++ line_end in
+          let caught = catch_front ++ part.LineFeed ∷ result_is (part.Key key.FALSE ∷ line_end) ++ close_line in
+          let behind = part.LineFeed ∷ (body ++ caught) in
+          let behind_has : AllByRecursion HasPart behind =
+          (tt, both_has body caught (both_has (result_is value) line_end result (parts_known line_end refl)) (parts_known caught refl)) in
+          record {
+            above = both_has let_line (try_front ++ behind) (parts_known let_line refl) (both_has try_front behind (parts_known try_front refl) behind_has);
+            value = (tt, tt);
+          }
+
+    -- ---- each kind
+
+    intrinsic_known : (externref bound : Bool) (name : Intrinsic) → known_if (intrinsic_expression externref bound name) ≡ true
+    intrinsic_known externref true i.ObjectCloneRef = refl
+    intrinsic_known externref true i.ObjectDropRef = refl
+    intrinsic_known externref false i.ObjectCloneRef = refl
+    intrinsic_known externref false i.ObjectDropRef = refl
+    intrinsic_known true bound i.ExternrefHeapLiveCount = refl
+    intrinsic_known false bound i.ExternrefHeapLiveCount = refl
+    intrinsic_known externref bound other = refl
+
+    link_known : (split : Bool) (target : Target) (path : List ℕ) (content : Option (List ℕ)) → known_if (linked split target path content) ≡ true
+    link_known true (targets.Node true) path content = refl
+    link_known true (targets.Node false) path content = refl
+    link_known true other path content = refl
+    link_known false target path None = refl
+    link_known false target path (Some content) = refl
+
+    cast_known : (bound : Bool) (comment : List ℕ) → known_if (Some (cast bound comment)) ≡ true
+    cast_known true comment = refl
+    cast_known false comment = refl
+
+    -- an accessor takes its property as a text
+    described_has : (of_instances : Bool) (field which : List ℕ) (spread : Bool) → not (is_computed which) ≡ true
+        → AllByRecursion HasPart (owner of_instances ++ described_call field which spread)
+    described_has true field which spread k = (no_key (codes "prototype") refl, (tt, (tt, (tt, (tt, (no_key which k, (no_key (codes "call") refl, (tt, tt))))))))
+    described_has false field which spread k = (tt, (tt, (tt, (tt, (no_key which k, (no_key (codes "call") refl, (tt, tt)))))))
+
+  value_has : (m : NameMap) (call : AdapterJsImportKind) (spread : Bool) (value : AuxValue) → HasImport m (what.Value value)
+      → HasExpression (plain (value_parts m call spread value))
+  value_has m calls.Normal spread (v.Bare j) h = around_has m _ h j refl [] (part.Arguments spread ∷ []) refl h.keys (tt, tt)
+  value_has m calls.Method spread (v.Bare j) h =
+      around_has m _ h j refl [] (part.Property (codes "call") ∷ part.Arguments spread ∷ []) refl h.keys (no_key m _ h (codes "call") refl, (tt, tt))
+  value_has m calls.Constructor spread (v.Bare j) h = around_has m _ h j refl new_front (part.Arguments spread ∷ []) refl h.keys (tt, tt)
+  value_has m call spread (v.Getter j field) h =
+      around_has m _ h j refl accessor_front _ refl (two_keys m _ h j.fields field h.keys).0 (described_has m _ h true field (codes "get") spread refl)
+  value_has m call spread (v.ClassGetter j field) h =
+      around_has m _ h j refl accessor_front _ refl (two_keys m _ h j.fields field h.keys).0 (described_has m _ h false field (codes "get") spread refl)
+  value_has m call spread (v.Setter j field) h =
+      around_has m _ h j refl accessor_front _ refl (two_keys m _ h j.fields field h.keys).0 (described_has m _ h true field (codes "set") spread refl)
+  value_has m call spread (v.ClassSetter j field) h =
+      around_has m _ h j refl accessor_front _ refl (two_keys m _ h j.fields field h.keys).0 (described_has m _ h false field (codes "set") spread refl)
+
+  expression_has_all : (s : Settings) (m : NameMap) (call : AdapterJsImportKind) (spread bound : Bool) (w : AuxImport) → HasImport m w
+      → HasSome (expression s m call spread bound w)
+  expression_has_all s m call spread bound (what.Value value) h = value_has m call spread value h
+  expression_has_all s m call spread bound (what.ValueWithThis j property) h =
+      let keys = two_keys m _ h j.fields property h.keys in
+      around_has m _ h j refl [] (part.Property property ∷ part.Arguments spread ∷ []) refl keys.0 (keys.1, (tt, tt))
+  expression_has_all s m call spread bound (what.Instanceof j) h = instance_has m _ h j refl h.keys
+  expression_has_all s m call spread bound (what.Static j optional) h = static_has m _ h j refl optional h.keys
+  expression_has_all s m call spread bound (what.String text) h = plain_has (part.Literal text ∷ []) (tt, tt)
+  expression_has_all s m call spread bound (what.Cast comment) h = some_known m _ h (Some (cast bound comment)) (cast_known m _ h bound comment)
+  expression_has_all s m call spread bound (what.LinkTo path content) h =
+      some_known m _ h (linked s.split_linked_modules s.target path content) (link_known m _ h s.split_linked_modules s.target path content)
+  expression_has_all s m call spread bound (what.Intrinsic name) h =
+      some_known m _ h (intrinsic_expression s.externref bound name) (intrinsic_known m _ h s.externref bound name)
+  expression_has_all s m call spread bound (what.StructuralMethod property) h = plain_has _ (tt, (h.keys, (tt, tt)))
+  expression_has_all s m call spread bound (what.StructuralGetter property) h = plain_has _ (tt, (h.keys, tt))
+  expression_has_all s m call spread bound (what.StructuralSetter property) h = plain_has _ (tt, (h.keys, (tt, (tt, (tt, (tt, tt))))))
+  expression_has_all s m call spread bound (what.StructuralClassGetter j property) h =
+      let keys = two_keys m _ h j.fields property h.keys in
+      around_has m _ h j refl [] (part.Property property ∷ []) refl keys.0 (keys.1, tt)
+  expression_has_all s m call spread bound (what.StructuralClassSetter j property) h =
+      let keys = two_keys m _ h j.fields property h.keys in
+      around_has m _ h j refl [] (part.Property property ∷ assigned 0) refl keys.0 (keys.1, parts_known m _ h (assigned 0) refl)
+  expression_has_all s m call spread bound (what.IndexingGetterOfClass j) h =
+      around_has m _ h j refl [] (index 0) refl h.keys (parts_known m _ h (index 0) refl)
+  expression_has_all s m call spread bound (what.IndexingSetterOfClass j) h =
+      around_has m _ h j refl [] (index 0 ++ assigned 1) refl h.keys (parts_known m _ h (index 0 ++ assigned 1) refl)
+  expression_has_all s m call spread bound (what.IndexingDeleterOfClass j) h =
+      around_has m _ h j refl delete_front (index 0) refl h.keys (parts_known m _ h (index 0) refl)
+  expression_has_all s m call spread bound what.IndexingGetterOfObject h =
+      let parts = parts_of m call spread what.IndexingGetterOfObject in some_known m _ h (option_map plain parts) refl
+  expression_has_all s m call spread bound what.IndexingSetterOfObject h =
+      let parts = parts_of m call spread what.IndexingSetterOfObject in some_known m _ h (option_map plain parts) refl
+  expression_has_all s m call spread bound what.IndexingDeleterOfObject h =
+      let parts = parts_of m call spread what.IndexingDeleterOfObject in some_known m _ h (option_map plain parts) refl
+  expression_has_all s m call spread bound other h = tt
+
+  -- an import's expression, with the statements before it, uses no other names than a file has of the import
+  pub expression_has : (s : Settings) (m : NameMap) (call : AdapterJsImportKind) (spread bound : Bool) (w : AuxImport) (e : Expression) → HasImport m w
+      → expression s m call spread bound w ≡ Some e → HasExpression e
+  expression_has s m call spread bound w e h is = subst HasSome is (expression_has_all s m call spread bound w h)

@@ -1,0 +1,276 @@
+-- The names that are drawn for what own imports call: each that is no global has one, an identifier that is taken for nothing else.
+use Rattle.std.proofs.Common.{◌≡◌, ℕ, Bool, true, false, cond, ◌==◌, true≢false, List, [], ◌∷◌, ◌++◌, map, refl, sym, ap, subst, ◌∙◌, inl, inr}
+use Rattle.std.specs.Prelude.{Option, None, Some, option_map, option_and_then, find, filter_map}
+use Rattle.std.specs.FinSet as set
+use Rattle.std.specs.List.{flat_map, list_all}
+use Rattle.std.specs.Ordering.{nat_cmp}
+use Rattle.std.proofs.lemmas.List.Sorted.{IsPermutation-sym}
+use Rattle.std.proofs.lemmas.List.Sums.{list_all-from_AllPass}
+use Rattle.values.specs.Lists.{IsIn, AreDistinct, AreApart}
+use Rattle.values.specs.Map.{look_up}
+use Rattle.values.proofs.Members.{in_left, in_right, in_either}
+use Rattle.wasm_core.specs.ids.ImportId.{ImportId}
+use Rattle.glue_words.specs.Ident.{is_ident}
+use Rattle.glue_words.proofs.Among.{apart_by}
+use Rattle.glue_shared.specs.declared.adapter.Instruction.{Instruction}
+use Rattle.glue_shared.specs.declared.adapter.Instruction.TheVariants as instr
+use Rattle.glue_shared.specs.declared.aux.AuxExport.{AuxExport}
+use Rattle.glue_shared.specs.declared.aux.AuxStruct.{AuxStruct}
+use Rattle.glue_shared.specs.declared.description.Lowered.{Lowered}
+use Rattle.glue_shared.specs.declared.import.AuxImport.{AuxImport}
+use Rattle.glue_shared.specs.declared.import.JsImportName.{JsImportName}
+use Rattle.glue_shared.specs.declared.import.JsImportName.TheVariants as js
+use Rattle.glue_shared.specs.declared.name_map.NameMap.{NameMap}
+use Rattle.glue_shared.specs.declared.settings.Settings.{Settings}
+use Rattle.glue_shared.specs.declared.settings.Target.{Target}
+use Rattle.glue_shared.specs.Names.{code_of, described_names, entry_of, fixed_names, has_number, host_names, js_import, names_of, own_imports}
+use Rattle.glue_check.specs.Handed.{callee, own_callees, pair_callees}
+use Rattle.glue_check.specs.Publishing.{qualified}
+use Rattle.glue_check.specs.Unbuilt.{is_function_kind}
+use Rattle.glue_check.proofs.Globals.{from_flat, in_flat}
+use Rattle.glue_check.proofs.Passed.{number_in}
+use Rattle.glue_naming.specs.Given.{reserved_names}
+use Rattle.glue_naming.specs.Imported.{called_name, called_names, import_wanted, imports_wanted, names_called, pair_names}
+use Rattle.glue_naming.specs.Listed.{is_global_name, called_once, drawn_import, drawn_imports, names_drawn}
+use Rattle.glue_naming.specs.Naming.{AreNames, declared_name, function_name, import_name, is_named}
+use Rattle.glue_naming.specs.Wanted.{class_names, enum_name, function_names, function_wanted}
+use Rattle.glue_naming.specs.declared.named.Named.{Named}
+use Rattle.glue_naming.specs.declared.named.Named.TheVariants.{Import, Function}
+use Rattle.glue_naming.specs.declared.named.Wanted.{Wanted}
+use Rattle.glue_naming.proofs.Arranged.{all_are, moved_from}
+use Rattle.glue_naming.proofs.Draws.{IsAt, stands}
+use Rattle.glue_naming.proofs.Functions.{given_of}
+use Rattle.glue_naming.proofs.OnceNames.{flat_more, from_map, from_part, in_map, in_part, once_distinct, once_from, once_has, part_distinct}
+use Rattle.glue_naming.proofs.Reserved.{free_no_fixed, free_no_host}
+
+-- ---- what is wanted
+
+-- the name that is wanted for what is no global
+wanted_there : (t : Target) (name : JsImportName) → is_global_name name ≡ false
+    → (w : Wanted) × (import_wanted t name ≡ Some w) × (Import name ≡ w.thing)
+wanted_there t (js.Global name) h = absurd (true≢false h)
+wanted_there t (js.Module from name) h = (_, refl, refl)
+wanted_there t (js.LocalModule from name) h = (_, refl, refl)
+wanted_there t (js.InlineJs from index name) h = (_, refl, refl)
+wanted_there t (js.VendorPrefixed name prefixes) h = (_, refl, refl)
+
+wanted_only : (t : Target) (name : JsImportName) (w : Wanted) → import_wanted t name ≡ Some w
+    → (w.thing ≡ Import name) × (is_global_name name ≡ false)
+wanted_only t (js.Global name) w e = cc
+wanted_only t (js.Module from name) w e = (cc, refl)
+wanted_only t (js.LocalModule from name) w e = (cc, refl)
+wanted_only t (js.InlineJs from index name) w e = (cc, refl)
+wanted_only t (js.VendorPrefixed name prefixes) w e = (cc, refl)
+
+-- the thing that stands at a place is wanted
+at_wanted : (thing : Named) (name : List ℕ) (list : List Wanted) (names : List (List ℕ)) → IsAt thing name list names
+    → (w : Wanted) × IsIn w list × (thing ≡ w.thing)
+at_wanted thing name [] names h = absurd h
+at_wanted thing name (w ∷ list) [] h = absurd h
+at_wanted thing name (w ∷ list) (n ∷ names) (inl p) = (w, inl refl, p.0)
+at_wanted thing name (w ∷ list) (n ∷ names) (inr h) = let r = at_wanted thing name list names h in (r.0, inr r.1, r.2)
+
+-- classes, enums and functions are no imports
+no_class : (c : AuxStruct) (w : Wanted) (name : JsImportName) → IsIn w (class_names c) → Import name ≡ w.thing → ⊥
+no_class c w name (inl same) e = cc
+no_class c w name (inr (inl same)) e = cc
+no_class c w name (inr (inr i)) e = i
+
+no_enum : (key : List ℕ) (w : Wanted) (name : JsImportName) → w ≡ enum_name key → Import name ≡ w.thing → ⊥
+no_enum key w name same e = cc
+
+in_where : {A : Type 0} (x : A) (xs : List A) (b : Bool) → IsIn x (cond b xs []) → IsIn x xs × (b ≡ true)
+in_where x xs true i = (i, refl)
+in_where x xs false i = absurd i
+
+no_function : (x : AuxExport) (w : Wanted) (name : JsImportName) → IsIn w (function_names x) → Import name ≡ w.thing → ⊥
+no_function x w name i e = only (in_where w (function_wanted (qualified x) ∷ []) (is_function_kind x.kind) i).0
+  where
+    only : IsIn w (function_wanted (qualified x) ∷ []) → ⊥
+    only (inl same) = cc
+    only (inr none) = none
+
+-- ---- what is called
+
+named_case : (e : ℕ × AuxImport) (es : List (ℕ × AuxImport)) (id : ℕ) (n : JsImportName) (b : Bool)
+    → (IsIn n (names_of (option_and_then js_import (option_map (λ (x : ℕ × AuxImport). x.1) (find (λ (x : ℕ × AuxImport). x.0 == id) es))))
+    → IsIn n (flat_map (λ (x : ℕ × AuxImport). names_of (js_import x.1)) es))
+    → IsIn n (names_of (option_and_then js_import (option_map (λ (x : ℕ × AuxImport). x.1)
+    (cond b (Some e) (find (λ (x : ℕ × AuxImport). x.0 == id) es)))))
+    → IsIn n (flat_map (λ (x : ℕ × AuxImport). names_of (js_import x.1)) (e ∷ es))
+named_case e es id n true later i = in_left n (names_of (js_import e.1)) _ i
+named_case e es id n false later i = in_right n (names_of (js_import e.1)) _ (later i)
+
+-- what an instruction calls is described
+entry_described : (es : List (ℕ × AuxImport)) (id : ℕ) (n : JsImportName)
+    → IsIn n (names_of (option_and_then js_import (option_map (λ (x : ℕ × AuxImport). x.1) (find (λ (x : ℕ × AuxImport). x.0 == id) es))))
+    → IsIn n (flat_map (λ (x : ℕ × AuxImport). names_of (js_import x.1)) es)
+entry_described [] id n i = absurd i
+entry_described (e ∷ es) id n i = named_case e es id n (e.0 == id) (entry_described es id n) i
+
+step_described : (es : List (ℕ × AuxImport)) (step : Instruction) (n : JsImportName) → IsIn n (called_name es step)
+    → IsIn n (flat_map (λ (x : ℕ × AuxImport). names_of (js_import x.1)) es)
+step_described es (instr.CallAdapter id) n i = entry_described es id n i
+step_described es step n i = absurd i
+
+-- a step with this callee is the call of it
+callee_is : (step : Instruction) (id : ℕ) → callee step ≡ Some id → step ≡ instr.CallAdapter id
+callee_is (instr.CallAdapter other) id e = cc
+callee_is step id e = cc
+
+where_true : {A : Type 0} (x : A) (xs : List A) (b : Bool) → b ≡ true → IsIn x xs → IsIn x (cond b xs [])
+where_true x xs true h i = i
+where_true x xs false h i = absurd (true≢false (sym h))
+
+drawn_is : (name : JsImportName) (o : Option (List ℕ)) (e : JsImportName × List ℕ) → option_map (λ (d : List ℕ). (name, d)) o ≡ Some e
+    → (o ≡ Some e.1) × (e.0 ≡ name)
+drawn_is name None e h = cc
+drawn_is name (Some d) e h =
+    let same : (name, d) ≡ e = cc in
+    (ap (λ (x : JsImportName × List ℕ). Some x.1) same, ap (λ (x : JsImportName × List ℕ). x.0) (sym same))
+
+import_one : (a b : JsImportName) → Import a ≡ Import b → a ≡ b
+import_one a b e = cc
+
+-- ---- what has a drawn name
+
+module _ (s : Settings) (l : Lowered) (m : NameMap) (n : AreNames s l m) where
+  asked_import : (w : Wanted) (name : JsImportName) → Import name ≡ w.thing
+      → IsIn w (imports_wanted s l n.wanted.pairs ++ flat_map function_names n.wanted.functions) → is_global_name name ≡ false
+  asked_import w name e i = elim (in_either w (imports_wanted s l n.wanted.pairs) (flat_map function_names n.wanted.functions) i) [
+    | inl here ↦
+        let r = from_part (import_wanted s.target) w (called_once s l n.wanted.pairs) here in
+        let k = wanted_only s.target r.0 w r.2 in
+        ap is_global_name (import_one name r.0 (e ∙ k.0)) ∙ k.1
+    | inr later ↦ let r = from_flat function_names n.wanted.functions w later in absurd (no_function r.0 w name r.2 e)
+  ]
+
+  asked_thing : (w : Wanted) (name : JsImportName) → Import name ≡ w.thing → IsIn w n.list → is_global_name name ≡ false
+  asked_thing w name e i =
+      let imports = imports_wanted s l n.wanted.pairs ++ flat_map function_names n.wanted.functions in
+      elim (in_either w (flat_map class_names l.aux.structs) (map enum_name n.wanted.enums ++ imports) (subst (IsIn w) n.wanted.all i)) [
+        | inl here ↦ let r = from_flat class_names l.aux.structs w here in absurd (no_class r.0 w name r.2 e)
+        | inr later ↦ elim (in_either w (map enum_name n.wanted.enums) imports later) [
+          | inl here ↦ let r = from_map enum_name w n.wanted.enums here in absurd (no_enum r.0 w name r.2 e)
+          | inr last ↦ asked_import w name e last
+        ]
+      ]
+
+  -- it is no global
+  pub named_no_global : (name : JsImportName) (drawn : List ℕ) → import_name m name ≡ Some drawn → is_global_name name ≡ false
+  named_no_global name drawn e =
+      let w = at_wanted (Import name) drawn n.list n.drawn.names (stands n.list n.drawn.names m (Import name) drawn n.drawn.filled e) in
+      asked_thing w.0 name w.2 w.1
+
+  -- two that have one name are one
+  pub named_apart : (a b : JsImportName) (drawn : List ℕ) → import_name m a ≡ Some drawn → import_name m b ≡ Some drawn → a ≡ b
+  named_apart a b drawn h k = import_one a b (n.good.apart (Import a) (Import b) drawn h k)
+
+  -- its name is that of no function
+  pub named_no_function : (name : JsImportName) (e : AuxExport) (drawn : List ℕ) → import_name m name ≡ Some drawn
+      → function_name m e ≡ Some drawn → ⊥
+  named_no_function name e drawn h k = let same = n.good.apart (Import name) (Function (qualified e)) drawn h k in cc
+
+  -- ---- of what is called by the adapters of these pairs, which are some of the description's, and all of own imports
+
+  module _ (pairs : List (ImportId × ℕ)) (sub : (pair : ImportId × ℕ) → IsIn pair pairs → IsIn pair l.wit.implements)
+      (has : (pair : ImportId × ℕ) → IsIn pair l.wit.implements → has_number pair.0.0 (own_imports s l.«module» l.wit l.aux) ≡ true
+      → IsIn pair pairs) where
+    abbrev own : List ℕ
+    own = own_imports s l.«module» l.wit l.aux
+
+    abbrev called : List JsImportName
+    called = called_once s l pairs
+
+    abbrev listed : List (JsImportName × List ℕ)
+    listed = drawn_imports s l m pairs
+
+    -- what the code of an own import's adapter calls is among it
+    pub code_called : (pair : ImportId × ℕ) → IsIn pair l.wit.implements → has_number pair.0.0 own ≡ true → (name : JsImportName)
+        → IsIn name (called_names l pair.1) → IsIn name called
+    code_called pair at is name i =
+        once_has name (names_called s l pairs)
+        (in_flat (pair_names own l) pairs pair name (has pair at is) (where_true name (called_names l pair.1) (has_number pair.0.0 own) is i))
+
+    -- and so is what is described of an adapter that such code calls
+    pub entry_called : (id : ℕ) (w : AuxImport) → has_number id (own_callees s l) ≡ true → entry_of id l.aux.imports ≡ Some w
+        → (name : JsImportName) → IsIn name (names_of (js_import w)) → IsIn name called
+    entry_called id w mine is name i =
+        let pair = from_flat (pair_callees own l) l.wit.implements id (number_in id (own_callees s l) mine) in
+        let code = code_of (look_up nat_cmp l.wit.adapters pair.0.1) in
+        let call = in_where id (filter_map callee code) (has_number pair.0.0.0 own) pair.2 in
+        let step = from_part callee id code call.0 in
+        let there : IsIn name (called_name l.aux.imports step.0) =
+        subst (λ (x : Instruction). IsIn name (called_name l.aux.imports x)) (sym (callee_is step.0 id step.2))
+        (subst (λ (o : Option AuxImport). IsIn name (names_of (option_and_then js_import o))) (sym is) i) in
+        code_called pair.0 pair.1 call.1 name (in_flat (called_name l.aux.imports) code step.0 name step.1 there)
+
+    -- it is described
+    pub called_described : (name : JsImportName) → IsIn name called → IsIn name (described_names l.aux)
+    called_described name i =
+        let pair = from_flat (pair_names own l) pairs name (once_from name (names_called s l pairs) i) in
+        let step = from_flat (called_name l.aux.imports) (code_of (look_up nat_cmp l.wit.adapters pair.0.1)) name
+        (in_where name (called_names l pair.0.1) (has_number pair.0.0.0 own) pair.2).0 in
+        in_left name (flat_map (λ (x : ℕ × AuxImport). names_of (js_import x.1)) l.aux.imports) (map (λ r. r.1.name) l.aux.reexports)
+        (step_described l.aux.imports step.0 name step.2)
+
+    -- and has a drawn name, where it is no global
+    pub called_named : (name : JsImportName) → IsIn name called → is_global_name name ≡ false → (drawn : List ℕ) × (import_name m name ≡ Some drawn)
+    called_named name i h =
+        let moved = λ (x : ImportId × ℕ) (k : IsIn x pairs).
+        moved_from n.wanted.pairs l.wit.implements (IsPermutation-sym _ _ n.wanted.by_import.same) x (sub x k) in
+        let there = once_has name (names_called s l n.wanted.pairs)
+        (flat_more (pair_names own l) pairs n.wanted.pairs moved name (once_from name (names_called s l pairs) i)) in
+        let w = wanted_there s.target name h in
+        let asked = in_part (import_wanted s.target) name w.0 (called_once s l n.wanted.pairs) there w.1 in
+        let among : IsIn w.0 n.list = subst (IsIn w.0) (sym n.wanted.all) (in_right w.0 (flat_map class_names l.aux.structs) _
+        (in_right w.0 (map enum_name n.wanted.enums) _
+        (in_left w.0 (imports_wanted s l n.wanted.pairs) (flat_map function_names n.wanted.functions) asked))) in
+        n.good.found (Import name) (subst (λ (t : Named). IsIn t (map (λ (x : Wanted). x.thing) n.list)) (sym w.2)
+        (in_map (λ (x : Wanted). x.thing) w.0 n.list among))
+
+    -- so it is listed with that name
+    pub named_listed : (name : JsImportName) (drawn : List ℕ) → IsIn name called → import_name m name ≡ Some drawn → IsIn (name, drawn) listed
+    named_listed name drawn i e = in_part (drawn_import m) name (name, drawn) called i (ap (option_map (λ (d : List ℕ). (name, d))) e)
+
+    -- what is listed is called, and has that name
+    pub listed_named : (import : JsImportName × List ℕ) → IsIn import listed → IsIn import.0 called × (import_name m import.0 ≡ Some import.1)
+    listed_named import i =
+        let r = from_part (drawn_import m) import called i in
+        let k = drawn_is r.0 (import_name m r.0) import r.2 in
+        (subst (λ (x : JsImportName). IsIn x called) (sym k.1) r.1, ap (import_name m) k.1 ∙ k.0)
+
+    listed_of : (drawn : List ℕ) → IsIn drawn (names_drawn listed) → (name : JsImportName) × (import_name m name ≡ Some drawn)
+    listed_of drawn i =
+        let r = from_map (λ (x : JsImportName × List ℕ). x.1) drawn listed i in
+        (r.0.0, (listed_named r.0 r.1).1 ∙ ap Some (sym r.2))
+
+    -- the names are distinct identifiers
+    pub listed_distinct : AreDistinct (names_drawn listed)
+    listed_distinct =
+        part_distinct (drawn_import m) (λ (x : JsImportName × List ℕ). x.1) called (once_distinct (names_called s l pairs)) (λ a b u v h k look.
+        named_apart a b u.1 (drawn_is a (import_name m a) u h).0 ((drawn_is b (import_name m b) v k).0 ∙ ap Some (sym look)))
+
+    pub listed_idents : list_all is_ident (names_drawn listed) ≡ true
+    listed_idents =
+        list_all-from_AllPass is_ident (names_drawn listed) (all_are (λ (x : List ℕ). is_ident x ≡ true) (names_drawn listed)
+        (λ drawn i. let r = listed_of drawn i in n.good.idents (Import r.0) drawn r.1))
+
+    -- none of them is reserved
+    pub listed_free : (drawn : List ℕ) → IsIn drawn (names_drawn listed) → set.contains (reserved_names s l) drawn ≡ false
+    listed_free drawn i = let r = listed_of drawn i in n.good.free (Import r.0) drawn r.1
+
+    -- so none is of the outside, or one that the glue file binds in each case
+    pub listed_no_host : AreApart (names_drawn listed) (host_names s l.aux)
+    listed_no_host = free_no_host s l (names_drawn listed) listed_free
+
+    pub listed_no_fixed : AreApart (names_drawn listed) (fixed_names s l.«module»)
+    listed_no_fixed = free_no_fixed s l (names_drawn listed) listed_free
+
+    -- and none is that of a function of an export
+    pub listed_no_function : (es : List AuxExport) → list_all (is_named m) es ≡ true → AreApart (names_drawn listed) (map (declared_name m) es)
+    listed_no_function es named =
+        apart_by (names_drawn listed) (map (declared_name m) es) (λ drawn i k.
+        let r = listed_of drawn i in
+        let e = given_of m es named drawn k in
+        named_no_function r.0 e.0 drawn r.1 e.2)

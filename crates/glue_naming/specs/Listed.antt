@@ -1,0 +1,31 @@
+-- What own imports call, listed with the names that are drawn for it.
+use Rattle.std.specs.Prelude.{ℕ, Bool, true, false, List, map, Option, option_map, filter_map}
+use Rattle.wasm_core.specs.ids.ImportId.{ImportId}
+use Rattle.glue_shared.specs.declared.description.Lowered.{Lowered}
+use Rattle.glue_shared.specs.declared.import.JsImportName.{JsImportName}
+use Rattle.glue_shared.specs.declared.import.JsImportName.TheVariants.{Global}
+use Rattle.glue_shared.specs.declared.name_map.NameMap.{NameMap}
+use Rattle.glue_shared.specs.declared.settings.Settings.{Settings}
+use Rattle.glue_naming.specs.Imported.{each_once, names_called}
+use Rattle.glue_naming.specs.Naming.{import_name}
+
+-- a global, for which no name is drawn
+abbrev pub is_global_name : JsImportName → Bool
+is_global_name (Global name) = true
+is_global_name other = false
+
+-- what own imports among these pairs call, each once, in the order in which it is first called
+abbrev pub called_once : Settings → Lowered → List (ImportId × ℕ) → List JsImportName
+called_once s l pairs = each_once (names_called s l pairs)
+
+-- what an import begins with, and the name that was drawn for it, where one was
+abbrev pub drawn_import : NameMap → JsImportName → Option (JsImportName × List ℕ)
+drawn_import m name = option_map (λ (drawn : List ℕ). (name, drawn)) (import_name m name)
+
+-- what own imports among these pairs call that has a drawn name, each once, in the order in which it is first called, with that name
+abbrev pub drawn_imports : Settings → Lowered → NameMap → List (ImportId × ℕ) → List (JsImportName × List ℕ)
+drawn_imports s l m pairs = filter_map (drawn_import m) (called_once s l pairs)
+
+-- those names
+abbrev pub names_drawn : List (JsImportName × List ℕ) → List (List ℕ)
+names_drawn imports = map (λ import. import.1) imports
