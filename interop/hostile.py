@@ -96,6 +96,11 @@ PLACES = {
     "field of a vendor's name": described(
         lambda t: ["Bare", {"vendor": "f", "prefixes": ["webkit"], "fields": [t]}], kind="constructor"
     ),
+    "property of a name in a module": described(lambda t: ["Bare", {"module": "m", "name": "f", "fields": [t]}], args=1),
+    "properties of a name in a module": described(
+        lambda t: ["Bare", {"local": "m.js", "name": t, "fields": ["a.b", t, "[Symbol.iterator]", t]}], args=1, result=True
+    ),
+    "module of a name with a property": described(lambda t: ["Bare", {"inline": t, "index": 0, "name": "f", "fields": ["x"]}]),
     "vendor name": described(lambda t: ["Bare", {"vendor": t, "prefixes": ["webkit"]}]),
     "vendor prefix": described(lambda t: ["Bare", {"vendor": "f", "prefixes": [t]}]),
     "method of a value": described(lambda t: ["ValueWithThis", {"global": "console"}, t]),
@@ -126,6 +131,8 @@ PLACES = {
     "name of a WebAssembly export": lambda t: {**exported(lambda u: {})(t), "export": t},
     "module of another import": lambda t: {"description": {}, "foreign": t},
     "name of another import": lambda t: {"description": {}, "foreign": "env", "other": t},
+    "name of a memory": lambda t: {"description": {}, "memory": t},
+    "string constant": lambda t: {"description": {}, "string": t},
 }
 
 
@@ -139,6 +146,11 @@ def module(case):
     if "foreign" in case:
         imports.append(name(case["foreign"]) + name(case.get("other", "g")) + b"\0\1")
     exports = [name(case.get("export", "run")) + b"\0" + leb128(len(imports))]
+    if "memory" in case:
+        imports.append(name("env") + name(case["memory"]) + b"\2\0\1")
+    if "string" in case:
+        imports.append(name("wasm:js/string-constants") + name(case["string"]) + b"\3\x6f\0")
+        exports.append(name("string") + b"\3\0")
     glue = name("__wbg_glue") + json.dumps({"version": 1, **case["description"]}).encode()
     body = vector([]) + b"\x0b"
     return (

@@ -3,9 +3,10 @@
 
 imports.json has for each kind of import and each operation how it is called, whether each operand is read as signed (`i`)
 or unsigned (`u`), and the statements for Deno. Each import that begins with the global `Thing` is tried twice more, with a
-name of a module and with a vendor's name in its place, but where the name can be the import itself. All imports that are
-built are put into one module, whose glue file is made by the program; then each member's statements are compared, and the
-lines that bind the two names. Imports that the program names as not built are counted.
+name of a module and with a vendor's name in its place, but where the name can be the import itself. Where a property of a
+name of a module is only handed on to, its definition is an expression, which is compared in place of the statements. All
+imports that are built are put into one module, whose glue file is made by the program; then each member is compared, and
+the lines that bind the two names. Imports that the program names as not built are counted.
 
 The program is the one that the environment variable GLUE names, or else the one that the script glue runs. Needs Python
 3.9. It is no part of the gate.
@@ -13,6 +14,7 @@ The program is the one that the environment variable GLUE names, or else the one
 
 import json
 import os
+import re
 import subprocess
 import sys
 from pathlib import Path
@@ -60,10 +62,16 @@ OTHERS = [
 ]
 
 
-def is_import_itself(case, name):
-    """Whether a name of a module is called with nothing changed: it is the import itself; a property of one isn't built."""
+def only_hands_on(case, name):
+    """Whether a name of a module is called with nothing changed: it is the import itself, and a property of it a definition."""
     plain = case["kind"] == "normal" and not case["variadic"] and "u" not in case["args"]
     return "module" in name and case["what"][0] == "Bare" and plain
+
+
+def definition(text):
+    """The expression that defines an import which only hands on, told by the statements of a function that calls the same."""
+    access = re.match(r"(?:const ret = )?(.*?)\(", text)[1]
+    return f'typeof {access} == "function" ? {access} : notDefined({json.dumps(access)})'
 
 
 def with_others(cases):
@@ -72,9 +80,11 @@ def with_others(cases):
     for name, drawn, _ in OTHERS:
         for case in cases:
             named = [part for part in case["what"] if isinstance(part, dict) and part.get("global") == "Thing"]
-            if named and not is_import_itself(case, name):
+            handed = only_hands_on(case, name)
+            if named and (named[0]["fields"] or not handed):
                 what = [{**name, "fields": part["fields"]} if part in named else part for part in case["what"]]
                 text = case["text"].replace("Thing", drawn)
+                text = definition(text) if handed else text
                 more.append({**case, "name": f"{case['name']} by {drawn}", "what": what, "text": text})
     return more
 
@@ -116,9 +126,12 @@ def listing(command, cases):
     return done.stdout.decode()
 
 
-def statements(text, place):
-    """The statements of the member of an import, without indentation."""
-    begin = text.index(f"        f{place}: function(")
+def member(text, place):
+    """The statements of the function of an import, without indentation, or the expression that stands in its place."""
+    front = f"\n        f{place}: "
+    begin = text.index(front) + len(front)
+    if not text.startswith("function(", begin):
+        return text[begin : text.index(",\n", begin)]
     inside = text[text.index("\n", begin) + 1 : text.index("\n        },", begin)]
     return "\n".join(line.strip() for line in inside.split("\n"))
 
@@ -135,9 +148,9 @@ def main():
     front = text[text.index("\nfile out.js") :].split("\n")[2 : 2 + len(OTHERS)]
     if front != [line for _, _, line in OTHERS]:
         sys.exit(f"the names are bound by {front}")
-    wrong = [case for place, case in enumerate(built) if statements(text, place) != case["text"]]
+    wrong = [case for place, case in enumerate(built) if member(text, place) != case["text"]]
     for case in wrong:
-        print(f"{case['name']}: {statements(text, built.index(case))!r} in place of {case['text']!r}")
+        print(f"{case['name']}: {member(text, built.index(case))!r} in place of {case['text']!r}")
     print(f"{len(built) - len(wrong)} of {len(cases)} texts are the same, {len(refused)} aren't built, {len(wrong)} differ")
     sys.exit(bool(wrong))
 

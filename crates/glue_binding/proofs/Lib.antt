@@ -2,6 +2,7 @@ mod Coming
 mod Drawing
 mod Each
 pub mod Fits
+pub mod Free
 mod Functions
 pub mod Linked
 pub mod Outer

@@ -707,6 +707,18 @@ module _ (count : ℕ) (locals : List (List ℕ)) (there : (n : ℕ) → nat_lt 
       let s = parts_stand next (p ∷ parts) (fed next k (p ∷ parts) given.0 given.1) in
       record { good = s.good; each = s.each }
 
+-- the words of parts that go by neither locals nor operands stand before what follows them
+pub record StandsFree (next : Option Word) (parts : List Part) : Type 0 where
+  pub good : list_all is_good (parts_words parts [] []) ≡ true
+  pub each : each_next spaced (parts_words parts [] []) next ≡ true
+
+pub free_stand : (next : Option Word) (parts : List Part) → parts_fit 0 next parts ≡ true → StandsFree next parts
+free_stand next parts h =
+    let s = parts_stand 0 [] none [] tt next parts h in record { good = s.good; each = s.each }
+  where
+    none : (n : ℕ) → nat_lt n 0 ≡ true → is_ident (item_at [] [] n) ≡ true
+    none n less = let no : n < 0 = grind (arith, nat_tests, less) in absurd (omega (arith, no))
+
 -- ---- the statement
 
 -- words that take no export begin with none

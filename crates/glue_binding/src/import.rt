@@ -255,3 +255,13 @@ pub fn import_line(
     words.push(Word::Punct(punct::SEMICOLON))?;
     Ok(words)
 }
+
+/// The words of parts that go by neither locals nor operands: where one does, the name is empty, and the operand `null`. Want of memory is the
+/// only error.
+pub fn spell(alloc: Global, parts: &[Part]) -> Result<Seq<Word>, AllocError>
+    ensures words { IfOk result (λ words. words ≡ s.parts_words parts.now [] []) }
+{
+    let mut words = Seq::new(alloc);
+    push_parts(alloc, parts, &[], &[], &mut words)?;
+    Ok(words)
+}

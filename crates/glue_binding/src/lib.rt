@@ -19,4 +19,5 @@ mod seed;
 mod stack;
 
 pub use binding::bind;
+pub use import::spell;
 pub use seed::reserve_seed;

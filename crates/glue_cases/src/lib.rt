@@ -23,7 +23,11 @@ mod listed;
 #[cfg(test)]
 mod marked;
 #[cfg(test)]
+mod memories;
+#[cfg(test)]
 mod names;
+#[cfg(test)]
+mod parts;
 #[cfg(test)]
 mod prepare;
 #[cfg(test)]
@@ -34,5 +38,7 @@ mod settings;
 mod several;
 #[cfg(test)]
 mod shared;
+#[cfg(test)]
+mod strings;
 #[cfg(test)]
 mod support;

@@ -1,30 +1,6 @@
 //! Whole glue files that take names of modules and vendors, export functions under any names, and hold helpers.
-use crate::compare::assert_case;
-use crate::support::{glue_bytes, made};
-use glue_inputs::with_custom;
-use std::alloc::Global;
-use std::process::Abort;
+use crate::support::assert_file;
 use std::test::Fail;
-
-/// The glue file of a module with a description is this text.
-fn assert_file<H: Abort>(
-    rt: &H,
-    alloc: Global,
-    module: &[u8],
-    description: &str,
-    want: &str,
-) -> Result<(), Fail> {
-    let bytes = with_custom(alloc, module, "__wbg_glue", description.as_bytes())?;
-    let output = made(alloc, true, "out", bytes.as_slice())?;
-    let glue = glue_bytes(alloc, &output);
-    drop(output);
-    let glue = glue?;
-    match std::str::from_utf8(glue.as_slice()) {
-        Ok(text) => assert_case(rt, text == want, &text),
-        Err(_) => assert_case(rt, false, &want),
-    }
-    Ok(())
-}
 
 // A module that imports `b`, `a`, `c`, `d`, `e`, `g` and `h` of the module of placeholders, each of one integer.
 const SEVEN_IMPORTS: &[u8] =

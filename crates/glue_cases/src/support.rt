@@ -1,7 +1,9 @@
-use crate::compare::{assert_told, shown};
+use crate::compare::{assert_case, assert_told, shown};
 use cli_support::{Bindgen, Fault, JsonLowering, Output, SetFault};
 use glue_ends::PlannedFile;
+use glue_inputs::with_custom;
 use std::alloc::{AllocError, Global};
+use std::process::Abort;
 use std::test::Fail;
 use values::Seq;
 use wasm_core::EmitFault;
@@ -182,4 +184,41 @@ pub fn glue_bytes(alloc: Global, output: &Output) -> Result<Seq<u8>, EmitFault> 
         Some(file) => Ok(file.bytes),
         None => Ok(Seq::new(alloc)),
     }
+}
+
+/// The glue file of a module with a description is this text.
+pub fn assert_file<H: Abort>(
+    rt: &H,
+    alloc: Global,
+    module: &[u8],
+    description: &str,
+    want: &str,
+) -> Result<(), Fail> {
+    let bytes = with_custom(alloc, module, "__wbg_glue", description.as_bytes())?;
+    let output = made(alloc, true, "out", bytes.as_slice())?;
+    let glue = glue_bytes(alloc, &output);
+    drop(output);
+    let glue = glue?;
+    match std::str::from_utf8(glue.as_slice()) {
+        Ok(text) => assert_case(rt, text == want, &text),
+        Err(_) => assert_case(rt, false, &want),
+    }
+    Ok(())
+}
+
+/// The module that is written for a module with a description begins with these bytes.
+pub fn assert_module<H: Abort>(
+    rt: &H,
+    alloc: Global,
+    module: &[u8],
+    description: &str,
+    want: &[u8],
+) -> Result<(), Fail> {
+    let bytes = with_custom(alloc, module, "__wbg_glue", description.as_bytes())?;
+    let output = made(alloc, true, "out", bytes.as_slice())?;
+    let written = module_bytes(alloc, &output);
+    drop(output);
+    let written = written?;
+    assert_case(rt, written.as_slice().starts_with(want), &written);
+    Ok(())
 }

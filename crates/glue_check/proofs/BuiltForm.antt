@@ -1,15 +1,10 @@
 -- What is known of a description of which all is built.
 use Rattle.std.proofs.Common.{◌≡◌, ℕ, List, [], ◌∷◌, Bool, true, false, not, ◌&&◌, ◌||◌, Option, Some, None, true≢false, refl, sym, ◌∙◌, inl, inr, rules}
-use Rattle.std.specs.Prelude.{codes}
 use Rattle.std.specs.List.{list_any, list_all}
 use Rattle.std.specs.Option.{is_some}
-use Rattle.std.proofs.lemmas.Bool.{and_parts}
 use Rattle.std.proofs.lemmas.Slice.Eq.{bytes_eq-Decides}
 use Rattle.std.specs.Str.{bytes_eq}
 use Rattle.values.specs.Lists.{IsIn, IsAway}
-use Rattle.wasm_core.specs.declared.types.Import.{Import}
-use Rattle.wasm_core.specs.declared.types.Memory.{Memory}
-use Rattle.glue_words.specs.Ident.{is_ident}
 use Rattle.glue_shared.specs.declared.adapter.Adapter.{Adapter}
 use Rattle.glue_shared.specs.declared.aux.AuxExport.{AuxExport}
 use Rattle.glue_shared.specs.declared.aux.AuxExportKind.{AuxExportKind}
@@ -19,15 +14,13 @@ use Rattle.glue_shared.specs.declared.description.Lowered.{Lowered}
 use Rattle.glue_shared.specs.declared.settings.Settings.{Settings}
 use Rattle.glue_shared.specs.declared.settings.Target.{Target}
 use Rattle.glue_shared.specs.declared.settings.Target.TheVariants as targets
-use Rattle.glue_shared.specs.Names.{is_one_of, host_names, fixed_names}
-use Rattle.glue_adapters.specs.Resolving.{is_some_item}
+use Rattle.glue_shared.specs.Names.{is_one_of, own_imports}
+use Rattle.glue_adapters.specs.Resolving.{entry_at, is_some_item}
 use Rattle.glue_faults.proofs.First.{where_true-none, list_any-none, neither}
 use Rattle.glue_adapters.specs.Adapters.{code_of}
-use Rattle.glue_adapters.specs.Pairs.{is_placeholder}
 use Rattle.glue_check.specs.declared.files.FileFlags.{FileFlags}
 use Rattle.glue_check.specs.declared.verdict.Condition.TheVariants as conditions
 use Rattle.glue_check.specs.Answers.{answer}
-use Rattle.glue_check.specs.Handed.{is_part_pair}
 use Rattle.glue_check.specs.Links.{unembedded}
 use Rattle.glue_check.specs.Unbuilt as spec
 use Rattle.glue_imports.specs.Expressions.{has_expression}
@@ -96,40 +89,27 @@ settings_built f s l h =
 
 -- ---- imports
 
--- an import of the module of placeholders is a function
-placeholder_is : (i : Import) → spec.is_other_import (Some i) ≡ false → is_placeholder (Some i) ≡ true → spec.is_function i.kind ≡ true
-placeholder_is i h ours = by (is_placeholder (Some i)) (bytes_eq i.«module» (codes "wasm:js/string-constants")) (spec.is_function i.kind) ours h
-  where
-    by : (p c f : Bool) → p ≡ true → ((p || c) && not (p && f)) ≡ false → f ≡ true
-    by true c f e h = not_false f h
-    by false c f e h = absurd (true≢false (sym e))
-
-memory_is : (m : Memory) → spec.is_memory_imported (Some m) ≡ false → m.import ≡ None
-memory_is m h = absent m.import h
-
 -- the imports of the module and of the description, and the setting on them
 pub record AreBuiltImports (s : Settings) (l : Lowered) : Type 0 where
-  pub placeholders : (i : Import) → IsIn (Some i) l.«module».imports → is_placeholder (Some i) ≡ true → spec.is_function i.kind ≡ true
-  pub memories : (m : Memory) → IsIn (Some m) l.«module».memories → m.import ≡ None
+  pub kinds : (place : ℕ) → IsIn place (own_imports s l.«module» l.wit l.aux) → spec.is_defined_kind l.«module» (entry_at l.«module».imports place) ≡ true
   pub expressions : (e : ℕ × AuxImport) → IsIn e l.aux.imports → (has_expression s e.1 || is_some (unembedded s.split_linked_modules e)) ≡ true
   pub kept : s.omit_imports ≡ false
 
 pub imports_built : (f : FileFlags) (s : Settings) (l : Lowered) → unbuilt f s l ≡ None → AreBuiltImports s l
 unfolding answer is_unbuilt_entry
 imports_built f s l h =
+    let own = own_imports s l.«module» l.wit l.aux in
+    let others = list_any (spec.is_other_own l.«module») own in
     let entries = list_any (is_unbuilt_entry s) l.aux.imports in
-    let parts = list_any (is_part_pair l) l.wit.implements in
-    let forms = spec.has_other_imports l.«module» || (entries || parts) in
+    let forms = others || entries in
     let slots = is_some_item l.aux.static_slots in
     let all = neither forms (slots || s.omit_imports) (where_true-none (forms || (slots || s.omit_imports)) _ (none_unbuilt conditions.UnbuiltImports f s l (search rules) h)) in
-    let both = neither (spec.has_other_imports l.«module») (entries || parts) all.0 in
-    let described = neither entries parts both.1 in
-    let brought = neither (list_any spec.is_other_import l.«module».imports) (list_any spec.is_memory_imported l.«module».memories) both.0 in
+    let both = neither others entries all.0 in
     let rest = neither slots s.omit_imports all.1 in record {
-      placeholders = λ i k. placeholder_is i (list_any-none spec.is_other_import l.«module».imports (Some i) brought.0 k);
-      memories = λ m k. memory_is m (list_any-none spec.is_memory_imported l.«module».memories (Some m) brought.1 k);
+      kinds = λ place i.
+          not_false (spec.is_defined_kind l.«module» (entry_at l.«module».imports place)) (list_any-none (spec.is_other_own l.«module») own place both.0 i);
       expressions = λ e i.
-          not_false (has_expression s e.1 || is_some (unembedded s.split_linked_modules e)) (list_any-none (is_unbuilt_entry s) l.aux.imports e described.0 i);
+          not_false (has_expression s e.1 || is_some (unembedded s.split_linked_modules e)) (list_any-none (is_unbuilt_entry s) l.aux.imports e both.1 i);
       kept = rest.1;
     }
 

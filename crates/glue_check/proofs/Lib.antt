@@ -6,7 +6,7 @@ pub mod ExportNames
 pub mod FaultKinds
 pub mod Globals
 pub mod Embedded
-mod OwnNames
+pub mod OwnNames
 mod Operands
 pub mod OwnPairs
 pub mod Passed

@@ -1,16 +1,18 @@
--- The imports that the glue file defines by their names, and modules that foreign imports come from.
-use Rattle.std.proofs.Common.{◌≡◌, ℕ, zero, suc, List, [], ◌∷◌, ◌++◌, map, Option, Some, None, refl, sym, ap, ◌∙◌}
-use Rattle.std.specs.List.{flat_map}
+-- The imports that the glue file defines by their names and by their places, and modules that foreign imports come from.
+use Rattle.std.proofs.Common.{◌≡◌, ℕ, zero, suc, List, [], ◌∷◌, ◌++◌, map, Bool, Option, Some, None, refl, sym, ap, ◌∙◌}
+use Rattle.std.specs.List.{flat_map, list_any}
 use Rattle.std.proofs.lemmas.List.{append-nil}
 use Rattle.wasm_core.specs.ids.ImportId.{ImportId}
 use Rattle.wasm_core.specs.declared.types.Import.{Import}
 use Rattle.glue_shared.specs.declared.description.Lowered.{Lowered}
 use Rattle.glue_shared.specs.declared.settings.Settings.{Settings}
 use Rattle.glue_shared.specs.Names.{name_at, own_imports, own_names}
+use Rattle.glue_shared.proofs.Texts.{list_any-map}
 use Rattle.glue_adapters.specs.Resolving.{entry_at}
 use Rattle.glue_adapters.specs.Pairs.{implemented}
 use Rattle.glue_check.specs.declared.modules.Claimed.{Claimed}
 use Rattle.glue_check.specs.Modules.{claims, placed_clash, first_placed, foreign_module}
+use Rattle.glue_check.specs.Unbuilt.{is_other_own}
 
 -- the name of an import, if there is one
 abbrev name_of : Option Import → List (List ℕ)
@@ -45,6 +47,18 @@ own_named s l imports ids listed is same own =
     ∙ ap (λ (xs : List ImportId). flat_map (λ (id : ImportId). name_at id.0 l.«module».imports) xs) same
     ∙ names_of_ids l.«module».imports ids
     ∙ ap (flat_map (λ place. name_at place l.«module».imports)) own
+
+-- one of these imports passes a test of its place
+pub any_of_ids : (p : ℕ → Bool) (ids : List ImportId) → list_any p (map (λ (id : ImportId). id.0) ids) ≡ list_any (λ (id : ImportId). p id.0) ids
+any_of_ids p ids = list_any-map p (λ (id : ImportId). id.0) ids
+
+-- one of the imports that the glue file defines brings in another thing than what is built, by their ids
+pub others_found : (s : Settings) (l : Lowered) (ids listed : List ImportId) → listed ≡ ids → map (λ (id : ImportId). id.0) ids ≡ own_imports s l.«module» l.wit l.aux
+    → list_any (λ (id : ImportId). is_other_own l.«module» id.0) listed ≡ list_any (is_other_own l.«module») (own_imports s l.«module» l.wit l.aux)
+others_found s l ids listed same own =
+    ap (list_any (λ (id : ImportId). is_other_own l.«module» id.0)) same
+    ∙ sym (any_of_ids (is_other_own l.«module») ids)
+    ∙ ap (list_any (is_other_own l.«module»)) own
 
 -- the first clash of a foreign module, by the lists that are known
 pub foreign_known : (s : Settings) (l : Lowered) (own paired : List ℕ) (known listed : List Claimed) (imports : List (Option Import))

@@ -1,5 +1,5 @@
 -- What isn't built yet: each kind of it by a name.
-use Rattle.std.specs.Prelude.{ℕ, nat_eq, Bool, true, false, not, ◌&&◌, ◌||◌, is_some, List, codes, Option, Some, None}
+use Rattle.std.specs.Prelude.{ℕ, ◌^◌, nat_eq, nat_lt, Bool, true, false, not, ◌&&◌, ◌||◌, is_some, List, codes, Option, Some, None}
 use Rattle.std.specs.List.{list_any, list_all, starts_with}
 use Rattle.wasm_core.specs.Contents.{Contents}
 use Rattle.wasm_core.specs.declared.types.Func.{Func}
@@ -20,17 +20,15 @@ use Rattle.glue_shared.specs.declared.description.Lowered.{Lowered}
 use Rattle.glue_shared.specs.declared.settings.Settings.{Settings}
 use Rattle.glue_shared.specs.declared.settings.Target.{Target}
 use Rattle.glue_shared.specs.declared.settings.Target.TheVariants as targets
+use Rattle.glue_shared.specs.Names.{own_imports}
 use Rattle.glue_imports.specs.Expressions.{has_expression}
-use Rattle.glue_adapters.specs.Resolving.{is_some_item}
+use Rattle.glue_adapters.specs.Resolving.{entry_at, is_some_item}
 use Rattle.glue_faults.specs.declared.fault.Fault.{Fault}
 use Rattle.glue_faults.specs.declared.fault.Fault.TheVariants as faults
 use Rattle.glue_faults.specs.First.{where_true}
 use Rattle.glue_adapters.specs.Adapters.{code_of}
-use Rattle.glue_adapters.specs.Pairs.{is_placeholder}
 use Rattle.glue_check.specs.declared.files.FileFlags.{FileFlags}
-use Rattle.glue_check.specs.Handed.{is_part_pair}
 use Rattle.glue_check.specs.Links.{unembedded}
-use Rattle.glue_check.specs.Modules.{is_reserved}
 
 -- ---- targets
 
@@ -48,28 +46,42 @@ abbrev pub is_function : ImportKind → Bool
 is_function (import_kinds.Func func) = true
 is_function other = false
 
--- an import of the module of placeholders that is no function, or one of string constants
-abbrev pub is_other_import : Option Import → Bool
-is_other_import None = false
-is_other_import (Some i) = is_reserved i.«module» && not (is_placeholder (Some i) && is_function i.kind)
+-- a limit that a signed number of 64 bits holds, where there is one
+abbrev pub is_small : Option ℕ → Bool
+is_small None = true
+is_small (Some most) = nat_lt most (2 ^ 63)
 
--- a memory that is imported
-abbrev pub is_memory_imported : Option Memory → Bool
-is_memory_imported None = false
-is_memory_imported (Some memory) = is_some memory.import
+-- a memory whose definition is built: its limits are as a module that is read has them
+abbrev pub is_plain : Memory → Bool
+is_plain memory = nat_lt memory.limits.min (2 ^ 63) && is_small memory.limits.max
 
--- a module that imports such things
-abbrev pub has_other_imports : Contents → Bool
-has_other_imports m = list_any is_other_import m.imports || list_any is_memory_imported m.memories
+-- the memory that an import brings in, where one stands
+abbrev pub memory_of : Contents → ImportKind → Option Memory
+memory_of m (import_kinds.Memory id) = entry_at m.memories id.0
+memory_of m other = None
+
+-- a memory stands, and its definition is built
+abbrev pub is_plain_memory : Option Memory → Bool
+is_plain_memory None = false
+is_plain_memory (Some memory) = is_plain memory
+
+-- the import brings in a function or such a memory
+abbrev pub is_defined_kind : Contents → Option Import → Bool
+is_defined_kind m None = false
+is_defined_kind m (Some i) = is_function i.kind || is_plain_memory (memory_of m i.kind)
+
+-- the import at a place brings in another thing
+abbrev pub is_other_own : Contents → ℕ → Bool
+is_other_own m place = not (is_defined_kind m (entry_at m.imports place))
 
 -- an import without an expression. A link without content, where linked modules aren't split off, has none, and a condition tells of it
 unfoldable pub is_unbuilt_entry : Settings → ℕ × AuxImport → Bool
 is_unbuilt_entry settings entry = not (has_expression settings entry.1 || is_some (unembedded settings.split_linked_modules entry))
 
--- imports of another form, adapters that only hand on to a property of a module's name, or a setting that changes imports
+-- imports that the glue file defines and that bring in another thing, imports of another form, or a setting that changes imports
 abbrev pub unbuilt_imports : Settings → Lowered → Option Fault
 unbuilt_imports settings l = where_true (
-    (has_other_imports l.«module» || (list_any (is_unbuilt_entry settings) l.aux.imports || list_any (is_part_pair l) l.wit.implements))
+    (list_any (is_other_own l.«module») (own_imports settings l.«module» l.wit l.aux) || list_any (is_unbuilt_entry settings) l.aux.imports)
     || (is_some_item l.aux.static_slots || settings.omit_imports)
     ) (faults.NotBuilt (codes "imports"))
 

@@ -10,16 +10,15 @@
 //! The generator calls it before it makes anything, and makes files of a `Checked` alone. Each condition on names is a call by itself
 //! too, from `bad_name` to `fixed_export`, since some can't be met where all is built. Of each condition, what it says of classes, enums,
 //! re-exports, namespaces that run through one another, names that a bundler gives, kinds of described imports, targets and parts is
-//! missing: no description that is built can meet it. `handed.rt` finds the adapters that are not built since they only hand on to a
-//! property of a module's name.
+//! missing: no description that is built can meet it. `own_ids` gives the imports that the glue file defines; where all is built, each
+//! brings in a function or a memory (`memory_of`), and `proofs/OwnPairs.antt` says what it is defined by.
 //!
-//! Stands on `glue_steps`, `glue_adapters`, `glue_faults`, `glue_scope`, `glue_words`, `glue_shared` and `wasm_core`.
+//! Stands on `glue_adapters`, `glue_faults`, `glue_scope`, `glue_words`, `glue_shared` and `wasm_core`.
 #![tactic(auto)]
 
 mod brought;
 mod clash;
 mod files;
-mod handed;
 mod links;
 mod modules;
 mod naming;
@@ -33,8 +32,8 @@ pub use files::FileFlags;
 pub use glue_faults::Fault;
 pub use modules::{glue_module_name, module_clash};
 pub use naming::{bad_name, global_twice, has_start, name_clash};
-pub use own::own_places;
+pub use own::{own_ids, own_places};
 pub use publishing::{export_clash, fixed_export, qualified, qualified_name};
 pub use taken::taken_names;
-pub use unbuilt::is_function_kind;
+pub use unbuilt::{is_function_kind, memory_of};
 pub use verdict::{Checked, check};

@@ -12,8 +12,8 @@ use crate::naming::where_true;
 use crate::own::{own_places, paired_places};
 use glue_faults::{Fault, IdSet};
 use glue_shared::{
-    Adapter, AdapterId, AdapterKind, AuxImport, DescribedImports, Instruction, JsImport,
-    JsImportName, Lowered, NonstandardWitSection, Settings, WasmBindgenAux, js_import,
+    AdapterId, AuxImport, DescribedImports, Instruction, JsImport, JsImportName, Lowered,
+    NonstandardWitSection, Settings, WasmBindgenAux, code_of, js_import,
 };
 use std::alloc::{AllocError, Global};
 use values::{Duplicate, Seq, Text};
@@ -180,19 +180,6 @@ fn has_call_from(
         }
     }
     Ok(false)
-}
-
-/// The code of an adapter, none where it is a call or isn't there.
-pub(crate) fn code_of(adapter: Option<&Adapter>) -> &[Instruction]
-    ensures code { result.now ≡ names.code_of (option_copied adapter.entry) }
-{
-    match adapter {
-        None => &[],
-        Some(adapter) => match &adapter.kind {
-            AdapterKind::Local(code) => code.as_slice(),
-            AdapterKind::Import(_) => &[],
-        },
-    }
 }
 
 // These places, with that of an import whose adapter calls what comes from the module.

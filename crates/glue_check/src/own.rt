@@ -35,8 +35,8 @@ pub(crate) fn paired_places(alloc: Global, wit: &NonstandardWitSection) -> Resul
     Ok(places)
 }
 
-// The same places as ids, in order.
-fn own_ids(
+/// The ids of the imports that the glue file defines, in order. Want of memory is the only error.
+pub fn own_ids(
     alloc: Global,
     settings: &Settings,
     lowered: &Lowered,
@@ -58,8 +58,8 @@ pub fn own_places(
     place_set(alloc, ids.as_slice())
 }
 
-// The import at a place, if one stands there.
-fn import_at(imports: &[Option<Import>], place: ImportId) -> Option<&Import>
+/// The import at a place, if one stands there.
+pub(crate) fn import_at(imports: &[Option<Import>], place: ImportId) -> Option<&Import>
     ensures found { option_copied result ≡ entry_at imports.now place.0 }
 {
     imports.get(place.0 as usize)?.as_ref()

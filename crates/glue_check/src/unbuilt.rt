@@ -1,15 +1,16 @@
 //! What isn't built yet, each kind of it by a name.
 ghost use Rattle.std.specs.Prelude.{◌≡◌, IfOk, not};
 ghost use Rattle.std.specs.List.{list_all, list_any};
+ghost use Rattle.std.specs.Option.{option_copied};
+ghost use Rattle.wasm_core.specs.ids.ImportId.{ImportId};
+ghost use Rattle.glue_shared.specs.Names.{own_imports};
 ghost use Rattle.glue_adapters.specs.Adapters as adapters;
 ghost use Rattle.glue_adapters.specs.Adapters.{adapter_at};
 ghost use Rattle.glue_check.specs.Unbuilt as spec;
 
 use crate::files::FileFlags;
-use crate::handed::has_part_pair;
 use crate::links::unembedded;
-use crate::modules::is_reserved;
-use glue_adapters::is_placeholder;
+use crate::own::{import_at, own_ids};
 use glue_faults::{Fault, not_built};
 use glue_imports::has_expression;
 use glue_shared::{
@@ -18,7 +19,7 @@ use glue_shared::{
 };
 use std::alloc::{AllocError, Global};
 use values::Text;
-use wasm_core::{Func, Import, ImportKind, Memory, Module};
+use wasm_core::{Func, Import, ImportId, ImportKind, Memory, Module};
 
 fn is_deno(target: &Target) -> bool
     ensures test { result ≡ spec.is_deno target.now }
@@ -42,27 +43,60 @@ fn is_function(kind: ImportKind) -> bool
     matches!(kind, ImportKind::Func(_))
 }
 
-// Whether an import is one of the module of placeholders and no function, or one of string constants.
-fn is_other_import(import: &Option<Import>) -> bool
-    ensures test { result ≡ spec.is_other_import import.now }
+// Whether a signed number of 64 bits holds a limit, where there is one.
+fn is_small(most: Option<u64>) -> bool
+    ensures test { result ≡ spec.is_small most }
+{
+    match most {
+        None => true,
+        Some(most) => most < 9_223_372_036_854_775_808,
+    }
+}
+
+// Whether the definition of a memory is built.
+fn is_plain(memory: &Memory) -> bool
+    ensures test { result ≡ spec.is_plain memory.now }
+{
+    memory.limits.min < 9_223_372_036_854_775_808 && is_small(memory.limits.max)
+}
+
+/// The memory that an import of this kind brings in, nothing where it brings in something else. There is no error.
+pub fn memory_of(module: &Module, kind: ImportKind) -> Option<&Memory>
+    ensures memory { option_copied result ≡ spec.memory_of «module».now kind }
+{
+    match kind {
+        ImportKind::Memory(id) => module.memories().get(id.0 as usize)?.as_ref(),
+        _ => None,
+    }
+}
+
+// Whether a memory stands, and its definition is built.
+fn is_plain_memory(memory: Option<&Memory>) -> bool
+    ensures test { result ≡ spec.is_plain_memory (option_copied memory.entry) }
+{
+    match memory {
+        None => false,
+        Some(memory) => is_plain(memory),
+    }
+}
+
+// Whether an import brings in a function or such a memory.
+fn is_defined_kind(module: &Module, import: Option<&Import>) -> bool
+    ensures test { result ≡ spec.is_defined_kind «module».now (option_copied import.entry) }
 {
     match import {
         None => false,
-        Some(known) => {
-            is_reserved(known.module.as_str())
-                && !(is_placeholder(import) && is_function(known.kind))
+        Some(import) => {
+            is_function(import.kind) || is_plain_memory(memory_of(module, import.kind))
         }
     }
 }
 
-// Whether a memory is imported.
-fn is_memory_imported(memory: &Option<Memory>) -> bool
-    ensures test { result ≡ spec.is_memory_imported memory.now }
+// Whether the import at a place brings in another thing.
+fn is_other_own(module: &Module, place: ImportId) -> bool
+    ensures test { result ≡ spec.is_other_own «module».now place.0 }
 {
-    match memory {
-        None => false,
-        Some(memory) => memory.import.is_some(),
-    }
+    !is_defined_kind(module, import_at(module.imports(), place))
 }
 
 // Whether an import has no expression that is built; of a link without content a condition tells.
@@ -74,25 +108,19 @@ fn is_unbuilt_entry(settings: &Settings, entry: &(AdapterId, AuxImport)) -> bool
         || unembedded(settings.split_linked_modules, entry).is_some())
 }
 
-// Whether one of these imports is of a form that isn't built.
-fn has_other_import(imports: &[Option<Import>]) -> bool
-    ensures test { result ≡ list_any spec.is_other_import imports.now }
+// Whether one of these imports brings in another thing.
+fn is_any_other(module: &Module, own: &[ImportId]) -> bool
+    ensures test { result ≡ list_any (λ (id : ImportId). spec.is_other_own «module».now id.0) own.now }
 {
-    imports.iter().any(|import| is_other_import(import))
+    own.iter().any(|place| is_other_own(module, *place))
 }
 
-// Whether one of these memories is imported.
-fn has_imported_memory(memories: &[Option<Memory>]) -> bool
-    ensures test { result ≡ list_any spec.is_memory_imported memories.now }
+// Whether one of those that the glue file defines does.
+fn has_other_own(alloc: Global, settings: &Settings, lowered: &Lowered) -> Result<bool, AllocError>
+    ensures test { IfOk result (λ test. test ≡ list_any (spec.is_other_own lowered.now.«module») (own_imports settings.now lowered.now.«module» lowered.now.wit lowered.now.aux)) }
 {
-    memories.iter().any(|memory| is_memory_imported(memory))
-}
-
-// Whether a module imports such things.
-fn has_other_imports(module: &Module) -> bool
-    ensures test { result ≡ spec.has_other_imports «module».now }
-{
-    has_other_import(module.imports()) || has_imported_memory(module.memories())
+    let own = own_ids(alloc, settings, lowered)?;
+    Ok(is_any_other(&lowered.module, own.as_slice()))
 }
 
 fn has_unbuilt_entry(settings: &Settings, entries: &[(AdapterId, AuxImport)]) -> bool
@@ -111,10 +139,9 @@ pub(crate) fn unbuilt_imports(
 ) -> Result<Option<Fault>, AllocError>
     ensures fault { IfOk result (λ fault. fault ≡ spec.unbuilt_imports settings.now lowered.now) }
 {
-    let parts = has_part_pair(alloc, lowered)?;
-    let asked = has_other_imports(&lowered.module)
+    let others = has_other_own(alloc, settings, lowered)?;
+    let asked = others
         || has_unbuilt_entry(settings, lowered.aux.imports.as_slice())
-        || parts
         || !lowered.aux.static_slots.is_empty()
         || settings.omit_imports;
     not_built(alloc, asked, "imports")

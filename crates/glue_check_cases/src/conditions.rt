@@ -7,9 +7,9 @@ use crate::edits::{
     PROTO_NAME, SAME_PAIR, SECOND_ADD, SECOND_LAST, SECOND_PAIR, SUB, SUM, UNSUPPORTED,
 };
 use crate::modules::{
-    ADD, EXPORTED_TWICE, IMPORTED_TWICE, TWO_IMPORTS, WITH_EXTERN, WITH_FUNC, WITH_MANY_EXPORTS,
-    WITH_MEMORY, WITH_PARTS, WITH_PROTO, WITH_RESULT, WITH_SHARED, WITH_START, WITH_START_EXPORT,
-    WITH_START_NAME,
+    ADD, EXPORTED_TWICE, IMPORTED_TWICE, LOG_MEMORY, PROTO_MEMORY, TWO_IMPORTS, WITH_EXTERN,
+    WITH_FUNC, WITH_MANY_EXPORTS, WITH_MEMORY, WITH_PARTS, WITH_PROTO, WITH_RESULT, WITH_SHARED,
+    WITH_START, WITH_START_EXPORT, WITH_START_NAME,
 };
 use glue_lower::LowerFault;
 use glue_shared::{AdapterId, AuxExportKind, Lowered};
@@ -360,6 +360,10 @@ const NAMES: &[Case] = &[
     (ADD, &[CALL_MORE, BAD_VENDOR], "BadName 1x"),
     (ADD, &[CALL_MORE, TAKEN_VENDOR], "GlobalTwice heap"),
     (WITH_PROTO, &[], "BadName __proto__"),
+    // The first memory has a definition under its name, as functions have.
+    (PROTO_MEMORY, &[], "BadName __proto__"),
+    (LOG_MEMORY, &[], "NameClash log"),
+    (ADD, &[("console", "memory")], "GlobalTwice memory"),
     (IMPORTED_TWICE, &[LOGGING, SECOND_PAIR], "NameClash log"),
     (EXPORTED_TWICE, &[], "NameClash add"),
     (WITH_START_EXPORT, &[], "NameClash __wbindgen_start"),

@@ -9,7 +9,7 @@ use crate::edits::{
 };
 use crate::modules::{
     ADD, BOTH_TWICE, CROSSED_EXPORTS, CROSSED_IMPORTS, EXPORTED_TWICE, TWO_IMPORTS,
-    WITH_MANY_EXPORTS, WITH_MEMORY_IMPORT, WITH_PROTO, WITH_SHARED,
+    WITH_MANY_EXPORTS, WITH_PROTO, WITH_SHARED, WITH_TABLE_IMPORT,
 };
 use std::alloc::AllocError;
 
@@ -24,10 +24,10 @@ const REINIT: Edit = (r#""version":1"#, r#""version":1,"uses_reinit":true"#);
 
 /// Two kinds of what isn't built, or two conditions, each next to the other in the order.
 const PAIRS: &[AskedCase] = &[
-    (&[Asked::Web], (WITH_MEMORY_IMPORT, &[], "NotBuilt target")),
+    (&[Asked::Web], (WITH_TABLE_IMPORT, &[], "NotBuilt target")),
     (
         &[],
-        (WITH_MEMORY_IMPORT, &[IN_NAMESPACE], "NotBuilt imports"),
+        (WITH_TABLE_IMPORT, &[IN_NAMESPACE], "NotBuilt imports"),
     ),
     (&[], (ADD, &[IN_NAMESPACE, TRUTH], "NotBuilt exports")),
     (&[], (ADD, &[TRUTH, CLASS], "NotBuilt instructions")),

@@ -5,8 +5,10 @@ use crate::checking::{
 use crate::described::Edit;
 use crate::edits::{BARE_LINK, CALL_MORE, NO_CODE, NO_PAIR};
 use crate::modules::{
-    ADD, FOREIGN_MEMORY, FOREIGN_TABLE, FOREIGN_TAG, FROM_STRINGS, WITH_FOREIGN, WITH_MEMORY,
-    WITH_MEMORY_IMPORT, WITH_PARTS, WITH_TABLE_IMPORT, WITH_TAG_IMPORT,
+    ADD, FOREIGN_MEMORIES, FOREIGN_MEMORY, FOREIGN_TABLE, FOREIGN_TAG, FOREIGN_WIDE, FROM_STRINGS,
+    LONG_MEMORY, STRING_CONSTANT, TWO_MEMORIES, WITH_FOREIGN, WITH_GLOBAL_IMPORT,
+    WITH_LIMITED_IMPORT, WITH_MEMORY, WITH_MEMORY_IMPORT, WITH_PARTS, WITH_SHARED_IMPORT,
+    WITH_TABLE_IMPORT, WITH_TAG_IMPORT, WITH_WIDE_IMPORT,
 };
 use glue_inputs::with_custom;
 use std::alloc::{AllocError, Global};
@@ -335,17 +337,28 @@ const ASKED: &[AskedCase] = &[
     (&[Asked::Typescript], (ADD, &[], "NotBuilt settings")),
     (&[Asked::ExportWasm], (ADD, &[], "NotBuilt settings")),
     (&[Asked::SplitDebugInfo], (ADD, &[], "NotBuilt files")),
-    // Imports of the module: those of other modules are handed on, whatever they bring in, but for memories and tags.
+    // Imports of the module: those of other modules are handed on, whatever they bring in, but for tags.
     (&[], (WITH_FOREIGN, &[], "")),
     (&[], (WITH_FOREIGN, &[NO_PAIR, NO_CODE], "")),
     (&[], (FOREIGN_TABLE, &[], "")),
-    (&[], (FOREIGN_MEMORY, &[], "NotBuilt imports")),
     (&[], (FOREIGN_TAG, &[], "NotBuilt lifecycle")),
-    (&[], (WITH_MEMORY_IMPORT, &[], "NotBuilt imports")),
+    (&[], (STRING_CONSTANT, &[], "")),
+    (&[], (FROM_STRINGS, &[NO_PAIR, NO_CODE], "")),
+    (&[], (FROM_STRINGS, &[], "")),
+    // The glue file defines the first memory, from whatever module it comes, where its addresses have 32 bits.
+    (&[], (FOREIGN_MEMORY, &[], "")),
+    (&[], (LONG_MEMORY, &[], "")),
+    (&[], (FOREIGN_MEMORIES, &[], "")),
+    (&[], (FOREIGN_WIDE, &[], "")),
+    (&[], (WITH_MEMORY_IMPORT, &[], "")),
+    (&[], (WITH_LIMITED_IMPORT, &[], "")),
+    (&[], (WITH_WIDE_IMPORT, &[], "")),
+    (&[], (WITH_SHARED_IMPORT, &[], "Threads")),
+    (&[], (TWO_MEMORIES, &[], "UnboundImport 2")),
+    // What else comes from the module of placeholders.
     (&[], (WITH_TABLE_IMPORT, &[], "NotBuilt imports")),
+    (&[], (WITH_GLOBAL_IMPORT, &[], "NotBuilt imports")),
     (&[], (WITH_TAG_IMPORT, &[], "NotBuilt imports")),
-    (&[], (FROM_STRINGS, &[NO_PAIR, NO_CODE], "NotBuilt imports")),
-    (&[], (FROM_STRINGS, &[], "NotBuilt imports")),
 ];
 
 #[test]
@@ -420,8 +433,8 @@ const OF_MODULES: &[Case] = &[
     (ADD, &[CALLING_MORE, MORE_LOG, MORE_ADAPTERS], ""),
     (ADD, &[GLUE_LOG], "ModuleClash ./out_bg.js"),
     (ADD, &[GLUE_LOG, UNSIGNED_LOG], ""),
-    (ADD, &[MODULE_LOG, WITH_FIELD], "NotBuilt imports"),
-    (ADD, &[LOCAL_FIELD], "NotBuilt imports"),
+    (ADD, &[MODULE_LOG, WITH_FIELD], ""),
+    (ADD, &[LOCAL_FIELD], ""),
     (ADD, &[MODULE_LOG, WITH_FIELD, UNSIGNED_LOG], ""),
     (ADD, &[MODULE_LOG, WITH_FIELD, AS_METHOD], ""),
     (ADD, &[MODULE_LOG, WITH_FIELD, AS_CONSTRUCTOR], ""),
@@ -434,9 +447,7 @@ const OF_MODULES: &[Case] = &[
 ];
 
 #[test]
-fn names_of_modules_are_built_but_for_properties_that_are_handed_on(
-    rt: HostRuntime,
-) -> Result<(), AllocError> {
+fn names_of_modules_and_their_properties_are_built(rt: HostRuntime) -> Result<(), AllocError> {
     assert_cases(&rt, rt.alloc(), OF_MODULES)
 }
 

@@ -22,7 +22,9 @@ pub use Rattle.glue_context.specs.Edits.{AreFit, with_added, with_moved}
 pub use Rattle.glue_context.specs.Foreign.{foreign_lines, foreign_modules, module_at, modules_from}
 pub use Rattle.glue_context.specs.ExportedItems.{declaration_back, declaration_front, declare_item, declare_items, publish_item, publish_items}
 pub use Rattle.glue_context.specs.ImportedItems.{line_form, vendor_items}
-pub use Rattle.glue_context.specs.Items.{AreDeclareItems, IsArranged, IsDefineItem, IsFunctionOf, IsGlue, all_items, front_items, joined_groups, default_names, definition_back, definition_front, export_order, is_bindable, is_definable}
+pub use Rattle.glue_context.specs.DefinedItems.{IsDefineItem, is_definable}
+pub use Rattle.glue_context.specs.Functions.{IsFunctionOf, default_names}
+pub use Rattle.glue_context.specs.Items.{AreDeclareItems, IsArranged, IsGlue, all_items, frame_by, frame_of, front_items, joined_groups, export_order, is_bindable}
 pub use Rattle.glue_context.specs.Linked.{IsLinked, IsPrescribed}
 pub use Rattle.glue_context.specs.Rewritten.{edits_of, move_of, rewritten}
 pub use Rattle.glue_shared.specs.Names.{described_hosts, fixed_public, global_names, import_names, is_one_of, js_import, live_count, names_of}
@@ -37,7 +39,7 @@ pub use Rattle.glue_shared.specs.declared.settings.Target.TheVariants.{Deno}
 pub use Rattle.glue_steps.specs.Resolving.{entry_at}
 pub use Rattle.glue_steps.specs.declared.step.Step.{Step}
 pub use Rattle.glue_targets.specs.Published.{IsPublished, fixed_by, fixed_published, is_exported, published_by, published_pairs}
-pub use Rattle.glue_targets.specs.Targets.{frame_end, frame_start, loading_item}
+pub use Rattle.glue_targets.specs.Targets.{Frame, frame_end, frame_start, loading_item}
 pub use Rattle.glue_tree.proofs.Functions.{IsFrame}
 pub use Rattle.glue_words.proofs.Belonging.{AllItems, Belongs, Context}
 pub use Rattle.glue_words.specs.Linking.{AreAmong, EachItem, IsExported}

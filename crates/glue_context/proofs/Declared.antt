@@ -1,9 +1,8 @@
 -- The names that the glue file declares beside those that are drawn: of foreign modules, of the frame and of loading, and of helpers. They are
 -- fixed names, none of them twice and none of the host.
-use Rattle.glue_context.proofs.Common.{◌≡◌, ℕ, zero, suc, ◌+◌, ◌<◌, inl, inr, List, [], ◌∷◌, ◌++◌, map, Bool, true, false, true≢false, refl, sym, ap, ◌∙◌, subst, arith, length, codes, bytes_eq-Decides, list_any, Option, Some, None, IsIn, IsAway, AreDistinct, AreAmong, AreApart, distinct_both, HOSTS, TARGET_NAMES, fixed_names, helper_names, import_names, live_count, global_names, is_one_of, Settings, Contents, Import, module_at, modules_from}
-use Rattle.std.specs.Prelude.{◌||◌, ◌≤◌, ◌^◌, cond, take, drop, is_some}
+use Rattle.glue_context.proofs.Common.{◌≡◌, ℕ, zero, suc, ◌+◌, ◌<◌, inl, inr, List, [], ◌∷◌, ◌++◌, map, Bool, true, false, true≢false, refl, sym, ap, subst, arith, length, codes, bytes_eq-Decides, list_any, Option, Some, None, IsIn, IsAway, AreDistinct, AreAmong, AreApart, distinct_both, HOSTS, TARGET_NAMES, fixed_names, helper_names, import_names, live_count, global_names, is_one_of, Settings, Contents, module_at, modules_from}
+use Rattle.std.specs.Prelude.{◌||◌, ◌≤◌, ◌^◌, cond, drop, is_some}
 use Rattle.std.specs.List.{list_all}
-use Rattle.std.specs.Str.{bytes_eq}
 use Rattle.std.proofs.lemmas.{Fmt.decimal_injective, Bool.and_parts, Bool.Decides.nat_tests, List.Sums.sum_by-cons, List.length-append}
 use Rattle.glue_words.proofs.{Among.among_left, Among.among_right, Among.among_trans, Among.among_both, Among.among_itself, Among.apart_swap, Among.apart_among, Among.apart_both, Among.apart_joined, Among.apart_parts, Among.apart_split}
 use Rattle.glue_words.specs.Facts.{facts}
@@ -12,7 +11,8 @@ use Rattle.glue_lines.specs.Lines.{foreign_line}
 use Rattle.glue_shared.specs.declared.names.TheConstants.{HELPER_NAMES}
 use Rattle.glue_shared.specs.Names.{has_number}
 use Rattle.glue_targets.specs.Targets.{module_name}
-use Rattle.glue_targets.proofs.FrameEnd.{module_names, own_name}
+use Rattle.glue_targets.proofs.FixedTexts.{start_binds}
+use Rattle.glue_targets.proofs.FrameEnd.{module_names, modules_apart, own_name}
 use Rattle.glue_words.proofs.Belonging.{Context}
 use Rattle.glue_lines.specs.declared.form.LineForm.TheVariants.{Es}
 use Rattle.glue_lines.proofs.LineFacts.{foreign_fits, foreign_holds}
@@ -84,20 +84,6 @@ modules_idents from [] small = refl
 modules_idents from (path ∷ paths) small =
     rw (module_ident from (omega (arith, small)), modules_idents (from + 1) paths (omega (arith, small))) refl
 
--- a text begins as the name of a module
-abbrev begins_so : List ℕ → Bool
-begins_so name = bytes_eq (take 6 name) (codes "import")
-
-not_there : (names : List (List ℕ)) (name : List ℕ) → list_any begins_so names ≡ false → begins_so name ≡ true → IsAway name names
-not_there [] name none h at = at
-not_there (other ∷ names) name none h (inl same) =
-    true≢false (sym h ∙ ap begins_so same ∙ (either_false (begins_so other) (list_any begins_so names) none).0)
-not_there (other ∷ names) name none h (inr at) = not_there names name (either_false (begins_so other) (list_any begins_so names) none).1 h at
-
-modules_apart : (names : List (List ℕ)) → list_any begins_so names ≡ false → (from : ℕ) (paths : List (List ℕ)) → AreApart (module_names from paths) names
-modules_apart names none from [] = tt
-modules_apart names none from (path ∷ paths) = (not_there names (module_name from) none refl, modules_apart names none (from + 1) paths)
-
 -- ---- how many foreign modules there are
 
 place_count : (own : List ℕ) (place : ℕ) (o : Option (List ℕ)) → length (module_at own place o) ≤ cond (is_some o) 1 0
@@ -119,10 +105,7 @@ modules_few own place (o ∷ os) =
 
 -- ---- all of them
 
--- what the frame declares, and what loading does
-abbrev pub frame_bound : List (List ℕ)
-frame_bound = codes "__wbg_get_imports" ∷ codes "import0" ∷ []
-
+-- what loading declares
 abbrev pub loading_bound : List (List ℕ)
 loading_bound = codes "wasmUrl" ∷ codes "wasmInstantiated" ∷ codes "wasmInstance" ∷ codes "wasm" ∷ []
 
@@ -130,14 +113,30 @@ loading_bound = codes "wasmUrl" ∷ codes "wasmInstantiated" ∷ codes "wasmInst
 abbrev pub host_texts : List (List ℕ)
 host_texts = map (λ w. w.now) HOSTS
 
--- names of helpers that are held, and of these foreign modules, beside the drawn ones
-module _ (s : Settings) (m : Contents) (paths held : List (List ℕ)) (few : length paths ≤ live_count m.imports) (small : length paths < 2 ^ 32)
-    (listed : AreAmong held single_names) where
+-- the frame declares its own module, with the memory and without
+pub own_framed : (memory : Bool) → IsIn (codes "import0") (start_binds memory)
+own_framed false = inr (inl refl)
+own_framed true = inr (inr (inl refl))
+
+start_within : (memory : Bool) → AreAmong (start_binds memory) (start_binds true)
+start_within false = (inl refl, (inr (inr (inl refl)), tt))
+start_within true = among_itself (start_binds true)
+
+start_distinct : (memory : Bool) → AreDistinct (start_binds memory)
+start_distinct false = grind arith
+start_distinct true = grind arith
+
+start_apart : (memory : Bool) (names : List (List ℕ)) → AreApart (start_binds true) names → AreApart (start_binds memory) names
+start_apart memory names h = apart_among (start_binds memory) (start_binds true) names (start_within memory) h
+
+-- names of helpers that are held, and of these foreign modules, beside the drawn ones, where the frame takes the memory or not
+module _ (s : Settings) (m : Contents) (paths held : List (List ℕ)) (memory : Bool) (few : length paths ≤ live_count m.imports)
+    (small : length paths < 2 ^ 32) (listed : AreAmong held single_names) where
   abbrev pub lines : List (List ℕ)
   lines = module_names 1 paths
 
   abbrev pub own_names : List (List ℕ)
-  own_names = lines ++ (frame_bound ++ (held ++ loading_bound))
+  own_names = lines ++ (start_binds memory ++ (held ++ loading_bound))
 
   abbrev rest_names : List (List ℕ)
   rest_names = import_names (live_count m.imports) ++ global_names s.target
@@ -155,27 +154,26 @@ module _ (s : Settings) (m : Contents) (paths held : List (List ℕ)) (few : len
       let by_helper = among_right single_names targets (helper_names m ++ rest_names) (among_left single_names (helper_names m) rest_names
       (among_left single_names helpers _ (all_found helpers single_names refl))) in
       let first = subst (λ (name : List ℕ). IsIn name imports) own_name (named_in 0 (live_count m.imports) (omega arith)) in
-      let frame = (by_target (codes "__wbg_get_imports" ∷ []) (all_found targets (codes "__wbg_get_imports" ∷ []) refl)).0 in
+      let taken = codes "__wbg_get_imports" ∷ codes "memory" ∷ [] in
+      let frame = by_target taken (all_found targets taken refl) in
       let named = by_import (codes "import0" ∷ []) (first, tt) in
-      among_both lines (frame_bound ++ (held ++ loading_bound)) (fixed_names s m)
-      (by_import lines (let l = few in modules_within 1 paths (live_count m.imports) (omega (arith, l)))) (
-        frame,
-        (
-          named.0,
-          among_both held loading_bound (fixed_names s m) (among_trans held single_names (fixed_names s m) listed by_helper)
-              (by_target loading_bound (all_found targets loading_bound refl)),
-        ),
-      )
+      among_both lines (start_binds memory ++ (held ++ loading_bound)) (fixed_names s m)
+      (by_import lines (let l = few in modules_within 1 paths (live_count m.imports) (omega (arith, l))))
+      (among_both (start_binds memory) (held ++ loading_bound) (fixed_names s m)
+      (among_trans (start_binds memory) (start_binds true) (fixed_names s m) (start_within memory) (frame.0, (frame.1.0, (named.0, tt))))
+      (among_both held loading_bound (fixed_names s m) (among_trans held single_names (fixed_names s m) listed by_helper)
+      (by_target loading_bound (all_found targets loading_bound refl))))
 
   -- apart from one another
   wide : 1 + length paths < 2 ^ 64
   wide = let h = small in omega (arith, h)
 
-  lines_frame : AreApart lines frame_bound
-  lines_frame = apart_swap frame_bound lines (
-    (apart_swap lines (codes "__wbg_get_imports" ∷ []) (modules_apart (codes "__wbg_get_imports" ∷ []) refl 1 paths)).0,
-    (subst (λ (name : List ℕ). IsAway name lines) own_name (later_away 0 1 paths (omega arith) wide), tt),
-  )
+  lines_frame : AreApart lines (start_binds memory)
+  lines_frame =
+      let taken = codes "__wbg_get_imports" ∷ codes "memory" ∷ [] in
+      let away = apart_swap lines taken (modules_apart taken refl 1 paths) in
+      let first = subst (λ (name : List ℕ). IsAway name lines) own_name (later_away 0 1 paths (omega arith) wide) in
+      apart_swap (start_binds memory) lines (start_apart memory lines (away.0, (away.1.0, (first, tt))))
 
   held_apart : (names : List (List ℕ)) → AreApart single_names names → AreApart held names
   held_apart names h = apart_among held single_names names listed h
@@ -186,8 +184,9 @@ module _ (s : Settings) (m : Contents) (paths held : List (List ℕ)) (few : len
   lines_loading : AreApart lines loading_bound
   lines_loading = modules_apart loading_bound refl 1 paths
 
-  frame_held : AreApart frame_bound held
-  frame_held = apart_swap held frame_bound (held_apart frame_bound (none_found frame_bound single_names refl))
+  frame_held : AreApart (start_binds memory) held
+  frame_held =
+      start_apart memory held (apart_swap held (start_binds true) (held_apart (start_binds true) (none_found (start_binds true) single_names refl)))
 
   held_loading : AreApart held loading_bound
   held_loading = held_apart loading_bound (none_found loading_bound single_names refl)
@@ -195,12 +194,12 @@ module _ (s : Settings) (m : Contents) (paths held : List (List ℕ)) (few : len
   -- none is a name that the host has in each file
   pub own_no_hosts : AreApart own_names host_texts
   own_no_hosts =
-      apart_both lines (frame_bound ++ (held ++ loading_bound)) host_texts (modules_apart host_texts refl 1 paths)
-      (apart_both frame_bound (held ++ loading_bound) host_texts (none_found host_texts frame_bound refl)
+      apart_both lines (start_binds memory ++ (held ++ loading_bound)) host_texts (modules_apart host_texts refl 1 paths)
+      (apart_both (start_binds memory) (held ++ loading_bound) host_texts (start_apart memory host_texts (none_found host_texts (start_binds true) refl))
       (apart_both held loading_bound host_texts (held_apart host_texts (none_found host_texts single_names refl)) (none_found host_texts loading_bound refl)))
 
-  frame_behind : AreApart frame_bound (held ++ loading_bound)
-  frame_behind = apart_joined frame_bound held loading_bound frame_held (none_found loading_bound frame_bound refl)
+  frame_behind : AreApart (start_binds memory) (held ++ loading_bound)
+  frame_behind = apart_joined (start_binds memory) held loading_bound frame_held (start_apart memory loading_bound (none_found loading_bound (start_binds true) refl))
 
   lines_behind : AreApart lines (held ++ loading_bound)
   lines_behind = apart_joined lines held loading_bound lines_held lines_loading
@@ -208,13 +207,13 @@ module _ (s : Settings) (m : Contents) (paths held : List (List ℕ)) (few : len
   -- names that are apart from the own ones
   record AreApartFromOwn (names : List (List ℕ)) : Type 0 where
     from_lines : AreApart names lines
-    from_frame : AreApart names frame_bound
+    from_frame : AreApart names (start_binds memory)
     behind : AreApart names (held ++ loading_bound)
 
   from_own : (names : List (List ℕ)) → AreApart names own_names → AreApartFromOwn names
   from_own names h =
-      let first = apart_split names lines (frame_bound ++ (held ++ loading_bound)) h in
-      let second = apart_split names frame_bound (held ++ loading_bound) first.1 in
+      let first = apart_split names lines (start_binds memory ++ (held ++ loading_bound)) h in
+      let second = apart_split names (start_binds memory) (held ++ loading_bound) first.1 in
       record { from_lines = first.0; from_frame = second.0; behind = second.1 }
 
   -- names that are drawn, for imports of described modules, for vendors' names and for exports: all are distinct, and none is an own one
@@ -233,7 +232,7 @@ module _ (s : Settings) (m : Contents) (paths held : List (List ℕ)) (few : len
   -- loading
   module _ (imported constants names : List (List ℕ)) where
     abbrev pub framed_names : List (List ℕ)
-    framed_names = imported ++ (lines ++ (constants ++ (names ++ frame_bound)))
+    framed_names = imported ++ (lines ++ (constants ++ (names ++ start_binds memory)))
 
     abbrev pub all_names : List (List ℕ)
     all_names = framed_names ++ (held ++ loading_bound)
@@ -244,35 +243,34 @@ module _ (s : Settings) (m : Contents) (paths held : List (List ℕ)) (few : len
         let i = from_own imported d.imports_own in
         let c = from_own constants d.constants_own in
         let n = from_own names d.names_own in
-        let framed = names ++ frame_bound in
+        let framed = names ++ start_binds memory in
         let more = constants ++ framed in
-        let front : AreDistinct frame_bound = grind arith in
         let back : AreDistinct loading_bound = grind arith in
-        let named = distinct_both names frame_bound d.names_once front n.from_frame in
-        let held_too = distinct_both constants framed d.constants_once named (apart_joined constants names frame_bound d.constants_names c.from_frame) in
+        let named = distinct_both names (start_binds memory) d.names_once (start_distinct memory) n.from_frame in
+        let held_too = distinct_both constants framed d.constants_once named (apart_joined constants names (start_binds memory) d.constants_names c.from_frame) in
         let lined = distinct_both lines more (modules_distinct 1 paths wide) held_too
         (apart_joined lines constants framed (apart_swap constants lines c.from_lines)
-        (apart_joined lines names frame_bound (apart_swap names lines n.from_lines) lines_frame)) in
+        (apart_joined lines names (start_binds memory) (apart_swap names lines n.from_lines) lines_frame)) in
         let whole = distinct_both imported (lines ++ more) d.imports_once lined
         (apart_joined imported lines more i.from_lines (apart_joined imported constants framed d.imports_constants
-        (apart_joined imported names frame_bound d.imports_names i.from_frame))) in
+        (apart_joined imported names (start_binds memory) d.imports_names i.from_frame))) in
         let behind = held ++ loading_bound in
         distinct_both framed_names behind whole (distinct_both held loading_bound h back held_loading)
         (apart_both imported (lines ++ more) behind i.behind (apart_both lines more behind lines_behind
-        (apart_both constants framed behind c.behind (apart_both names frame_bound behind n.behind frame_behind))))
+        (apart_both constants framed behind c.behind (apart_both names (start_binds memory) behind n.behind frame_behind))))
 
     -- what own names and the drawn ones are apart from, all are
     pub all_apart : (others : List (List ℕ)) → AreApart imported others → AreApart constants others → AreApart names others → AreApart own_names others
         → AreApart all_names others
     all_apart others i c n own =
         let behind = held ++ loading_bound in
-        let first = apart_parts lines (frame_bound ++ behind) others own in
-        let second = apart_parts frame_bound behind others first.1 in
-        let framed = names ++ frame_bound in
+        let first = apart_parts lines (start_binds memory ++ behind) others own in
+        let second = apart_parts (start_binds memory) behind others first.1 in
+        let framed = names ++ start_binds memory in
         let more = constants ++ framed in
         apart_both framed_names behind others
         (apart_both imported (lines ++ more) others i (apart_both lines more others first.0
-        (apart_both constants framed others c (apart_both names frame_bound others n second.0)))) second.1
+        (apart_both constants framed others c (apart_both names (start_binds memory) others n second.0)))) second.1
 
     -- what stands whatever helpers are held
     abbrev pub first_names : List (List ℕ)
@@ -290,29 +288,29 @@ module _ (s : Settings) (m : Contents) (paths held : List (List ℕ)) (few : len
     framed_first : (xs : List (List ℕ)) → AreAmong xs framed_names → AreAmong xs first_names
     framed_first xs h = among_left xs framed_names loading_bound h
 
-    behind_imports : (xs : List (List ℕ)) → AreAmong xs (lines ++ (constants ++ (names ++ frame_bound))) → AreAmong xs first_names
-    behind_imports xs h = framed_first xs (among_right xs imported (lines ++ (constants ++ (names ++ frame_bound))) h)
+    behind_imports : (xs : List (List ℕ)) → AreAmong xs (lines ++ (constants ++ (names ++ start_binds memory))) → AreAmong xs first_names
+    behind_imports xs h = framed_first xs (among_right xs imported (lines ++ (constants ++ (names ++ start_binds memory))) h)
 
-    behind_lines : (xs : List (List ℕ)) → AreAmong xs (constants ++ (names ++ frame_bound)) → AreAmong xs first_names
-    behind_lines xs h = behind_imports xs (among_right xs lines (constants ++ (names ++ frame_bound)) h)
+    behind_lines : (xs : List (List ℕ)) → AreAmong xs (constants ++ (names ++ start_binds memory)) → AreAmong xs first_names
+    behind_lines xs h = behind_imports xs (among_right xs lines (constants ++ (names ++ start_binds memory)) h)
 
-    behind_constants : (xs : List (List ℕ)) → AreAmong xs (names ++ frame_bound) → AreAmong xs first_names
-    behind_constants xs h = behind_lines xs (among_right xs constants (names ++ frame_bound) h)
+    behind_constants : (xs : List (List ℕ)) → AreAmong xs (names ++ start_binds memory) → AreAmong xs first_names
+    behind_constants xs h = behind_lines xs (among_right xs constants (names ++ start_binds memory) h)
 
     pub imports_first : AreAmong imported first_names
-    imports_first = framed_first imported (among_left imported imported (lines ++ (constants ++ (names ++ frame_bound))) (among_itself imported))
+    imports_first = framed_first imported (among_left imported imported (lines ++ (constants ++ (names ++ start_binds memory))) (among_itself imported))
 
     pub lines_first : AreAmong lines first_names
-    lines_first = behind_imports lines (among_left lines lines (constants ++ (names ++ frame_bound)) (among_itself lines))
+    lines_first = behind_imports lines (among_left lines lines (constants ++ (names ++ start_binds memory)) (among_itself lines))
 
     pub constants_first : AreAmong constants first_names
-    constants_first = behind_lines constants (among_left constants constants (names ++ frame_bound) (among_itself constants))
+    constants_first = behind_lines constants (among_left constants constants (names ++ start_binds memory) (among_itself constants))
 
     pub names_first : AreAmong names first_names
-    names_first = behind_constants names (among_left names names frame_bound (among_itself names))
+    names_first = behind_constants names (among_left names names (start_binds memory) (among_itself names))
 
-    pub frame_first : AreAmong frame_bound first_names
-    frame_first = behind_constants frame_bound (among_right frame_bound names frame_bound (among_itself frame_bound))
+    pub frame_first : AreAmong (start_binds memory) first_names
+    frame_first = behind_constants (start_binds memory) (among_right (start_binds memory) names (start_binds memory) (among_itself (start_binds memory)))
 
     pub loading_first : AreAmong loading_bound first_names
     loading_first = among_right loading_bound framed_names loading_bound (among_itself loading_bound)

@@ -27,10 +27,11 @@ use Rattle.glue_shared.specs.Names.{js_import, names_of}
 use Rattle.glue_imports.specs.declared.part.Part.{Part}
 use Rattle.glue_imports.specs.declared.part.Part.TheVariants as part
 use Rattle.glue_imports.specs.declared.part.Expression.{Expression}
+use Rattle.glue_imports.specs.Definitions.{typeof_front, if_function, else_not_defined, function_or_throw}
 use Rattle.glue_imports.specs.Roots.{drawn_name, root_name, root_of, root}
 use Rattle.glue_imports.specs.Preludes.{plain, line_end, catch_front, close_line, result_is, instance_of, cast, linked, present}
 use Rattle.glue_imports.specs.Expressions.{around, assigned, index, new_front, delete_front, accessor_front, owner, described_call, accessor, value_parts, static_parts, intrinsic_expression, expression}
-use Rattle.glue_tree.specs.FixedWords.{semicolon}
+use Rattle.glue_tree.specs.FixedWords.{semicolon, comma}
 use Rattle.glue_binding.proofs.Parts.{bound_places}
 use Rattle.glue_binding.proofs.Standing.{parts_fit, expression_fits}
 
@@ -349,3 +350,29 @@ text_fits s m call spread bound other n = refl
 pub expression_fit : (s : Settings) (m : NameMap) (call : AdapterJsImportKind) (spread bound : Bool) (w : AuxImport) (e : Expression)
     → IsNamedWell m (js_import w) → expression s m call spread bound w ≡ Some e → expression_fits e ≡ true
 expression_fit s m call spread bound w e n h = ap fit_if (sym h) ∙ text_fits s m call spread bound w n
+
+-- ---- the definition of an import by a value
+
+not_defined_ident : is_ident (codes "notDefined") ≡ true
+not_defined_ident = ascii_ident (codes "notDefined") refl
+
+function_drawn : (name : List ℕ) (fields : List (List ℕ)) (text : List ℕ) → is_ident name ≡ true → is_wasm name ≡ false
+    → parts_fit 0 (Some comma) (typeof_front ++ (part.Name name ∷ (map part.Property fields
+    ++ (if_function ++ (part.Name name ∷ (map part.Property fields ++ else_not_defined text)))))) ≡ true
+unfolding joins punct_text
+function_drawn name fields text ident other =
+    let last = else_not_defined text in
+    let second = root_fit 0 (Some comma) name fields last ident other (rw (ident, not_defined_ident) refl) (λ x. rw not_defined_ident refl) in
+    let rest = if_function ++ (part.Name name ∷ (map part.Property fields ++ last)) in
+    let first = root_fit 0 (Some comma) name fields rest ident other (rw (ident, second) refl) (λ x. rw second refl) in
+    rw first refl
+
+-- it may stand before a comma
+pub function_fit : (m : NameMap) (j : JsImport) (text : List ℕ) → IsNamedWell m (Some j) → parts_fit 0 (Some comma) (function_or_throw m j text) ≡ true
+unfolding joins punct_text
+function_fit m j text n = by j.name (n j.name (inl refl))
+  where
+    by : (n : JsImportName) → IsWell m n
+        → parts_fit 0 (Some comma) (typeof_front ++ (root_of m j.fields n ++ (if_function ++ (root_of m j.fields n ++ else_not_defined text)))) ≡ true
+    by (js.Global name) h = rw (h, not_defined_ident) refl
+    by other h = function_drawn (drawn_name m other) j.fields text h.0 h.1

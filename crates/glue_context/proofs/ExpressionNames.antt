@@ -30,6 +30,7 @@ use Rattle.glue_shared.specs.Names.{is_none, is_one_of, js_import, names_of}
 use Rattle.glue_imports.specs.declared.part.Part.{Part}
 use Rattle.glue_imports.specs.declared.part.Part.TheVariants as part
 use Rattle.glue_imports.specs.declared.part.Expression.{Expression}
+use Rattle.glue_imports.specs.Definitions.{typeof_front, if_function, else_not_defined, function_or_throw}
 use Rattle.glue_imports.specs.Roots.{drawn_name, root_name, root_of, root}
 use Rattle.glue_imports.specs.Preludes.{plain, let_line, try_front, line_end, catch_front, close_line, result_is, unless_undefined, instance_of, cast, linked, present}
 use Rattle.glue_imports.specs.Expressions.{around, assigned, index, new_front, delete_front, accessor_front, owner, described_call, value_parts, static_parts, parts_of, intrinsic_expression, expression}
@@ -46,7 +47,7 @@ used_hosts =
     codes "undefined" ∷ codes "Error" ∷ codes "Uint8Array" ∷ codes "RangeError" ∷ codes "URL" ∷ codes "encodeURIComponent" ∷ codes "Blob" ∷ []
 
 abbrev used_helpers : List (List ℕ)
-used_helpers = codes "GetOwnOrInheritedPropertyDescriptor" ∷ codes "debugString" ∷ codes "PanicError" ∷ codes "heap" ∷ codes "heap_next" ∷ []
+used_helpers = codes "GetOwnOrInheritedPropertyDescriptor" ∷ codes "debugString" ∷ codes "PanicError" ∷ codes "heap" ∷ codes "heap_next" ∷ codes "notDefined" ∷ []
 
 module _ (c : Context) where
   -- a file has the names that a part uses
@@ -115,7 +116,7 @@ module _ (c : Context) where
         by true e k = cc
 
     helpers_free : AreAmong used_helpers free_names
-    helpers_free = (any_in _ free_names refl, (any_in _ free_names refl, (any_in _ free_names refl, (any_in _ free_names refl, (any_in _ free_names refl, tt)))))
+    helpers_free = (any_in _ free_names refl, (any_in _ free_names refl, (any_in _ free_names refl, (any_in _ free_names refl, (any_in _ free_names refl, (any_in _ free_names refl, tt))))))
 
     part_known : (p : Part) → is_known p ≡ true → HasPart p
     part_known (part.Host name fields) k =
@@ -302,3 +303,12 @@ module _ (c : Context) where
   pub expression_has : (s : Settings) (m : NameMap) (call : AdapterJsImportKind) (spread bound : Bool) (w : AuxImport) (e : Expression) → HasImport m w
       → expression s m call spread bound w ≡ Some e → HasExpression e
   expression_has s m call spread bound w e h is = subst HasSome is (expression_has_all s m call spread bound w h)
+
+  -- nor does the definition of an import by a value
+  pub function_has : (m : NameMap) (j : JsImport) (text : List ℕ) → HasImport m (what.Value (v.Bare j)) → AllByRecursion HasPart (function_or_throw m j text)
+  function_has m j text h =
+      let w = what.Value (v.Bare j) in
+      let last = root m j ++ else_not_defined text in
+      let second = both_has if_function last (parts_known m w h if_function refl)
+      (root_has m w h j refl (else_not_defined text) h.keys (parts_known m w h (else_not_defined text) refl)) in
+      both_has typeof_front (root m j ++ (if_function ++ last)) (parts_known m w h typeof_front refl) (root_has m w h j refl (if_function ++ last) h.keys second)

@@ -1,28 +1,24 @@
 -- What is known of a description whose items are made, however it was checked, and that the check gives it.
-use Rattle.glue_context.proofs.Common.{◌≡◌, true, arith, list_all, is_bindable, is_definable, ℕ, List, [], map, false, None, IsIn, AreDistinct, ImportId, AuxExport, AuxImport, Settings, NameMap, Deno, Lowered, fixed_names, own_imports, IsAway, IsBuiltExport, HasSteps, FileFlags, unbuilt, verdict}
+use Rattle.glue_context.proofs.Common.{◌≡◌, ℕ, List, [], true, false, None, Some, Option, arith, list_all, is_bindable, is_definable, IsIn, IsAway, AreDistinct, ImportId, AuxExport, AuxImport, Settings, NameMap, Deno, Lowered, fixed_names, own_imports, IsBuiltExport, HasSteps, FileFlags, unbuilt, verdict}
 use Rattle.glue_check.proofs.{BuiltForm.target_built, BuiltForm.settings_built, BuiltForm.imports_built, BuiltForm.exports_built, BuiltForm.only_functions}
-use Rattle.glue_check.proofs.{ExportNames.distinct_functions, ExportNames.names_of, OwnPairs.are_own_pairs, OwnPairs.kept_pair, Passed.brought_apart, Passed.brought_ident, Passed.pairs_fit, Steps.export_steps, Steps.pair_steps}
+use Rattle.glue_check.proofs.{ExportNames.distinct_functions, ExportNames.names_of, OwnPairs.IsDefinableBy, OwnPairs.IsDefinedImport, OwnPairs.kept_pair, OwnPairs.number_there, OwnPairs.own_defined, OwnPairs.own_distinct, Passed.brought_apart, Passed.brought_ident, Steps.export_steps, Steps.pair_steps}
 use Rattle.glue_check.specs.Taken.{brought}
 use Rattle.glue_naming.specs.Pairs.{is_among, own_pairs}
-use Rattle.glue_shared.specs.Names.{has_number}
+use Rattle.glue_shared.specs.Names.{adapter_for, has_number}
 use Rattle.glue_words.specs.Ident.{is_ident}
+use Rattle.glue_context.specs.DefinedItems.{is_definable_by}
 use Rattle.glue_context.proofs.Lists.{all_by}
-
--- the places of imports that adapters implement
-abbrev pub places_of : List (ImportId × ℕ) → List ℕ
-places_of pairs = map (λ (pair : ImportId × ℕ). pair.0.0) pairs
 
 pub record Facts (s : Settings) (l : Lowered) : Type 0 where
   pub deno : s.target ≡ Deno
   pub kept : s.omit_imports ≡ false
   pub no_reset : s.reset_state ≡ false
   pub plain_files : (s.debug ≡ false) × (s.export_wasm ≡ false)
-  -- no two exports have one name, and no two pairs of own imports one import
+  -- no two exports have one name
   pub names : AreDistinct (names_of l.aux.exports)
-  pub places : AreDistinct (places_of (own_pairs s l))
-  -- the imports of such pairs are the own ones
-  pub paired : (place : ℕ) → IsIn place (own_imports s l.«module» l.wit l.aux) → IsIn place (places_of (own_pairs s l))
-  pub own : (place : ℕ) → IsIn place (places_of (own_pairs s l)) → IsIn place (own_imports s l.«module» l.wit l.aux)
+  -- own imports are distinct, and an adapter stands for each, or it brings in a memory whose definition is built
+  pub once : AreDistinct (own_imports s l.«module» l.wit l.aux)
+  pub defined : (place : ℕ) → IsIn place (own_imports s l.«module» l.wit l.aux) → IsDefinedImport l place
   -- nothing but functions is published, and what imports bring of the outside are identifiers that the file doesn't bind itself
   pub structs : l.aux.structs ≡ []
   pub enums : l.aux.enums ≡ []
@@ -32,7 +28,7 @@ pub record Facts (s : Settings) (l : Lowered) : Type 0 where
   -- each export is a function at the top level, and its adapter and that of each own import has steps
   pub exports : (e : AuxExport) → IsIn e l.aux.exports → IsBuiltExport e
   pub export_steps : (e : AuxExport) → IsIn e l.aux.exports → HasSteps s l e.adapter
-  pub pair_steps : (pair : ImportId × ℕ) → IsIn pair (own_pairs s l) → HasSteps s l pair.1
+  pub pair_steps : (pair : ImportId × ℕ) → IsIn pair l.wit.implements → has_number pair.0.0 (own_imports s l.«module» l.wit l.aux) ≡ true → HasSteps s l pair.1
 
 -- a pair of an own import is described, and its import is an own one
 pub own_pair : (s : Settings) (l : Lowered) (pair : ImportId × ℕ) → IsIn pair (own_pairs s l)
@@ -43,16 +39,14 @@ pub built : (f : FileFlags) (s : Settings) (l : Lowered) → unbuilt f s l ≡ N
 built f s l whole passed =
     let asked = settings_built f s l whole in
     let only = only_functions f s l whole in
-    let own = are_own_pairs f s l whole passed in
     let imports = imports_built f s l whole in record {
       deno = target_built f s l whole;
       kept = imports.kept;
       no_reset = asked.no_reset;
       plain_files = (asked.no_tests, asked.no_module);
       names = distinct_functions f s l whole passed;
-      places = own.distinct;
-      paired = own.paired;
-      own = own.own;
+      once = own_distinct f s l whole;
+      defined = own_defined f s l whole passed;
       structs = only.structs;
       enums = only.enums;
       reexports = only.reexports;
@@ -60,7 +54,7 @@ built f s l whole passed =
       apart = brought_apart s l passed;
       exports = exports_built f s l whole;
       export_steps = export_steps f s l whole passed;
-      pair_steps = λ pair k. let h = own_pair s l pair k in pair_steps f s l whole passed pair h.0 h.1;
+      pair_steps = pair_steps f s l whole passed;
     }
 
 module _ (f : FileFlags) (s : Settings) (l : Lowered) (whole : unbuilt f s l ≡ None) (passed : verdict s l ≡ None) where
@@ -68,8 +62,14 @@ module _ (f : FileFlags) (s : Settings) (l : Lowered) (whole : unbuilt f s l ≡
   pub bindable_built : (m : NameMap) → list_all (is_bindable s m l) l.aux.exports ≡ true
   bindable_built m = all_by (is_bindable s m l) l.aux.exports (λ e k. let h = export_steps f s l whole passed e k m in grind arith)
 
-  -- and an import that is defined stands
-  pub definable_built : (m : NameMap) → list_all (is_definable s m l) (own_pairs s l) ≡ true
-  definable_built m = all_by (is_definable s m l) (own_pairs s l) (λ pair k.
-      let own = own_pair s l pair k in
-      let stands = (pairs_fit s l passed pair own.0).stands in let h = pair_steps f s l whole passed pair own.0 own.1 m in grind arith)
+  -- and each own import stands, and can be defined
+  pub definable_built : (m : NameMap) → list_all (is_definable s m l) (own_imports s l.«module» l.wit l.aux) ≡ true
+  definable_built m = all_by (is_definable s m l) (own_imports s l.«module» l.wit l.aux) (λ place at.
+      let known = own_defined f s l whole passed place at in rw known.stands (by place at known (adapter_for l.wit.implements place) known.kind))
+    where
+      by : (place : ℕ) → IsIn place (own_imports s l.«module» l.wit l.aux) → (known : IsDefinedImport l place) → (o : Option ℕ)
+          → IsDefinableBy l place known.«import» o → is_definable_by s m l known.«import» o ≡ true
+      by place at known (Some adapter) pair =
+          let steps = pair_steps f s l whole passed (record { 0 = place }, adapter) pair (number_there place (own_imports s l.«module» l.wit l.aux) at) m in
+          grind arith
+      by place at known None plain = plain

@@ -1,5 +1,5 @@
--- What the check of a description gives of its exports and imports: their items belong into the file, and what they declare and publish.
-use Rattle.glue_context.proofs.Common.{◌≡◌, ℕ, List, [], ◌∷◌, ◌++◌, Bool, true, false, true≢false, Some, refl, ◌∙◌, subst, arith, rules, inl, flat_map, AllByRecursion, codes, list_all, list_any, bytes_eq, bytes_eq-Decides, filter_map-append, AreAmong, IsIn, in_left, ImportId, Item, AllItems, bound_name, bound_in, used_in, hosted_in, wasm_in, spliced_in, is_export_key, Context, Belongs, IsFrame, is_exported, published_by, Step, AuxExport, AuxImport, Settings, NameMap, Lowered, host_names, export_names, js_import, names_of, declared_name, AreDeclareItems, IsDefineItem, IsFunctionOf, declare_item, publish_item, declaration_front, declaration_back, definition_front, definition_back, IsThere, IsDescribed, HasSteps, HOSTS, map}
+-- What the check of a description gives of the functions of adapters: they belong into the file, and what the items of exports declare and publish.
+use Rattle.glue_context.proofs.Common.{◌≡◌, ℕ, List, [], ◌∷◌, ◌++◌, Bool, true, false, true≢false, Some, refl, ◌∙◌, subst, arith, rules, inl, flat_map, AllByRecursion, codes, list_all, list_any, bytes_eq, bytes_eq-Decides, filter_map-append, AreAmong, IsIn, in_left, Item, AllItems, bound_name, bound_in, used_in, hosted_in, wasm_in, spliced_in, is_export_key, Context, Belongs, IsFrame, is_exported, published_by, Step, AuxExport, AuxImport, Settings, NameMap, Lowered, host_names, export_names, js_import, names_of, declared_name, AreDeclareItems, IsFunctionOf, declare_item, publish_item, declaration_front, declaration_back, IsThere, IsDescribed, HasSteps, HOSTS, map}
 use Rattle.std.proofs.Common.{append_assoc, ap, sym}
 use Rattle.std.specs.Prelude.{filter, if◌then◌else◌}
 use Rattle.std.proofs.lemmas.{List.Folds.list_any-append, List.Folds.list_all-append}
@@ -34,6 +34,7 @@ use Rattle.helper_table.proofs.Held.{free_names}
 use Rattle.glue_check.specs.Handed.{own_callees}
 use Rattle.glue_check.proofs.Globals.{in_flat}
 use Rattle.glue_naming.specs.Listed.{is_global_name}
+use Rattle.glue_context.specs.DefinedItems.{takes_memory}
 use Rattle.glue_context.specs.Edits.{has_start}
 use Rattle.glue_context.specs.Keys.{described_keys, import_properties, imported_properties, other_properties}
 use Rattle.glue_context.proofs.Declared.{all_found}
@@ -56,7 +57,7 @@ binds_none (step ∷ steps) =
     ∙ binds_none steps
 
 -- a file has the names that words use
-abbrev HasNames : Context → List Word → Type 0
+abbrev pub HasNames : Context → List Word → Type 0
 HasNames c words =
     AreAmong (used_in words) c.declared × AreAmong (hosted_in words) c.hosts × AreAmong (wasm_in words) c.exports
     × AreAmong (spliced_in words) c.keys × (list_all is_computed (spliced_in words) ≡ true)
@@ -66,7 +67,7 @@ has_keys : (c : Context) (found words : List Word) (keys : List (List ℕ)) → 
 has_keys c found words keys k among h = grind (arith, filter_map-append, list_all-append, among_both)
 
 -- a file has the names that parts of an expression use
-has_parts : (c : Context) (parts : List Part) (words : List Word) → AllByRecursion (HasPart c) parts → HasNames c words → HasNames c (outer_parts parts ++ words)
+pub has_parts : (c : Context) (parts : List Part) (words : List Word) → AllByRecursion (HasPart c) parts → HasNames c words → HasNames c (outer_parts parts ++ words)
 has_parts c [] words k h = h
 has_parts c (part.Host name fields ∷ parts) words k h =
     let rest = has_keys c (path_words fields) (outer_parts parts ++ words) (filter is_computed fields) (path_tells fields) k.0.1 (has_parts c parts words k.1 h) in
@@ -107,14 +108,14 @@ module _ (s : Settings) (l : Lowered) where
   }
 
   -- the computed keys of a described import are described
-  keys_described : (e : ℕ × AuxImport) → IsIn e l.aux.imports → AreAmong (filter is_computed (import_properties e.1)) (described_keys l.aux)
+  pub keys_described : (e : ℕ × AuxImport) → IsIn e l.aux.imports → AreAmong (filter is_computed (import_properties e.1)) (described_keys l.aux)
   keys_described e i =
       let all = imported_properties l.aux in
       let rest = other_properties l.aux in
       let named = among_by (import_properties e.1) all (λ x k. in_flat (λ (e : ℕ × AuxImport). import_properties e.1) l.aux.imports e x i k) in
       kept_in is_computed (import_properties e.1) (all ++ rest) (among_left (import_properties e.1) all rest named)
 
-  fixed_hosts : AreAmong used_hosts (host_names s l.aux)
+  pub fixed_hosts : AreAmong used_hosts (host_names s l.aux)
   unfolding host_names
   fixed_hosts =
       let known : AreAmong used_hosts (map (λ w. w.now) HOSTS) = all_found (map (λ w. w.now) HOSTS) used_hosts refl in
@@ -131,16 +132,18 @@ module _ (s : Settings) (l : Lowered) where
     abbrev pub AreWell : Type 0
     AreWell = ForDrawn (λ name. (is_ident name ≡ true) × (is_wasm name ≡ false))
 
-    -- these names hold what functions use of the file: `wasm`, helpers that need nothing of the module, and the drawn names
+    -- these names hold what functions and definitions use of the file: `wasm`, `memory` where that is handed in, helpers that need nothing of the
+    -- module, and the drawn names
     pub record HasBasis (declared : List (List ℕ)) : Type 0 where
       pub wasm : IsIn (codes "wasm") declared
+      pub memory : takes_memory s l ≡ true → IsIn (codes "memory") declared
       pub helpers : AreAmong free_names declared
       pub drawn : ForDrawn (λ name. IsIn name declared)
 
     abbrev AreThere : List Step → Type 0
     AreThere = AllByRecursion (IsThere s l m)
 
-    named_well : AreWell → (e : Expression) (d : IsDescribed s l m e) → IsNamedWell m (js_import d.entry.1)
+    pub named_well : AreWell → (e : Expression) (d : IsDescribed s l m e) → IsNamedWell m (js_import d.entry.1)
     named_well well e d n i = by n i (well d.entry.0 d.entry.1 d.own d.first n i)
       where
         by : (n : JsImportName) → IsIn n (names_of (js_import d.entry.1))
@@ -178,11 +181,11 @@ module _ (s : Settings) (l : Lowered) where
 
 -- ---- the item of a function, with words before and behind it
 
-inner_words : (words : List Word) → list_all is_inner words ≡ true → list_any is_export_key words ≡ false
+pub inner_words : (words : List Word) → list_all is_inner words ≡ true → list_any is_export_key words ≡ false
 inner_words [] h = refl
 inner_words (word ∷ words) h = let rest = inner_words words in grind arith
 
-function_binds : {s : Settings} {m : NameMap} {l : Lowered} {id : ℕ} {names : List (List ℕ)} {f : _} (d : IsFunctionOf s m l id names f) (back : List Word)
+pub function_binds : {s : Settings} {m : NameMap} {l : Lowered} {id : ℕ} {names : List (List ℕ)} {f : _} (d : IsFunctionOf s m l id names f) (back : List Word)
     → bound_in (f.words ++ back) ≡ bound_in back
 function_binds {f = f} d back = filter_map-append bound_name f.words back
     ∙ rw (d.bound.words, bound_binds d.steps _ f d.bound [] [] (binds_none d.steps)) refl
@@ -194,11 +197,11 @@ module _ {s : Settings} {m : NameMap} {l : Lowered} {id : ℕ} {names : List (Li
 
   module _ (front back : List Word) (frame : IsFrame front back) where
     -- no word of the function is `export`
-    function_inner : list_any is_export_key f.words ≡ false
+    pub function_inner : list_any is_export_key f.words ≡ false
     function_inner = inner_words f.words (rw d.bound.words (bound_inner d.steps _ f d.bound front back (are_fit s l m well d.steps there) frame))
 
     -- the item belongs into a file that has the names of what stands around the function
-    function_fits : (declared : List (List ℕ)) → HasBasis s l m declared → HasNames (names_with s l declared) front × HasNames (names_with s l declared) back
+    pub function_fits : (declared : List (List ℕ)) → HasBasis s l m declared → HasNames (names_with s l declared) front × HasNames (names_with s l declared) back
         × StandsBeside (f.params ++ d.bound.temps) front × StandsBeside (f.params ++ d.bound.temps) back → Belongs (names_with s l declared) (front ++ (f.words ++ back))
     function_fits declared basis (h', k, m', n) =
         let c = names_with s l declared in
@@ -304,26 +307,3 @@ module _ (s : Settings) (m : NameMap) (l : Lowered) where
           by : (exported : Bool) → AllItems (λ item. Belongs (names_with s l declared) item.words) (group_of exported)
           by true = (function true, tt)
           by false = (function false, (clause_belongs (names_with s l declared) name e.name ident at, tt))
-
-  -- ---- imports
-
-  module _ (pair : ImportId × ℕ) (item : Item) (d : IsDefineItem s m l pair item) where
-    pub define_binds : bound_in item.words ≡ []
-    define_binds = rw (d.is, function_binds d.of_adapter definition_back) refl
-
-    -- its frame is spaced from the function
-    defines : IsFrame (definition_front d.«import».name) definition_back
-    unfolding joins punct_text
-    defines = record { right = (refl, refl); before = refl; behind = refl; after = refl; apart = refl; ends = refl }
-
-    module _ (well : AreWell s l m) (h : HasSteps s l pair.1) where
-      pub define_belongs : (declared : List (List ℕ)) → HasBasis s l m declared → Belongs (names_with s l declared) item.words
-      define_belongs declared basis =
-          rw d.is (function_fits d.of_adapter well h (definition_front d.«import».name) definition_back defines declared basis (search (rules, apart_none)))
-
-      pub define_exported : is_exported item ≡ false
-      define_exported = rw (
-        d.is,
-        list_any-append is_export_key d.function.words definition_back,
-        function_inner d.of_adapter well h (definition_front d.«import».name) definition_back defines,
-      ) refl

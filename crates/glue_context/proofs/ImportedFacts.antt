@@ -1,5 +1,5 @@
 -- What the items declare that bind names of modules and vendors, that each belongs into the file, and that they publish and define nothing.
-use Rattle.glue_context.proofs.Common.{◌≡◌, ℕ, inl, inr, List, [], ◌∷◌, ◌++◌, Bool, true, refl, sym, ap, ◌∙◌, subst, codes, flat_map, list_all, IsIn, AreDistinct, AreAmong, AreApart, Item, Settings, Lowered, Contents, described_hosts, bound_name, bound_names, published_by, fixed_by, defined_by, IsPrescribed, AllItems, Belongs, Context}
+use Rattle.glue_context.proofs.Common.{◌≡◌, ℕ, inl, inr, List, [], ◌∷◌, ◌++◌, Bool, true, refl, sym, ap, ◌∙◌, subst, codes, flat_map, list_all, IsIn, AreDistinct, AreAmong, AreApart, Item, Settings, Lowered, Contents, described_hosts, bound_name, bound_names, published_by, fixed_by, defined_by, IsPrescribed, AllItems, Belongs, Context, Frame}
 use Rattle.std.proofs.Common.{false, ◌⊎◌}
 use Rattle.std.specs.Prelude.{◌&&◌}
 use Rattle.std.proofs.lemmas.Bool.{and_parts}
@@ -39,8 +39,8 @@ pub record IsImportItem (item : Item) : Type 0 where
 
 -- its role asks for no text, and it publishes and defines nothing
 module _ (item : Item) (is : IsImportItem item) where
-  pub import_prescribed : (s : Settings) (starts : Bool) (modules : List (List ℕ)) (before after : List Item) → IsPrescribed s starts modules before item after
-  import_prescribed s starts modules before after = rw is.line tt
+  pub import_prescribed : (s : Settings) (starts : Bool) (frame : Frame) (before after : List Item) → IsPrescribed s starts frame before item after
+  import_prescribed s starts frame before after = rw is.line tt
 
   pub import_published : published_by item ≡ []
   import_published = rw is.line refl

@@ -1,5 +1,5 @@
 -- Lists: what tests say of their members, items with their counterparts, and the items of a description.
-use Rattle.glue_context.proofs.Common.{Bor, map, take, ◌≡◌, ◌+◌, ◌-◌, ◌<◌, suc, true, codes, list_all, default_names, inl, inr, List, [], ◌∷◌, ◌++◌, Bool, refl, ap, arith, AllZip, Ordering, flat_map, flat_map-append, common_steps, ℕ, IsIn, Item, EachItem, AllItems, IsArranged, AreDeclareItems, IsDefineItem, IsGlue, all_items, front_items, joined_groups, length, AreImportLines, NameMap, line_form, vendor_items, drawn_imports, Settings, ImportId, AuxExport, Lowered, frame_start, frame_end, loading_item, foreign_modules, foreign_lines, module_at, modules_from, Import, Imported, Option, in_left, in_right, export_order, subst, sym, ◌∙◌}
+use Rattle.glue_context.proofs.Common.{Bor, map, take, ◌≡◌, ◌+◌, ◌-◌, ◌<◌, suc, true, codes, list_all, default_names, inl, inr, List, [], ◌∷◌, ◌++◌, Bool, refl, ap, arith, AllZip, Ordering, flat_map, flat_map-append, common_steps, ℕ, IsIn, Item, EachItem, AllItems, IsArranged, AreDeclareItems, IsDefineItem, IsGlue, all_items, front_items, joined_groups, length, AreImportLines, NameMap, line_form, vendor_items, drawn_imports, Settings, ImportId, AuxExport, Lowered, Frame, frame_of, frame_start, frame_end, own_imports, loading_item, foreign_modules, foreign_lines, module_at, modules_from, Import, Imported, Option, in_left, in_right, export_order, subst, sym, ◌∙◌}
 use Rattle.std.specs.Fmt.{decimal}
 use Rattle.std.proofs.Common.{append_assoc, drop, get_or}
 use Rattle.std.proofs.lemmas.List.{map-append, at_drop_more, take_more}
@@ -9,10 +9,12 @@ use Rattle.std.proofs.lemmas.Slice.Zip.{all_zipped_more}
 use Rattle.std.specs.Prelude.{◌^◌}
 use Rattle.helper_table.specs.declared.parts.HelperParts.{HelperParts}
 use Rattle.helper_table.specs.Closed.{AreAsked}
-use Rattle.glue_naming.specs.Pairs.{own_pairs, pair_order}
+use Rattle.glue_naming.specs.Pairs.{own_pairs, pair_order, place_order}
 use Rattle.glue_lines.specs.Lines.{foreign_line}
 use Rattle.glue_lines.specs.declared.form.LineForm.TheVariants.{Es}
+use Rattle.glue_context.specs.DefinedItems.{takes_memory}
 use Rattle.glue_context.specs.Edits.{has_start}
+use Rattle.glue_context.specs.Foreign.{has_strings}
 use Rattle.glue_context.specs.Items.{AreGroups, front_groups}
 use Rattle.glue_context.specs.Parts.{helper_parts}
 use Rattle.glue_check.proofs.Globals.{in_flat}
@@ -144,38 +146,39 @@ seven_put a b c d e f g none p1 p2 p3 p4 p5 p6 p7 =
     (put_behind [] a p1 none))))))
 
 -- these groups are those up to loading
-pub groups_made : (stem : List ℕ) (modules : List (List ℕ)) (called : List Imported) (groups : List (List Item))
+pub groups_made : (stem : List ℕ) (frame : Frame) (called : List Imported) (groups : List (List Item))
     (lines foreign constants declares started defines ended : List Item) (start end : Item)
-    → groups ≡ lines ∷ foreign ∷ constants ∷ declares ∷ started ∷ defines ∷ ended ∷ [] → foreign ≡ foreign_lines 1 modules → constants ≡ vendor_items called
-    → started ≡ start ∷ [] → start ≡ frame_start stem → ended ≡ end ∷ [] → end ≡ frame_end stem modules
-    → groups ≡ front_groups stem modules lines (vendor_items called) declares defines
-groups_made stem modules called groups lines foreign constants declares started defines ended start end put taken held opened begins closed ends =
+    → groups ≡ lines ∷ foreign ∷ constants ∷ declares ∷ started ∷ defines ∷ ended ∷ [] → foreign ≡ foreign_lines 1 frame.modules
+    → constants ≡ vendor_items called → started ≡ start ∷ [] → start ≡ frame_start stem frame.memory → ended ≡ end ∷ []
+    → end ≡ frame_end stem frame.modules frame.strings → groups ≡ front_groups stem frame lines (vendor_items called) declares defines
+groups_made stem frame called groups lines foreign constants declares started defines ended start end put taken held opened begins closed ends =
     put ∙ rw (taken, held, opened, begins, closed, ends) refl
 
 -- what is put together is what settings and description ask for
-pub glue_made : (s : Settings) (m : NameMap) (l : Lowered) (pairs : List (ImportId × ℕ)) (called : List Imported) (modules : List (List ℕ))
+pub glue_made : (s : Settings) (m : NameMap) (l : Lowered) (pairs : List (ImportId × ℕ)) (places : List ℕ) (called : List Imported) (frame : Frame)
     (groups : List (List Item)) (front items group : List Item) (last : Item) (parts : HelperParts)
-    → IsArranged (pair_order l) (own_pairs s l) pairs → called ≡ drawn_imports s l m pairs → modules ≡ foreign_modules s l
-    → AreGroups s m l pairs called modules groups → front ≡ joined_groups groups → AreAsked parts (front ++ last ∷ []) group
-    → items ≡ front ++ (group ++ last ∷ []) → last ≡ loading_item s.stem (has_start l.«module») → parts ≡ helper_parts s → IsGlue s m l items
-glue_made s m l pairs called modules groups front items group last parts by_import listed handed are joined asked put loads known =
+    → IsArranged (pair_order l) (own_pairs s l) pairs → IsArranged (place_order l) (own_imports s l.«module» l.wit l.aux) places
+    → called ≡ drawn_imports s l m pairs → frame ≡ frame_of s l
+    → AreGroups s m l places called frame groups → front ≡ joined_groups groups → AreAsked parts front group
+    → items ≡ front ++ (group ++ last ∷ []) → last ≡ loading_item s.stem (has_strings s l) (has_start l.«module») → parts ≡ helper_parts s → IsGlue s m l items
+glue_made s m l pairs places called frame groups front items group last parts by_import by_place listed framed are joined asked put loads known =
     let drawn = drawn_imports s l m pairs in
-    let others = foreign_modules s l in
-    let g : AreGroups s m l pairs drawn others groups =
-    subst (λ (ms : List (List ℕ)). AreGroups s m l pairs drawn ms groups) handed (subst (λ (is : List Imported). AreGroups s m l pairs is modules groups) listed are) in
+    let whole = frame_of s l in
+    let g : AreGroups s m l places drawn whole groups =
+    subst (λ (f : Frame). AreGroups s m l places drawn f groups) framed (subst (λ (is : List Imported). AreGroups s m l places is frame groups) listed are) in
     let d = g.declared in
     let consts = vendor_items drawn in
-    let loading = loading_item s.stem (has_start l.«module») in
-    let rest = front_items s.stem others g.lines consts (joined_groups d.groups) g.defines in
-    let named : groups ≡ front_groups s.stem others g.lines consts (joined_groups d.groups) g.defines =
-    g.are ∙ ap (λ (ds : List Item). front_groups s.stem others g.lines consts ds g.defines) d.joined in
+    let rest = front_items s.stem whole g.lines consts (joined_groups d.groups) g.defines in
+    let named : groups ≡ front_groups s.stem whole g.lines consts (joined_groups d.groups) g.defines =
+    g.are ∙ ap (λ (ds : List Item). front_groups s.stem whole g.lines consts ds g.defines) d.joined in
     let all : front ≡ rest = joined ∙ ap joined_groups named in
-    let first : front ++ last ∷ [] ≡ rest ++ loading ∷ [] = ap (λ (xs : List Item). xs ++ last ∷ []) all ∙ ap (λ (x : Item). rest ++ x ∷ []) loads in
     record {
       exports = d.exports;
       by_name = d.by_name;
       pairs = pairs;
       by_import = by_import;
+      places = places;
+      by_place = by_place;
       lines = g.lines;
       imported = g.imported;
       declares = d.groups;
@@ -184,13 +187,19 @@ glue_made s m l pairs called modules groups front items group last parts by_impo
       declared = d.declared;
       defined = g.defined;
       numbered = g.numbered;
-      asked = subst (λ (p : HelperParts). AreAsked p (rest ++ loading ∷ []) group) known (subst (λ (xs : List Item). AreAsked parts xs group) first asked);
+      asked = subst (λ (p : HelperParts). AreAsked p rest group) known (subst (λ (xs : List Item). AreAsked parts xs group) all asked);
       all = put ∙ ap (λ (xs : List Item). xs ++ (group ++ last ∷ [])) all ∙ ap (λ (x : Item). rest ++ (group ++ x ∷ [])) loads;
     }
 
 module _ {s : Settings} {m : NameMap} {l : Lowered} {items : List Item} (g : IsGlue s m l items) where
   abbrev pub modules : List (List ℕ)
   modules = foreign_modules s l
+
+  abbrev pub memory : Bool
+  memory = takes_memory s l
+
+  abbrev pub strings : Bool
+  strings = has_strings s l
 
   abbrev pub imports : List Imported
   imports = drawn_imports s l m g.pairs
@@ -203,20 +212,20 @@ module _ {s : Settings} {m : NameMap} {l : Lowered} {items : List Item} (g : IsG
 
   -- the items, with these helpers
   abbrev pub items_with : List Item → List Item
-  items_with helpers = all_items s.stem (has_start l.«module») modules g.lines constants declared_items g.defines helpers
+  items_with helpers = all_items s.stem (has_start l.«module») (frame_of s l) g.lines constants declared_items g.defines helpers
 
   abbrev pub front : List Item
-  front = front_items s.stem modules g.lines constants declared_items g.defines
+  front = front_items s.stem (frame_of s l) g.lines constants declared_items g.defines
 
   abbrev pub loading : Item
-  loading = loading_item s.stem (has_start l.«module»)
+  loading = loading_item s.stem strings (has_start l.«module»)
 
   -- what stands behind lines and constants
   abbrev ends : List Item
-  ends = frame_end s.stem modules ∷ []
+  ends = frame_end s.stem modules strings ∷ []
 
   abbrev framed : List Item
-  framed = frame_start s.stem ∷ (g.defines ++ ends)
+  framed = frame_start s.stem memory ∷ (g.defines ++ ends)
 
   -- an item of a group stands among all
   pub group_stands : (helpers group : List Item) (item : Item) → IsIn group g.declares → IsIn item group → IsIn item (items_with helpers)
@@ -230,14 +239,14 @@ module _ {s : Settings} {m : NameMap} {l : Lowered} {items : List Item} (g : IsG
   -- each item has a fact that each kind of item has
   pub each_item : (P : Item → Type 0) (helpers : List Item) → AllItems P g.lines → AllItems P (foreign_lines 1 modules) → AllItems P constants
       → ((e : AuxExport) (group : List Item) → IsIn e l.aux.exports → IsIn group g.declares → AreDeclareItems s m l e group → AllItems P group)
-      → ((pair : ImportId × ℕ) (item : Item) → IsIn pair (own_pairs s l) → IsDefineItem s m l pair item → P item)
-      → P (frame_start s.stem) → P (frame_end s.stem modules) → AllItems P helpers → P loading
+      → ((place : ℕ) (item : Item) → IsIn place (own_imports s l.«module» l.wit l.aux) → IsDefineItem s m l place item → P item)
+      → P (frame_start s.stem memory) → P (frame_end s.stem modules strings) → AllItems P helpers → P loading
       → AllItems P (items_with helpers)
   each_item P helpers imported foreign consts a b start end held loads =
       let declares = matched (AreDeclareItems s m l) (λ es groups. AllItems P (joined_groups groups)) g.exports g.declares g.declared tt
       (λ e group es groups k i x h. all_joined P group (joined_groups groups) (a e group (arranged_from g.by_name e k) i x) h) in
-      let defines = matched (IsDefineItem s m l) (λ ps. AllItems P) g.pairs g.defines g.defined tt
-      (λ pair item ps js k i x h. (b pair item (arranged_from g.by_import pair k) x, h)) in
+      let defines = matched (IsDefineItem s m l) (λ ps. AllItems P) g.places g.defines g.defined tt
+      (λ place item ps js k i x h. (b place item (arranged_from g.by_place place k) x, h)) in
       all_joined P front (helpers ++ loading ∷ [])
       (all_joined P g.lines (foreign_lines 1 modules ++ (constants ++ (declared_items ++ framed))) imported
       (all_joined P (foreign_lines 1 modules) (constants ++ (declared_items ++ framed)) foreign
@@ -251,17 +260,17 @@ module _ {s : Settings} {m : NameMap} {l : Lowered} {items : List Item} (g : IsG
       let parts = all_parts P front (loading ∷ []) h in all_joined P front (helpers ++ loading ∷ []) parts.0 (all_joined P helpers (loading ∷ []) held parts.1)
 
   -- what the items give is what lines, constants, exports, imports, helpers and the fixed items do
-  pub given : {B : Type 0} (give : Item → List B) (f : AuxExport → List B) (h : ImportId × ℕ → List B) (helpers : List Item)
+  pub given : {B : Type 0} (give : Item → List B) (f : AuxExport → List B) (h : ℕ → List B) (helpers : List Item)
       → ((e : AuxExport) (group : List Item) → IsIn e l.aux.exports → AreDeclareItems s m l e group → flat_map give group ≡ f e)
-      → ((pair : ImportId × ℕ) (item : Item) → IsIn pair (own_pairs s l) → IsDefineItem s m l pair item → give item ≡ h pair)
+      → ((place : ℕ) (item : Item) → IsIn place (own_imports s l.«module» l.wit l.aux) → IsDefineItem s m l place item → give item ≡ h place)
       → flat_map give (items_with helpers) ≡ (flat_map give g.lines ++ (flat_map give (foreign_lines 1 modules) ++ (flat_map give constants ++
-      (flat_map f g.exports ++ (give (frame_start s.stem) ++ (flat_map h g.pairs ++ (give (frame_end s.stem modules) ++ []))))))) ++
+      (flat_map f g.exports ++ (give (frame_start s.stem memory) ++ (flat_map h g.places ++ (give (frame_end s.stem modules strings) ++ []))))))) ++
       (flat_map give helpers ++ (give loading ++ []))
   given give f h helpers a b =
       let declares = matched (AreDeclareItems s m l) (λ es groups. flat_map give (joined_groups groups) ≡ flat_map f es) g.exports g.declares g.declared refl
       (λ e group es groups k i x q. flat_map-append give group (joined_groups groups) ∙ rw (a e group (arranged_from g.by_name e k) x, q) refl) in
-      let defines = matched (IsDefineItem s m l) (λ ps js. flat_map give js ≡ flat_map h ps) g.pairs g.defines g.defined refl
-      (λ pair item ps js k i x q. rw (b pair item (arranged_from g.by_import pair k) x, q) refl) in
+      let defines = matched (IsDefineItem s m l) (λ ps js. flat_map give js ≡ flat_map h ps) g.places g.defines g.defined refl
+      (λ place item ps js k i x q. rw (b place item (arranged_from g.by_place place k) x, q) refl) in
       rw (
         flat_map-append give front (helpers ++ loading ∷ []),
         flat_map-append give g.lines (foreign_lines 1 modules ++ (constants ++ (declared_items ++ framed))),

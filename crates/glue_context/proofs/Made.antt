@@ -1,12 +1,12 @@
 -- What is made of a description that is checked: linked, defined and published.
-use Rattle.glue_context.proofs.Common.{◌≡◌, ℕ, ◌+◌, ◌<◌, ◌==◌, inl, inr, List, [], ◌∷◌, ◌++◌, map, length, Bool, true, false, true≢false, None, Some, refl, sym, ap, ◌∙◌, subst, arith, append-nil, codes, flat_map, flat_map_single, bytes_eq, bytes_eq-Decides, list_any, list_all, IsPermutation-map, IsPermutation-sym, IsIn, IsAway, AreDistinct, AreAmong, AreApart, ImportId, Item, AuxImport, HOSTS, bound_in, bound_names, used_in, is_export_key, AllItems, Belongs, Context, AuxExport, Settings, NameMap, AreNames, Deno, Lowered, host_names, fixed_names, fixed_public, live_count, own_imports, is_one_of, described_hosts, names_of, js_import, declared_name, is_named, foreign_lines, foreign_modules, line_form, IsGlue, rewritten, IsLinked, IsDefined, defined_by, defined_places, IsPublished, published_pairs, published_by, fixed_published, fixed_by, EachItem, IsExported, IsPrescribed, export_names, FileFlags, unbuilt, verdict, IsBuiltExport}
+use Rattle.glue_context.proofs.Common.{◌≡◌, ℕ, ◌+◌, ◌<◌, ◌==◌, inl, inr, List, [], ◌∷◌, ◌++◌, map, length, Bool, true, false, true≢false, None, Some, refl, sym, ap, ◌∙◌, subst, arith, append-nil, codes, flat_map, flat_map_single, bytes_eq, bytes_eq-Decides, list_any, list_all, IsPermutation-map, IsPermutation-sym, IsIn, IsAway, AreDistinct, AreAmong, AreApart, ImportId, Item, AuxImport, HOSTS, bound_in, bound_names, used_in, is_export_key, AllItems, Belongs, Context, AuxExport, Settings, NameMap, AreNames, Deno, Lowered, host_names, fixed_names, fixed_public, live_count, own_imports, is_one_of, described_hosts, names_of, js_import, declared_name, is_named, foreign_lines, foreign_modules, frame_of, line_form, IsGlue, rewritten, IsLinked, IsDefined, defined_by, defined_places, IsPublished, published_pairs, published_by, fixed_published, fixed_by, EachItem, IsExported, IsPrescribed, export_names, FileFlags, unbuilt, verdict, IsBuiltExport}
 use Rattle.std.proofs.Common.{◌⊎◌}
 use Rattle.std.specs.Prelude.{◌≤◌, ◌^◌}
-use Rattle.std.proofs.lemmas.{List.Elements.All-map, Bool.Decides.Decides-eqb, List.Folds.flat_map-map, List.Sums.AllPass-from_list_all, List.Sums.list_all-from_AllPass}
+use Rattle.std.proofs.lemmas.{List.map-id, List.Elements.All-map, Bool.Decides.Decides-eqb, List.Folds.flat_map-map, List.Sums.AllPass-from_list_all, List.Sums.list_all-from_AllPass}
 use Rattle.values.proofs.Members.{in_left, in_right, in_either}
 use Rattle.glue_targets.specs.PublicTree.{PublicPair, public_tree, function_pair}
 use Rattle.glue_targets.specs.Published.{IsNamed, fixed_of}
-use Rattle.glue_targets.specs.Targets.{FixedText, frame_end, frame_start, frame_texts, module_name, own_path}
+use Rattle.glue_targets.specs.Targets.{FixedText, Frame, frame_end, frame_start, frame_texts, module_name, own_path}
 use Rattle.glue_shared.specs.declared.settings.Target.{Target}
 use Rattle.glue_shared.specs.declared.import.JsImportName.{JsImportName}
 use Rattle.glue_shared.specs.Names.{described_names, entry_of, has_number}
@@ -27,15 +27,17 @@ use Rattle.helper_table.specs.Names.{single_names}
 use Rattle.helper_table.proofs.Held.{held_item, free_names, helper_hosts, each_held, held_belong, held_distinct, held_inner, held_listed, asked_declared}
 use Rattle.glue_imports.specs.Roots.{drawn_name, or_empty}
 use Rattle.glue_targets.proofs.FixedTexts as fixed
-use Rattle.glue_targets.proofs.FrameEnd.{module_names, own_name, end_bound, end_fixed, end_fits}
+use Rattle.glue_targets.proofs.FixedTexts.{start_binds}
+use Rattle.glue_targets.proofs.FrameEnd.{module_names, own_name, end_bound, end_fixed, end_fits, end_hosts}
 use Rattle.glue_check.specs.Handed.{own_callees}
 use Rattle.glue_check.specs.Taken.{brought}
 use Rattle.glue_check.proofs.ExportNames.{names_of as public_names}
 use Rattle.glue_check.proofs.Globals.{described_host, from_flat, in_flat}
 use Rattle.glue_check.proofs.OwnPairs.{pair_kept}
+use Rattle.glue_context.specs.DefinedItems.{takes_memory}
 use Rattle.glue_context.specs.Edits.{has_start}
 use Rattle.glue_context.specs.Keys.{described_keys}
-use Rattle.glue_context.specs.Foreign.{path_of}
+use Rattle.glue_context.specs.Foreign.{has_strings, path_of}
 use Rattle.glue_context.specs.ExportedItems.{declare_item}
 use Rattle.glue_naming.specs.Listed.{is_global_name, names_drawn}
 use Rattle.glue_naming.specs.Naming.{import_name}
@@ -45,13 +47,13 @@ use Rattle.glue_naming.proofs.CalledNames as called
 use Rattle.glue_naming.proofs.Functions as functions
 use Rattle.glue_naming.proofs.OnceNames.{in_map}
 use Rattle.glue_context.specs.Parts.{helper_parts}
-use Rattle.glue_context.proofs.{Declared.AreDrawn, Declared.all_apart, Declared.all_distinct, Declared.all_found, Declared.all_names, Declared.constants_first, Declared.first_among, Declared.first_names, Declared.frame_bound, Declared.frame_first, Declared.held_among, Declared.imports_first, Declared.lines_first, Declared.loading_bound, Declared.loading_first, Declared.modules_few, Declared.modules_idents, Declared.names_first, Declared.own_fixed, Declared.own_names, Declared.own_no_hosts}
+use Rattle.glue_context.proofs.{Declared.AreDrawn, Declared.all_apart, Declared.all_distinct, Declared.all_found, Declared.all_names, Declared.constants_first, Declared.first_among, Declared.first_names, Declared.frame_first, Declared.held_among, Declared.imports_first, Declared.lines_first, Declared.loading_bound, Declared.loading_first, Declared.modules_few, Declared.modules_idents, Declared.names_first, Declared.own_fixed, Declared.own_framed, Declared.own_names, Declared.own_no_hosts}
 use Rattle.glue_context.proofs.ImportedFacts as imported
-use Rattle.glue_context.proofs.{Facts.Facts, Facts.places_of, Facts.built, Facts.own_pair, Fits.names_with, Fits.AreWell, Fits.HasBasis, Fits.declare_belongs, Fits.declare_binds, Fits.declare_publishes, Fits.declaration_binds, Fits.declaration_stands, Fits.each_of, Fits.group_none, Fits.define_belongs, Fits.define_binds, Fits.define_exported, Lists.arranged_from, Lists.moved_from, Lists.distinct_moved, Lists.all_are, Lists.each_is, Lists.flat_none, Lists.all_applied, Lists.all_kept, Lists.constants, Lists.each_among, Lists.each_any, Lists.each_at, Lists.each_item, Lists.each_line, Lists.given, Lists.group_stands, Lists.imports, Lists.items_with, Lists.none_given, Lists.with_held, Edited.moved_keeps, Edited.rewritten_exports, Paths.written_count}
+use Rattle.glue_context.proofs.{Facts.Facts, Facts.built, Facts.own_pair, Fits.names_with, Fits.AreWell, Fits.HasBasis, Fits.declare_belongs, Fits.declare_binds, Fits.declare_publishes, Fits.declaration_binds, Fits.declaration_stands, Fits.each_of, Fits.group_none, DefinedFacts.define_belongs, DefinedFacts.define_binds, DefinedFacts.define_exported, DefinedFacts.define_holds, DefinedFacts.define_role, Lists.arranged_from, Lists.moved_from, Lists.distinct_moved, Lists.all_are, Lists.each_is, Lists.flat_none, Lists.all_applied, Lists.all_kept, Lists.constants, Lists.each_among, Lists.each_any, Lists.each_at, Lists.each_item, Lists.each_line, Lists.front, Lists.given, Lists.group_stands, Lists.imports, Lists.items_with, Lists.loading, Lists.none_given, Lists.with_held, Edited.rewritten_exports, Paths.written_count}
 
 -- the three facts of items that a built description asks for
 pub record IsSound (s : Settings) (m : NameMap) (l : Lowered) (items : List Item) : Type 0 where
-  pub linked : IsLinked s (host_names s l.aux) (described_keys l.aux) (foreign_modules s l) (rewritten s l) items (has_start l.«module»)
+  pub linked : IsLinked s (host_names s l.aux) (described_keys l.aux) (frame_of s l) (rewritten s l) items (has_start l.«module»)
   pub defined : IsDefined s m l (rewritten s l) items
   pub published : IsPublished s l.aux (fixed_public s l.«module» l.wit l.aux) items
 
@@ -69,8 +71,9 @@ pairs_distinct [] h = tt
 pairs_distinct (e ∷ es) h = (λ k. h.0 (pair_named e es k), pairs_distinct es h.1)
 
 -- loading uses what is declared there
-loading_within : (starts : Bool) → AreAmong (fixed.loading_uses starts) (frame_bound ++ loading_bound)
-loading_within starts = grind arith
+loading_within : (memory starts : Bool) → AreAmong (fixed.loading_uses starts) (start_binds memory ++ loading_bound)
+loading_within true starts = grind arith
+loading_within false starts = grind arith
 
 -- what foreign lines declare, and that they publish nothing
 lines_bound : (from : ℕ) (paths : List (List ℕ)) → flat_map (λ (item : Item). bound_in item.words) (foreign_lines from paths) ≡ module_names from paths
@@ -82,12 +85,12 @@ lines_inner from paths = each_line (λ item. fixed_by item ≡ []) from paths (�
     ap (λ (b : Bool). fixed_of (role.Foreign n) b (foreign_line Es n path).words) (foreign_holds Es n path).inner)
 
 -- both texts of the frame are told
-frame_told : (t : Target) (stem : List ℕ) (modules : List (List ℕ)) → t ≡ Deno
-    → (let texts = map (λ (text : FixedText). text.words) (frame_texts t stem modules) in
-    IsIn (frame_start stem).words texts × IsIn (frame_end stem modules).words texts)
-frame_told t stem modules e =
-    subst (λ (u : Target). let texts = map (λ (text : FixedText). text.words) (frame_texts u stem modules) in
-    IsIn (frame_start stem).words texts × IsIn (frame_end stem modules).words texts) (sym e) (inl refl, inr (inl refl))
+frame_told : (t : Target) (stem : List ℕ) (frame : Frame) → t ≡ Deno
+    → (let texts = map (λ (text : FixedText). text.words) (frame_texts t stem frame) in
+    IsIn (frame_start stem frame.memory).words texts × IsIn (frame_end stem frame.modules frame.strings).words texts)
+frame_told t stem frame e =
+    subst (λ (u : Target). let texts = map (λ (text : FixedText). text.words) (frame_texts u stem frame) in
+    IsIn (frame_start stem frame.memory).words texts × IsIn (frame_end stem frame.modules frame.strings).words texts) (sym e) (inl refl, inr (inl refl))
 
 -- words belong where others are declared, if what they use is
 belongs_among : (c : Context) (declared : List (List ℕ)) (words : List Word) → Belongs c words → AreAmong (used_in words) declared
@@ -110,6 +113,15 @@ module _ (s : Settings) (m : NameMap) (l : Lowered) (items : List Item) (b : Fac
   abbrev starts : Bool
   starts = has_start l.«module»
 
+  abbrev memory : Bool
+  memory = takes_memory s l
+
+  abbrev strings : Bool
+  strings = has_strings s l
+
+  abbrev own_places : List ℕ
+  own_places = own_imports s l.«module» l.wit l.aux
+
   abbrev form : LineForm
   form = line_form s.target
 
@@ -122,7 +134,7 @@ module _ (s : Settings) (m : NameMap) (l : Lowered) (items : List Item) (b : Fac
   bare = record { memories = refl; table = refl; store = refl; destroy = refl }
 
   abbrev needed : List ℕ
-  needed = asked_helpers parts (items_with g [])
+  needed = asked_helpers parts (front g)
 
   -- what holds of a helper's item whatever its words are
   held_so : (P : Item → Type 0) → ((entry : List ℕ × List Word) → P (held_item entry)) → AllItems P g.helpers
@@ -210,16 +222,16 @@ module _ (s : Settings) (m : NameMap) (l : Lowered) (items : List Item) (b : Fac
 
   -- what the file declares, and what its first items may use
   abbrev declared : List (List ℕ)
-  declared = all_names s l.«module» paths held few g.numbered listed imported_names constant_names names
+  declared = all_names s l.«module» paths held memory few g.numbered listed imported_names constant_names names
 
   abbrev first : List (List ℕ)
-  first = first_names s l.«module» paths held few g.numbered listed imported_names constant_names names
+  first = first_names s l.«module» paths held memory few g.numbered listed imported_names constant_names names
 
   abbrev own : List (List ℕ)
-  own = own_names s l.«module» paths held few g.numbered listed
+  own = own_names s l.«module» paths held memory few g.numbered listed
 
   own_all_fixed : AreAmong own (fixed_names s l.«module»)
-  own_all_fixed = own_fixed s l.«module» paths held few g.numbered listed
+  own_all_fixed = own_fixed s l.«module» paths held memory few g.numbered listed
 
   -- what is apart from fixed names is apart from the file's own
   no_own : (xs : List (List ℕ)) → AreApart xs (fixed_names s l.«module») → AreApart xs own
@@ -252,7 +264,7 @@ module _ (s : Settings) (m : NameMap) (l : Lowered) (items : List Item) (b : Fac
   constants_apart : (ys : List (List ℕ)) → AreApart drawn ys → AreApart constant_names ys
   constants_apart ys h = apart_among constant_names drawn ys constants_drawn h
 
-  are_drawn : AreDrawn s l.«module» paths held few g.numbered listed imported_names constant_names names
+  are_drawn : AreDrawn s l.«module» paths held memory few g.numbered listed imported_names constant_names names
   are_drawn =
       let functions_apart = called.listed_no_function s l m n g.pairs sub has g.exports all_named in
       let fixed_apart = called.listed_no_fixed s l m n g.pairs sub has in record {
@@ -285,7 +297,7 @@ module _ (s : Settings) (m : NameMap) (l : Lowered) (items : List Item) (b : Fac
   -- the file's own names are none of the host
   outside : AreApart own (host_names s l.aux)
   outside =
-      rw hosts_are (apart_joined own (map (λ w. w.now) HOSTS) _ (own_no_hosts s l.«module» paths held few g.numbered listed) (apart_swap _ own described_apart))
+      rw hosts_are (apart_joined own (map (λ w. w.now) HOSTS) _ (own_no_hosts s l.«module» paths held memory few g.numbered listed) (apart_swap _ own described_apart))
 
   -- a name of the host that each file has
   known : (ys : List (List ℕ)) → list_all (is_one_of (map (λ w. w.now) HOSTS)) ys ≡ true → AreAmong ys (host_names s l.aux)
@@ -293,8 +305,8 @@ module _ (s : Settings) (m : NameMap) (l : Lowered) (items : List Item) (b : Fac
 
   bound : bound_names all ≡ declared
   bound = declared_are all
-      ∙ given g (λ item. bound_in item.words) (λ e. declared_name m e ∷ []) (λ pair. []) g.helpers (λ e group k d. declare_binds s m l e group d)
-      (λ pair item k d. define_binds s m l pair item d)
+      ∙ given g (λ item. bound_in item.words) (λ e. declared_name m e ∷ []) (λ place. []) g.helpers (λ e group k d. declare_binds s m l e group d)
+      (λ place item k d. define_binds s m l place item d)
       ∙ rw (sym (declared_are g.lines), sym (declared_are (constants g)))
       (simp (flat_map_single, flat_none, lines_bound, fixed.start_bound, end_bound, fixed.loading_bound, append-nil))
 
@@ -305,8 +317,8 @@ module _ (s : Settings) (m : NameMap) (l : Lowered) (items : List Item) (b : Fac
   no_wasm name at = by (is_wasm name) refl
     where
       there : IsIn (codes "wasm") own
-      there = in_right (codes "wasm") (module_names 1 paths) (frame_bound ++ (held ++ loading_bound))
-          (in_right (codes "wasm") frame_bound (held ++ loading_bound) (in_right (codes "wasm") held loading_bound (inr (inr (inr (inl refl))))))
+      there = in_right (codes "wasm") (module_names 1 paths) (start_binds memory ++ (held ++ loading_bound))
+          (in_right (codes "wasm") (start_binds memory) (held ++ loading_bound) (in_right (codes "wasm") held loading_bound (inr (inr (inr (inl refl))))))
 
       apart : AreApart own drawn
       apart = apart_swap drawn own (no_own drawn (called.listed_no_fixed s l m n g.pairs sub has))
@@ -330,17 +342,22 @@ module _ (s : Settings) (m : NameMap) (l : Lowered) (items : List Item) (b : Fac
   drawn_first : (name : List ℕ) → IsIn name drawn → IsIn name (first ++ free_names)
   drawn_first name at = elim (imported.one_declares form (imports g) g.lines g.imported no_global name at) [
     | inl here ↦ among_in name imported_names (first ++ free_names)
-        (there imported_names (imports_first s l.«module» paths held few g.numbered listed imported_names constant_names names)) here
+        (there imported_names (imports_first s l.«module» paths held memory few g.numbered listed imported_names constant_names names)) here
     | inr here ↦ among_in name constant_names (first ++ free_names)
-        (there constant_names (constants_first s l.«module» paths held few g.numbered listed imported_names constant_names names)) here
+        (there constant_names (constants_first s l.«module» paths held memory few g.numbered listed imported_names constant_names names)) here
   ]
 
   loaded : AreAmong loading_bound first
-  loaded = loading_first s l.«module» paths held few g.numbered listed imported_names constant_names names
+  loaded = loading_first s l.«module» paths held memory few g.numbered listed imported_names constant_names names
+
+  framed : AreAmong (start_binds memory) first
+  framed = frame_first s l.«module» paths held memory few g.numbered listed imported_names constant_names names
 
   basis : HasBasis s l m (first ++ free_names)
   basis = record {
     wasm = (there loading_bound loaded).1.1.1.0;
+    memory = λ taken. among_in (codes "memory") (start_binds memory) (first ++ free_names) (there (start_binds memory) framed)
+        (subst (λ (b : Bool). IsIn (codes "memory") (start_binds b)) (sym taken) (inr (inl refl)));
     helpers = among_right free_names first free_names (among_itself free_names);
     drawn = λ id w mine is name i other.
         let d = entry_drawn id w mine is name i other in
@@ -360,7 +377,7 @@ module _ (s : Settings) (m : NameMap) (l : Lowered) (items : List Item) (b : Fac
   name_first : (e : AuxExport) → IsIn e l.aux.exports → IsIn (declared_name m e) (first ++ free_names)
   name_first e k =
       among_in (declared_name m e) names (first ++ free_names)
-      (there names (names_first s l.«module» paths held few g.numbered listed imported_names constant_names names))
+      (there names (names_first s l.«module» paths held memory few g.numbered listed imported_names constant_names names))
       (in_map (declared_name m) e g.exports (moved_from g.exports l.aux.exports (IsPermutation-sym _ _ g.by_name.same) e k))
 
   -- ---- linkage
@@ -382,12 +399,20 @@ module _ (s : Settings) (m : NameMap) (l : Lowered) (items : List Item) (b : Fac
           let e = from_flat (λ (e : ℕ × AuxImport). names_of (js_import e.1)) l.aux.imports name here in
           b.idents e.0 e.1 x (in_flat (described_hosts false) (names_of (js_import (e.0).1)) name x e.2 k)
 
+  -- the module of the members is declared by the frame's start
+  first_module : IsIn (codes "import0") (first ++ free_names)
+  first_module = among_in (codes "import0") (start_binds memory) (first ++ free_names) (there (start_binds memory) framed) (own_framed memory)
+
+  -- and what its end uses of the host is known
+  proxy_known : (handed : Bool) → AreAmong (end_hosts handed) (host_names s l.aux)
+  proxy_known true = known (codes "Proxy" ∷ []) refl
+  proxy_known false = tt
+
   -- the items but helpers belong where all names of helpers are declared too that need nothing of the module
   firsts : AllItems (λ item. Belongs (names_with s l (first ++ free_names)) item.words) (items_with g [])
   firsts =
       let c = names_with s l (first ++ free_names) in
-      let framed = frame_first s l.«module» paths held few g.numbered listed imported_names constant_names names in
-      let lined = lines_first s l.«module» paths held few g.numbered listed imported_names constant_names names in
+      let lined = lines_first s l.«module» paths held memory few g.numbered listed imported_names constant_names names in
       let small : 1 + length paths < 2 ^ 64 = let h = g.numbered in omega (arith, h) in
       let own0 : module_names 0 (own_path s.stem ∷ paths) ≡ codes "import0" ∷ module_names 1 paths = ap (λ (n : List ℕ). n ∷ module_names 1 paths) own_name in
       each_item g (λ item. Belongs c item.words) []
@@ -395,26 +420,40 @@ module _ (s : Settings) (m : NameMap) (l : Lowered) (items : List Item) (b : Fac
       (each_line (λ item. Belongs c item.words) 1 paths (λ n path less. foreign_belongs Es n path c (omega (arith, less, small)) tt))
       (imported.constants_belong form (imports g) g.lines g.imported c drawn_idents (known (codes "undefined" ∷ []) refl).0 (import_hosts c refl))
       (λ e group k i x. declare_belongs s m l e group x well (name_ident e k) (b.export_steps e k) c.declared basis (name_first e k))
-      (λ pair item k x. define_belongs s m l pair item x well (b.pair_steps pair k) c.declared basis)
-      (belongs_by_facts c _ (fixed.start_fits c s.stem))
-      (belongs_by_facts c _ (end_fits s.stem paths c (modules_idents 0 (own_path s.stem ∷ paths) (omega (arith, small)))
-      (subst (λ (ns : List (List ℕ)). AreAmong ns c.declared) (sym own0) ((there frame_bound framed).1.0, there (module_names 1 paths) lined))))
+      (λ place item k x. define_belongs s m l well c.declared basis b.pair_steps place k (b.defined place k) item x)
+      (belongs_by_facts c _ (fixed.start_fits c s.stem memory))
+      (belongs_by_facts c _ (end_fits s.stem paths strings c (modules_idents 0 (own_path s.stem ∷ paths) (omega (arith, small)))
+      (subst (λ (ns : List (List ℕ)). AreAmong ns c.declared) (sym own0) (first_module, there (module_names 1 paths) lined)) (proxy_known strings)))
       tt
-      (belongs_by_facts c _ (fixed.loading_fits c s.stem starts
-      (among_trans (fixed.loading_uses starts) (frame_bound ++ loading_bound) c.declared (loading_within starts)
-      (there (frame_bound ++ loading_bound) (among_both frame_bound loading_bound first framed loaded)))
+      (belongs_by_facts c _ (fixed.loading_fits c s.stem strings starts
+      (among_trans (fixed.loading_uses starts) (start_binds memory ++ loading_bound) c.declared (loading_within memory starts)
+      (there (start_binds memory ++ loading_bound) (among_both (start_binds memory) loading_bound first framed loaded)))
       (known (codes "URL" ∷ codes "WebAssembly" ∷ codes "fetch" ∷ []) refl)
       (among_right (fixed.call_takes starts) (export_names l.«module») (fixed.call_takes starts) (among_itself (fixed.call_takes starts)))))
 
+  -- loading uses what the frame and it declare
+  loading_declared : AreAmong (used_in (loading g).words) declared
+  loading_declared =
+      let bound = start_binds memory ++ loading_bound in
+      subst (λ (ns : List (List ℕ)). AreAmong ns declared) (sym (fixed.loading_used s.stem strings starts))
+      (among_trans (fixed.loading_uses starts) bound declared (loading_within memory starts)
+      (among_trans bound first declared (among_both (start_binds memory) loading_bound first framed loaded)
+      (first_among s l.«module» paths held memory few g.numbered listed imported_names constant_names names)))
+
   -- a name that such an item uses is declared: where it is a helper's, that one is held
   first_declared : (item : Item) → IsIn item (items_with g []) → AreAmong (used_in item.words) (first ++ free_names) → AreAmong (used_in item.words) declared
-  first_declared item at used = among_by (used_in item.words) declared (λ name k.
-      elim (in_either name first free_names (among_in name (used_in item.words) (first ++ free_names) used k)) [
-        | inl here ↦ among_in name first declared
-            (first_among s l.«module» paths held few g.numbered listed imported_names constant_names names) here
-        | inr free ↦ among_in name held declared (held_among s l.«module» paths held few g.numbered listed imported_names constant_names names)
-            (asked_declared parts bare (items_with g []) g.helpers g.asked item name at k free)
-      ])
+  first_declared item at used = elim (in_either item (front g) (loading g ∷ []) at) [
+    | inl ahead ↦ among_by (used_in item.words) declared (λ name k.
+        elim (in_either name first free_names (among_in name (used_in item.words) (first ++ free_names) used k)) [
+          | inl here ↦ among_in name first declared
+              (first_among s l.«module» paths held memory few g.numbered listed imported_names constant_names names) here
+          | inr free ↦ among_in name held declared
+              (held_among s l.«module» paths held memory few g.numbered listed imported_names constant_names names)
+              (asked_declared parts bare (front g) g.helpers g.asked item name ahead k free)
+        ])
+    | inr (inl same) ↦ subst (λ (i : Item). AreAmong (used_in i.words) declared) (sym same) loading_declared
+    | inr (inr none) ↦ absurd none
+  ]
 
   belong : AllItems (λ item. Belongs (names_with s l declared) item.words) all
   belong =
@@ -422,54 +461,52 @@ module _ (s : Settings) (m : NameMap) (l : Lowered) (items : List Item) (b : Fac
       with_held g (λ item. Belongs c item.words) g.helpers
       (all_kept (λ item. Belongs (names_with s l (first ++ free_names)) item.words) (λ item. Belongs c item.words) (items_with g [])
       (λ item at h. belongs_among (names_with s l (first ++ free_names)) declared item.words h (first_declared item at h.resolved.bound)) firsts)
-      (held_belong parts bare needed g.helpers g.asked c (held_among s l.«module» paths held few g.numbered listed imported_names constant_names names)
+      (held_belong parts bare needed g.helpers g.asked c (held_among s l.«module» paths held memory few g.numbered listed imported_names constant_names names)
       (known helper_hosts refl))
 
-  linked : IsLinked s (host_names s l.aux) (described_keys l.aux) paths (rewritten s l) all starts
+  linked : IsLinked s (host_names s l.aux) (described_keys l.aux) (frame_of s l) (rewritten s l) all starts
   linked =
       let c = names_with s l declared in
       let d = held_distinct parts bare needed g.helpers g.asked in
       let hosts_apart = called.listed_no_host s l m n g.pairs sub has in
       let k = linked_by_words c all (sym bound) belong
-      (rw bound (all_distinct s l.«module» paths held few g.numbered listed imported_names constant_names names d are_drawn))
-      (rw bound (all_apart s l.«module» paths held few g.numbered listed imported_names constant_names names c.hosts (lines_apart c.hosts hosts_apart)
+      (rw bound (all_distinct s l.«module» paths held memory few g.numbered listed imported_names constant_names names d are_drawn))
+      (rw bound (all_apart s l.«module» paths held memory few g.numbered listed imported_names constant_names names c.hosts (lines_apart c.hosts hosts_apart)
       (constants_apart c.hosts hosts_apart) (functions.functions_no_host s l m n g.exports all_named) outside)) in
       let exported : EachItem (IsExported (export_names (rewritten s l))) [] all = rw (rewritten_exports s l) at k.exported in
-      let prescribed : EachItem (IsPrescribed s starts paths) [] all = each_any _ [] all (each_item g _ g.helpers
-      (lines_so _ (λ item h before after. imported.import_prescribed item h s starts paths before after))
+      let prescribed : EachItem (IsPrescribed s starts (frame_of s l)) [] all = each_any _ [] all (each_item g _ g.helpers
+      (lines_so _ (λ item h before after. imported.import_prescribed item h s starts (frame_of s l) before after))
       (each_line _ 1 paths (λ n path less before after. tt))
-      (constants_so _ (λ item h before after. imported.import_prescribed item h s starts paths before after))
+      (constants_so _ (λ item h before after. imported.import_prescribed item h s starts (frame_of s l) before after))
       (λ e group k i x. each_of s m l e group x _ (λ before after. tt) (λ q before after. rw b.deno (inl refl)))
-      (λ pair item k x before after. rw x.is tt)
-      (λ before after. (frame_told s.target s.stem paths b.deno).0) (λ before after. (frame_told s.target s.stem paths b.deno).1)
+      (λ place item k x before after. rw (define_role s m l place item x) tt)
+      (λ before after. (frame_told s.target s.stem (frame_of s l) b.deno).0) (λ before after. (frame_told s.target s.stem (frame_of s l) b.deno).1)
       (held_so _ (λ entry before after. tt)) (λ before after. rw b.deno (inl refl))) in
       assumption (k, exported, prescribed)
 
   defined : IsDefined s m l (rewritten s l) all
   defined =
-      let place_of = λ (pair : ImportId × ℕ). pair.0.0 in
-      let places : defined_places all ≡ places_of g.pairs =
-      given g (λ item. defined_by item.role) (λ e. []) (λ pair. place_of pair ∷ []) g.helpers
-      (λ e group k d. group_none s m l e group d (λ item. defined_by item.role) refl refl) (λ pair item k x. rw x.is)
+      let places : defined_places all ≡ g.places =
+      given g (λ item. defined_by item.role) (λ e. []) (λ place. place ∷ []) g.helpers
+      (λ e group k d. group_none s m l e group d (λ item. defined_by item.role) refl refl) (λ place item k x. ap defined_by (define_role s m l place item x))
       ∙ rw (
         lines_none (λ item. defined_by item.role) imported.import_defined,
         none_given (λ item. defined_by item.role) (foreign_lines 1 paths) (each_line _ 1 paths (λ n path less. refl)),
         constants_none (λ item. defined_by item.role) imported.import_defined,
         none_given (λ item. defined_by item.role) g.helpers (held_so _ (λ entry. refl)),
-      ) (simp (flat_none, flat_map_single, append-nil)) in
-      let moved = IsPermutation-map place_of (own_pairs s l) g.pairs g.by_import.same in
+      ) (simp (flat_none, flat_map_single, map-id, append-nil)) in
+      let moved = g.by_place.same in
       record {
-        only = λ place h. b.own place (moved_from (places_of (own_pairs s l)) _ moved place (rw places at h));
-        all = λ place h. rw places (moved_from (places_of g.pairs) _ (IsPermutation-sym _ _ moved) place (b.paired place h));
-        once = rw places (distinct_moved ◌==◌ Decides-eqb (places_of (own_pairs s l)) (places_of g.pairs) moved b.places);
+        only = λ place h. moved_from own_places g.places moved place (rw places at h);
+        all = λ place h. rw places (moved_from g.places own_places (IsPermutation-sym _ _ moved) place h);
+        once = rw places (distinct_moved ◌==◌ Decides-eqb own_places g.places moved b.once);
         functions = each_any _ [] all (each_item g _ g.helpers
             (lines_so _ (λ item h before after. imported.import_function item h s m l (rewritten s l)))
             (each_line _ 1 paths (λ n path less before after. tt))
             (constants_so _ (λ item h before after. imported.import_function item h s m l (rewritten s l)))
             (λ e group h i x. each_of s m l e group x _ (λ before after. record
             { «export» = e; described = h; of = refl; function = x.function; of_adapter = x.of_adapter; words = refl }) (λ q before after. tt))
-            (λ pair item h x before after. let own = own_pair s l pair h in let k = moved_keeps s l pair.0.0 x.«import» own.1 x.stands in rw x.is (record
-            { adapter = pair.1; pair = own.0; function = x.function; of_adapter = x.of_adapter; «import» = k.0; stands = k.1; words = rw k.2 }))
+            (λ place item h x before after. define_holds s m l place item h (b.defined place h) x)
             (λ before after. tt) (λ before after. tt) (held_so _ (λ entry before after. tt)) (λ before after. tt));
       }
 
@@ -494,15 +531,15 @@ module _ (s : Settings) (m : NameMap) (l : Lowered) (items : List Item) (b : Fac
         declares = refl;
         binds = declaration_binds s m l e group x;
       }))
-      (λ pair item k x. rw x.is tt) tt tt (held_so _ (λ entry. tt)) tt
+      (λ place item k x. rw (define_role s m l place item x) tt) tt tt (held_so _ (λ entry. tt)) tt
 
   published : IsPublished s l.aux (fixed_public s l.«module» l.wit l.aux) all
   published =
       let tree : public_tree s l.aux ≡ map pair_of l.aux.exports =
       rw (b.structs, b.enums, b.reexports, b.no_reset, functions_are l.aux.exports b.exports) (simp (append-nil, flat_map-map, flat_none)) in
       let pairs : published_pairs all ≡ map pair_of g.exports =
-      given g published_by (λ e. pair_of e ∷ []) (λ pair. []) g.helpers
-      (λ e group k d. declare_publishes s m l e group d well (name_ident e k) (b.export_steps e k)) (λ pair item k x. rw x.is)
+      given g published_by (λ e. pair_of e ∷ []) (λ place. []) g.helpers
+      (λ e group k d. declare_publishes s m l e group d well (name_ident e k) (b.export_steps e k)) (λ place item k x. rw (define_role s m l place item x) refl)
       ∙ rw (
         lines_none published_by imported.import_published,
         none_given published_by (foreign_lines 1 paths) (each_line _ 1 paths (λ n path less. refl)),
@@ -510,8 +547,8 @@ module _ (s : Settings) (m : NameMap) (l : Lowered) (items : List Item) (b : Fac
         none_given published_by g.helpers (held_so _ (λ entry. refl)),
       ) (simp (flat_none, flat_map_single, append-nil)) in
       let none : fixed_published all ≡ [] =
-      given g fixed_by (λ e. []) (λ pair. []) g.helpers (λ e group k d. group_none s m l e group d fixed_by refl refl)
-      (λ pair item k x. rw (define_exported s m l pair item x well (b.pair_steps pair k)) (rw x.is))
+      given g fixed_by (λ e. []) (λ place. []) g.helpers (λ e group k d. group_none s m l e group d fixed_by refl refl)
+      (λ place item k x. rw (define_role s m l place item x, define_exported s m l well (first ++ free_names) basis b.pair_steps place k (b.defined place k) item x) refl)
       ∙ rw (
         lines_none fixed_by imported.import_fixed,
         none_given fixed_by (foreign_lines 1 paths) (lines_inner 1 paths),

@@ -1,10 +1,11 @@
--- Each own import has exactly one definition, and each function that is printed is that of its adapter.
-use Rattle.std.specs.Prelude.{◌≡◌, ℕ, List, [], ◌∷◌, Some}
+-- Each own import has exactly one definition, by its adapter or by a memory, and each function that is printed is that of its adapter.
+use Rattle.std.specs.Prelude.{◌≡◌, ℕ, List, [], ◌∷◌, Option, Some, None}
 use Rattle.std.specs.List.{flat_map}
 use Rattle.std.specs.Str.{bytes_eq}
 use Rattle.values.specs.Lists.{IsIn, AreDistinct}
 use Rattle.wasm_core.specs.Contents.{Contents}
 use Rattle.wasm_core.specs.declared.types.Import.{Import}
+use Rattle.wasm_core.specs.declared.types.Memory.{Memory}
 use Rattle.glue_words.specs.declared.item.Item.{Item}
 use Rattle.glue_words.specs.declared.item.Role.{Role}
 use Rattle.glue_words.specs.declared.item.Role.TheVariants as role
@@ -12,14 +13,17 @@ use Rattle.glue_words.specs.declared.item.Thing.TheVariants as thing
 use Rattle.glue_words.specs.Linking.{EachItem}
 use Rattle.glue_tree.specs.declared.tree.JsFunction.{JsFunction}
 use Rattle.glue_shared.specs.declared.aux.AuxExport.{AuxExport}
+use Rattle.glue_shared.specs.declared.import.JsImport.{JsImport}
 use Rattle.glue_shared.specs.declared.settings.Settings.{Settings}
 use Rattle.glue_shared.specs.declared.description.Lowered.{Lowered}
 use Rattle.glue_shared.specs.declared.name_map.NameMap.{NameMap}
-use Rattle.glue_shared.specs.Names.{own_imports}
+use Rattle.glue_shared.specs.Names.{adapter_for, handed_part, own_imports}
+use Rattle.glue_check.specs.Unbuilt.{memory_of}
 use Rattle.glue_steps.specs.Resolving.{entry_at}
 use Rattle.glue_naming.specs.Naming.{declared_name}
+use Rattle.glue_context.specs.DefinedItems.{define_item, memory_words, part_words, value_item}
 use Rattle.glue_context.specs.ExportedItems.{declare_item}
-use Rattle.glue_context.specs.Items.{IsFunctionOf, define_item}
+use Rattle.glue_context.specs.Functions.{IsFunctionOf}
 
 -- the imports that an item of a role defines: one, or none
 abbrev pub defined_by : Role → List ℕ
@@ -31,14 +35,42 @@ defined_places items = flat_map (λ (item : Item). defined_by item.role) items
 
 -- the item defines the import, by its name in the written module, as the function of the adapter that implements it, where these names are
 -- drawn
-pub record IsDefinition (s : Settings) (m : NameMap) (l : Lowered) (written : Contents) (place : ℕ) (item : Item) : Type 0 where
-  pub adapter : ℕ
+pub record IsDefinition (s : Settings) (m : NameMap) (l : Lowered) (written : Contents) (place adapter : ℕ) (item : Item) : Type 0 where
   pub pair : IsIn (record { 0 = place }, adapter) l.wit.implements
   pub function : JsFunction
   pub of_adapter : IsFunctionOf s m l adapter [] function
   pub «import» : Import
   pub stands : entry_at written.imports place ≡ Some «import»
   pub words : item.words ≡ (define_item place «import».name function.words).words
+
+-- the item defines the import, by its name in the written module, as this property of a module's name where that is a function, and else as a
+-- function that throws
+pub record IsPartDefinition (m : NameMap) (l : Lowered) (written : Contents) (place adapter : ℕ) (js : JsImport) (item : Item) : Type 0 where
+  pub pair : IsIn (record { 0 = place }, adapter) l.wit.implements
+  pub «import» : Import
+  pub stands : entry_at written.imports place ≡ Some «import»
+  pub words : item.words ≡ (value_item place «import».name (part_words m js)).words
+
+-- the item defines the import, by its name in the written module, as the memory that is handed in, or a new one with the limits of the one that
+-- it brings in
+pub record IsMemoryDefinition (l : Lowered) (written : Contents) (place : ℕ) (item : Item) : Type 0 where
+  pub described : Import
+  pub there : entry_at l.«module».imports place ≡ Some described
+  pub memory : Memory
+  pub brought : memory_of l.«module» described.kind ≡ Some memory
+  pub «import» : Import
+  pub stands : entry_at written.imports place ≡ Some «import»
+  pub words : item.words ≡ (value_item place «import».name (memory_words memory.limits)).words
+
+-- by the property that the adapter does nothing but hand on to, where there is one, and else by its function
+abbrev pub HoldsAdapter : Settings → NameMap → Lowered → Contents → (place adapter : ℕ) → Item → Option JsImport → Type 0
+HoldsAdapter s m l written place adapter item (Some js) = IsPartDefinition m l written place adapter js item
+HoldsAdapter s m l written place adapter item None = IsDefinition s m l written place adapter item
+
+-- by the adapter that stands for the import, or where none does, by a memory
+abbrev pub HoldsDefinition : Settings → NameMap → Lowered → Contents → ℕ → Item → Option ℕ → Type 0
+HoldsDefinition s m l written place item (Some adapter) = HoldsAdapter s m l written place adapter item (handed_part s l.wit l.aux adapter)
+HoldsDefinition s m l written place item None = IsMemoryDefinition l written place item
 
 -- the item declares the function of an exported adapter, under the name that it was given
 pub record IsDeclaration (s : Settings) (m : NameMap) (l : Lowered) (adapter : ℕ) (item : Item) : Type 0 where
@@ -49,9 +81,9 @@ pub record IsDeclaration (s : Settings) (m : NameMap) (l : Lowered) (adapter : �
   pub of_adapter : IsFunctionOf s m l adapter «export».args function
   pub words : item.words ≡ (declare_item (bytes_eq (declared_name m «export») «export».name) adapter (declared_name m «export») function.words).words
 
--- a definition or the declaration of an adapter is that of its function
+-- a definition is that of its import, and the declaration of an adapter that of its function
 abbrev pub HoldsFunction : Settings → NameMap → Lowered → Contents → Role → Item → Type 0
-HoldsFunction s m l written (role.Define place) item = IsDefinition s m l written place item
+HoldsFunction s m l written (role.Define place) item = HoldsDefinition s m l written place item (adapter_for l.wit.implements place)
 HoldsFunction s m l written (role.Declare (thing.Adapter id)) item = IsDeclaration s m l id item
 HoldsFunction s m l written other item = Unit {0}
 

@@ -1,5 +1,6 @@
--- The modules that the glue file hands on whole: those of imports that it doesn't define.
-use Rattle.std.specs.Prelude.{ℕ, zero, suc, ◌+◌, ◌||◌, List, [], ◌∷◌, ◌++◌, map, codes, Option, Some, None, is_some, option_map, slice_get, Bool, if◌then◌else◌}
+-- The modules that the glue file hands on whole, those of imports that it doesn't define, and whether it hands on string constants.
+use Rattle.std.specs.Prelude.{ℕ, zero, suc, ◌+◌, ◌||◌, List, [], ◌∷◌, ◌++◌, map, codes, Option, Some, None, is_some, option_map, slice_get, Bool, false, if◌then◌else◌}
+use Rattle.std.specs.List.{list_any}
 use Rattle.std.specs.Str.{bytes_eq}
 use Rattle.wasm_core.specs.ids.ImportId.{ImportId}
 use Rattle.wasm_core.specs.declared.types.Import.{Import}
@@ -12,7 +13,7 @@ use Rattle.glue_lines.specs.Lines.{foreign_line}
 use Rattle.glue_lines.specs.declared.form.LineForm.TheVariants.{Es}
 use Rattle.glue_context.specs.Rewritten.{rewritten}
 
--- the module of string constants, which no module gives
+-- the module of string constants
 abbrev pub is_strings : List ℕ → Bool
 is_strings path = bytes_eq path (codes "wasm:js/string-constants")
 
@@ -33,6 +34,15 @@ modules_from own place (o ∷ os) = module_at own place o ++ modules_from own (p
 -- the modules that the glue file hands on, as the written module has them: one for each import that it doesn't define, in their order
 abbrev pub foreign_modules : Settings → Lowered → List (List ℕ)
 foreign_modules settings l = modules_from (own_imports settings l.«module» l.wit l.aux) 0 (map path_of (rewritten settings l).imports)
+
+-- an import stands, and its module is that of string constants
+abbrev pub is_string_import : Option (List ℕ) → Bool
+is_string_import None = false
+is_string_import (Some path) = is_strings path
+
+-- the written module imports string constants
+abbrev pub has_strings : Settings → Lowered → Bool
+has_strings settings l = list_any is_string_import (map path_of (rewritten settings l).imports)
 
 -- an import stands at a place
 abbrev pub has_path : List (Option (List ℕ)) → ℕ → Bool

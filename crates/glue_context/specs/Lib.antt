@@ -1,7 +1,9 @@
 pub mod Defined
+pub mod DefinedItems
 pub mod Edits
 pub mod ExportedItems
 pub mod Foreign
+pub mod Functions
 pub mod ImportedItems
 pub mod Items
 pub mod Keys

@@ -1,5 +1,6 @@
-//! The modules that the glue file hands on whole, and their lines.
+//! What the glue file hands on beside the imports that it defines: whole modules, with their lines, and string constants.
 ghost use Rattle.std.specs.Prelude.{◌≡◌, ◌++◌, ◌<◌, ◌^◌, length, map, fold, true, Some, IfOk, OnOk};
+ghost use Rattle.std.specs.List.{list_any};
 ghost use Rattle.glue_shared.specs.Names as names;
 ghost use Rattle.glue_context.specs.Foreign as spec;
 
@@ -145,19 +146,47 @@ fn written_paths(
     Ok(paths)
 }
 
-/// The modules that the glue file hands on, as the written module has them: one for each import that it doesn't define.
-pub(crate) fn foreign_modules(
+// Whether an import is one of a string constant, by its module.
+fn is_string_import(path: &Option<Text>) -> bool
+    ensures test { result ≡ spec.is_string_import path.now }
+{
+    match path {
+        None => false,
+        Some(path) => is_strings(path),
+    }
+}
+
+// Whether one of them is.
+fn has_string_import(paths: &[Option<Text>]) -> bool
+    ensures test { result ≡ list_any spec.is_string_import paths.now }
+{
+    paths.iter().any(|path| is_string_import(path))
+}
+
+/// What the glue file hands on beside the imports that it defines.
+#[derive(Drop)]
+pub(crate) struct HandedOn {
+    /// The modules that it hands on whole, as the written module has them: one for each import that it doesn't define.
+    pub modules: Seq<Text>,
+    /// Whether the written module imports string constants.
+    pub strings: bool,
+}
+
+/// What the glue file hands on, by the modules of the written module's imports.
+pub(crate) fn handed_on(
     alloc: Global,
     settings: &Settings,
     lowered: &Lowered,
-) -> Result<Seq<Text>, AllocError>
-    ensures modules { IfOk result (λ modules. modules ≡ spec.foreign_modules settings.now lowered.now) }
+) -> Result<HandedOn, AllocError>
+    ensures modules { IfOk result (λ handed. handed.modules ≡ spec.foreign_modules settings.now lowered.now) }
+    ensures strings { IfOk result (λ handed. handed.strings ≡ spec.has_strings settings.now lowered.now) }
 {
     let own = own_places(alloc, settings, lowered)?;
     let edits = edits_of(alloc, settings, lowered)?;
     let paths = written_paths(alloc, lowered.module.imports(), edits.imports.as_slice())?;
     let modules = modules_of(alloc, &own, paths.as_slice())?;
-    Ok(modules)
+    let strings = has_string_import(paths.as_slice());
+    Ok(HandedOn { modules, strings })
 }
 
 /// The lines of these modules, numbered from 1 on. More than have a number stand for want of memory.

@@ -2,7 +2,7 @@
 ghost use Rattle.std.specs.Prelude.{◌≡◌, ◌++◌, codes, IfOk, Some, is_some, true};
 ghost use Rattle.std.specs.Fmt.{decimal};
 ghost use Rattle.glue_steps.specs.Resolving as resolving;
-ghost use Rattle.glue_context.specs.Items as spec;
+ghost use Rattle.glue_context.specs.Functions as spec;
 
 use glue_binding::bind;
 use glue_imports::Basis;

@@ -1,105 +1,32 @@
 //! The items of the glue file, group by group: the lines that take modules, the vendor constants, what the description declares, the frame
 //! with the definitions of imports, the helpers for which these ask, and loading.
-ghost use Rattle.std.specs.Prelude.{◌≡◌, List, ◌++◌, ◌∷◌, [], IfOk, Some, is_some, true};
-ghost use Rattle.std.specs.List.{AllZip, list_all};
-ghost use Rattle.glue_steps.specs.Resolving as resolving;
+ghost use Rattle.std.specs.Prelude.{◌≡◌, List, ◌++◌, ◌∷◌, [], IfOk, map, true};
+ghost use Rattle.std.specs.List.{list_all};
+ghost use Rattle.wasm_core.specs.ids.ImportId.{ImportId};
 ghost use Rattle.helper_table.specs.Closed as closed;
+ghost use Rattle.glue_shared.specs.Names.{own_imports};
 ghost use Rattle.glue_naming.specs.Naming as naming;
-ghost use Rattle.glue_naming.specs.Pairs.{own_pairs};
+ghost use Rattle.glue_context.specs.DefinedItems as definitions;
 ghost use Rattle.glue_context.specs.Items as spec;
 
+use crate::defined::define_imports;
 use crate::exported::{declare_exports, exports_by_name, joined};
-use crate::foreign::{foreign_lines, foreign_modules};
-use crate::function::{adapter_function, words_of};
+use crate::foreign::foreign_lines;
+use crate::frame::{FrameParts, frame_parts};
 use crate::imported::{imported_lines, vendor_constants};
 use crate::parts::helper_parts;
 use glue_check::has_start;
 use glue_imports::Basis;
-use glue_naming::{drawn_imports, own_pairs_by_import};
+use glue_naming::{drawn_imports, own_pairs_by_import, own_places_by_name};
 use glue_scope::Names;
-use glue_shared::{AdapterId, JsImportName, Lowered, NameMap, Settings};
+use glue_shared::{JsImportName, Lowered, NameMap, Settings};
 use glue_steps::Indexed;
 use glue_targets::{frame_end, frame_start, loading_item};
-use glue_words::{Item, Role, Word, WordBuilder, key, punct};
+use glue_words::Item;
 use helper_table::{HelperParts, close_over};
 use std::alloc::{AllocError, Global};
-use values::{Duplicate, Seq, Text};
-use wasm_core::{Import, ImportId};
-
-// The definition of an import by a function.
-fn define_function(
-    alloc: Global,
-    place: ImportId,
-    name: &Text,
-    function: Seq<Word>,
-) -> Result<Item, AllocError>
-    ensures item { IfOk result (λ item. item ≡ spec.define_item place.0 name.now function) }
-{
-    let mut words = WordBuilder::new(alloc);
-    words.push(Word::Outer(name.copy(alloc)?))?;
-    words.punct(punct::COLON)?;
-    words.space()?;
-    words.key(key::FUNCTION)?;
-    words.append(function)?;
-    words.punct(punct::COMMA)?;
-    words.line_feed()?;
-    Ok(Item {
-        role: Role::Define(place.0),
-        words: words.finish(),
-    })
-}
-
-// The definition of an import by an adapter.
-fn define_by<N: Names>(
-    alloc: Global,
-    basis: &Basis<'_>,
-    indexed: &Indexed<'_>,
-    pair: &(ImportId, AdapterId),
-    import: &Import,
-) -> Result<Item, AllocError>
-    requires stands { spec.import_at indexed.now pair.now ≡ Some import.now }
-    requires told { is_some (resolving.adapter_steps basis.now.settings.now basis.now.names.now indexed.now pair.now.1) ≡ true }
-    ensures item { IfOk result (λ item. spec.IsDefineItem basis.now.settings.now basis.now.names.now indexed.now pair.now item) }
-{
-    let none = Seq::new(alloc);
-    let function = adapter_function::<N>(alloc, basis, indexed, pair.1, &none)?;
-    let item = define_function(alloc, pair.0, &import.name, words_of(function))?;
-    Ok(item)
-}
-
-// The item of an import that stands, and of its adapter.
-fn define_import<N: Names>(
-    alloc: Global,
-    basis: &Basis<'_>,
-    indexed: &Indexed<'_>,
-    pair: &(ImportId, AdapterId),
-) -> Result<Item, AllocError>
-    requires definable { spec.is_definable basis.now.settings.now basis.now.names.now indexed.now pair.now ≡ true }
-    ensures item { IfOk result (λ item. spec.IsDefineItem basis.now.settings.now basis.now.names.now indexed.now pair.now item) }
-{
-    match indexed.lowered().module.imports().get(pair.0.0 as usize) {
-        Some(Some(import)) => define_by::<N>(alloc, basis, indexed, pair, import),
-        _ => unreachable!(),
-    }
-}
-
-// The definitions of the imports of these pairs.
-#[tactic(auto, using(crate::proofs::Lists::item_steps))]
-fn define_imports<N: Names>(
-    alloc: Global,
-    basis: &Basis<'_>,
-    indexed: &Indexed<'_>,
-    pairs: &[(ImportId, AdapterId)],
-) -> Result<Seq<Item>, AllocError>
-    requires definable { list_all (spec.is_definable basis.now.settings.now basis.now.names.now indexed.now) pairs.now ≡ true }
-    ensures items { IfOk result (λ items. AllZip (spec.IsDefineItem basis.now.settings.now basis.now.names.now indexed.now) pairs.now items) }
-{
-    let mut items = Seq::new(alloc);
-    for pair in pairs {
-        items.push(define_import::<N>(alloc, basis, indexed, pair)?)?;
-    }
-    Ok(items)
-}
+use values::{Seq, Text};
+use wasm_core::ImportId;
 
 // What is declared for the exports of the description.
 fn declared_items<N: Names>(
@@ -131,58 +58,59 @@ fn front_groups<N: Names>(
     alloc: Global,
     basis: &Basis<'_>,
     indexed: &Indexed<'_>,
-    pairs: &[(ImportId, AdapterId)],
+    places: &[ImportId],
     called: &[(JsImportName, Text)],
-    modules: &[Text],
+    frame: &FrameParts,
 ) -> Result<Seq<Seq<Item>>, AllocError>
     requires bindable { list_all (spec.is_bindable basis.now.settings.now basis.now.names.now indexed.now) indexed.now.aux.exports ≡ true }
-    requires definable { list_all (spec.is_definable basis.now.settings.now basis.now.names.now indexed.now) pairs.now ≡ true }
+    requires definable { list_all (definitions.is_definable basis.now.settings.now basis.now.names.now indexed.now) (map (λ (id : ImportId). id.0) places.now) ≡ true }
     requires named { list_all (naming.is_named basis.now.names.now) indexed.now.aux.exports ≡ true }
-    ensures groups { IfOk result (λ groups. spec.AreGroups basis.now.settings.now basis.now.names.now indexed.now pairs.now called.now modules.now groups) }
+    ensures groups { IfOk result (λ groups. spec.AreGroups basis.now.settings.now basis.now.names.now indexed.now (map (λ (id : ImportId). id.0) places.now) called.now (spec.frame_by frame.now) groups) }
 {
     let mut groups = Seq::new(alloc);
     let lines = imported_lines(alloc, basis.settings, called)?;
     groups.push(lines)?;
-    let foreign = foreign_lines(alloc, modules)?;
+    let foreign = foreign_lines(alloc, frame.modules.as_slice())?;
     groups.push(foreign)?;
     let constants = vendor_constants(alloc, called)?;
     groups.push(constants)?;
     let declares = declared_items::<N>(alloc, basis, indexed)?;
     groups.push(declares)?;
-    let start = frame_start(alloc, basis.settings)?;
+    let start = frame_start(alloc, basis.settings, frame.memory)?;
     let start_group = one_item(alloc, start)?;
     groups.push(start_group)?;
-    let defines = define_imports::<N>(alloc, basis, indexed, pairs)?;
+    let defines = define_imports::<N>(alloc, basis, indexed, places)?;
     groups.push(defines)?;
-    let end = frame_end(alloc, basis.settings, modules)?;
+    let end = frame_end(
+        alloc,
+        basis.settings,
+        frame.modules.as_slice(),
+        frame.strings,
+    )?;
     let end_group = one_item(alloc, end)?;
     groups.push(end_group)?;
     Ok(groups)
 }
 
-// These items, and before the last of them the helpers for which they ask.
+// These items, the helpers for which they ask, and another item behind them.
 fn with_helpers(
     alloc: Global,
     parts: &HelperParts,
     front: Seq<Item>,
     last: Item,
 ) -> Result<Seq<Item>, AllocError>
-    ensures items { IfOk result (λ items. (group : List Item) × (closed.AreAsked parts.now (front ++ last ∷ []) group × (items ≡ front ++ (group ++ last ∷ [])))) }
+    ensures items { IfOk result (λ items. (group : List Item) × (closed.AreAsked parts.now front group × (items ≡ front ++ (group ++ last ∷ [])))) }
 {
+    let helpers = close_over(alloc, parts, front.as_slice())?;
     let mut items = front;
-    items.push(last)?;
-    let helpers = close_over(alloc, parts, items.as_slice())?;
-    let Some(loading) = items.pop() else {
-        unreachable!();
-    };
     items.append(helpers)?;
-    items.push(loading)?;
+    items.push(last)?;
     Ok(items)
 }
 
 /// The items that settings and a description ask for, where the check has found steps for each adapter that becomes a function, that of
-/// an export and that of an own import, and the function of each export was given a name. What an import begins with that is no global and was
-/// given none is printed as the empty name. Want of memory is the only error.
+/// an export and that of an own import, each other own import brings in a memory whose definition is built, and the function of each export was
+/// given a name. What an import begins with that is no global and was given none is printed as the empty name. Want of memory is the only error.
 pub fn glue_items<N: Names>(
     alloc: Global,
     settings: &Settings,
@@ -190,7 +118,7 @@ pub fn glue_items<N: Names>(
     names: &NameMap,
 ) -> Result<Seq<Item>, AllocError>
     requires bindable { list_all (spec.is_bindable settings.now names.now lowered.now) lowered.now.aux.exports ≡ true }
-    requires definable { list_all (spec.is_definable settings.now names.now lowered.now) (own_pairs settings.now lowered.now) ≡ true }
+    requires definable { list_all (definitions.is_definable settings.now names.now lowered.now) (own_imports settings.now lowered.now.«module» lowered.now.wit lowered.now.aux) ≡ true }
     requires named { list_all (naming.is_named names.now) lowered.now.aux.exports ≡ true }
     ensures items { IfOk result (λ items. spec.IsGlue settings.now names.now lowered.now items) }
 {
@@ -198,17 +126,18 @@ pub fn glue_items<N: Names>(
     let indexed = Indexed::new(alloc, lowered)?;
     let pairs = own_pairs_by_import(alloc, settings, lowered)?;
     let called = drawn_imports(alloc, settings, lowered, names, pairs.as_slice())?;
-    let modules = foreign_modules(alloc, settings, lowered)?;
+    let places = own_places_by_name(alloc, settings, lowered)?;
+    let frame = frame_parts(alloc, settings, lowered)?;
     let groups = front_groups::<N>(
         alloc,
         &basis,
         &indexed,
-        pairs.as_slice(),
+        places.as_slice(),
         called.as_slice(),
-        modules.as_slice(),
+        &frame,
     )?;
     let front = joined(alloc, groups)?;
-    let loading = loading_item(alloc, settings, has_start(&lowered.module))?;
+    let loading = loading_item(alloc, settings, frame.strings, has_start(&lowered.module))?;
     let items = with_helpers(alloc, &helper_parts(alloc, settings), front, loading)?;
     Ok(items)
 }

@@ -20,9 +20,11 @@
 //! `glue_tree`, `glue_shared`, `glue_scope`, `glue_words` and `wasm_core`. It knows no setter and no file.
 #![tactic(auto)]
 
+mod defined;
 mod edits;
 mod exported;
 mod foreign;
+mod frame;
 mod function;
 mod imported;
 mod items;

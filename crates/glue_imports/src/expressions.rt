@@ -8,7 +8,7 @@ use crate::part::{Expression, Part};
 use crate::prelude::{
     cast, has_link, instance_of, intrinsic_prelude, joined, linked, plain, present,
 };
-use crate::root::root;
+use crate::roots::root;
 use glue_shared::{
     AdapterJsImportKind, AuxImport, AuxValue, Intrinsic, JsImport, NameMap, Settings,
 };
@@ -25,8 +25,8 @@ pub struct Basis<'a> {
     pub names: &'a NameMap,
 }
 
-// The value that an import names, with parts before and behind it.
-fn around(
+/// The value that an import names, with parts before and behind it.
+pub(crate) fn around(
     alloc: Global,
     names: &NameMap,
     front: Seq<Part>,

@@ -9,17 +9,22 @@
 //! wrapped or unwrapped, and operations that need another export, have no parts here yet, nor have links to files on a target whose glue
 //! file is no ES module. Helpers are named by the names that they bind.
 //!
+//! `function_or_throw` gives the parts that define an import by a property of a module's name, which needs no function of its own
+//! (`specs/Definitions.antt`); `root` those of the value itself.
+//!
 //! A kind of import more is a line of the definition and an arm of the function; an intrinsic more is a line of a table in both.
 //!
 //! Stands on `glue_shared`, `glue_words` and `values`. It knows neither adapters nor what operands are.
 #![tactic(auto)]
 
+mod definition;
 mod expressions;
 mod intrinsic;
 mod part;
 mod prelude;
-mod root;
+mod roots;
 
+pub use definition::function_or_throw;
 pub use expressions::{Basis, expression, has_expression};
 pub use part::{Expression, Part};
-pub use root::global_name;
+pub use roots::{global_name, root};

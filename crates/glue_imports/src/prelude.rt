@@ -7,7 +7,7 @@ ghost use Rattle.glue_imports.specs.Roots as roots;
 
 use crate::intrinsic::{host, same};
 use crate::part::{Expression, Part};
-use crate::root::root_name;
+use crate::roots::root_name;
 use glue_shared::{Intrinsic, JsImportName, NameMap, Target};
 use glue_words::{key, punct};
 use std::alloc::{AllocError, Global};

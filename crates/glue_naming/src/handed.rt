@@ -3,9 +3,10 @@ ghost use Rattle.std.specs.Prelude.{◌≡◌, ◌++◌, IfOk, OnOk, map};
 ghost use Rattle.std.specs.List.{flat_map};
 ghost use Rattle.glue_naming.specs.Handed as spec;
 
-use crate::imported::{code_of, own_places, push_code};
+use crate::imported::push_code;
 use crate::named::copied_import;
-use glue_shared::{AdapterId, DescribedImports, IdSet, JsImportName, Lowered, Settings};
+use glue_check::own_places;
+use glue_shared::{AdapterId, DescribedImports, IdSet, JsImportName, Lowered, Settings, code_of};
 use std::alloc::{AllocError, Global};
 use values::Seq;
 use wasm_core::ImportId;

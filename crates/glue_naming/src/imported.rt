@@ -9,9 +9,10 @@ ghost use Rattle.glue_naming.specs.Arranged.{import_order};
 ghost use Rattle.glue_naming.specs.Imported as spec;
 
 use crate::named::{Named, Wanted, WantedName, copied_import};
+use glue_check::own_places;
 use glue_shared::{
-    Adapter, AdapterId, AdapterKind, AuxImport, DescribedImports, IdSet, Instruction, JsImportName,
-    Lowered, Settings, Target, js_import, own_imports,
+    AdapterId, AuxImport, DescribedImports, IdSet, Instruction, JsImportName, Lowered, Settings,
+    Target, code_of, js_import,
 };
 use std::alloc::{AllocError, Global};
 use values::{Map, Seq, Text};
@@ -69,19 +70,6 @@ pub(crate) fn push_code(
     Ok(())
 }
 
-// The code of an adapter, none where it is a call or isn't there.
-pub(crate) fn code_of(adapter: Option<&Adapter>) -> &[Instruction]
-    ensures code { result.now ≡ names.code_of (option_copied adapter.entry) }
-{
-    match adapter {
-        None => &[],
-        Some(adapter) => match &adapter.kind {
-            AdapterKind::Local(code) => code.as_slice(),
-            AdapterKind::Import(_) => &[],
-        },
-    }
-}
-
 // Adds what the adapter of a pair calls, where the import is an own one.
 fn push_pair(
     alloc: Global,
@@ -104,29 +92,6 @@ fn push_pair(
     } else {
         Ok(())
     }
-}
-
-// The places of a list, as a set.
-fn place_set(alloc: Global, ids: &[ImportId]) -> Result<IdSet, AllocError>
-    ensures places { IfOk result (λ places. places ≡ map (λ id. id.0) ids.now) }
-{
-    let mut places = IdSet::new(alloc);
-    for id in ids {
-        places = places.with(id.0)?;
-    }
-    Ok(places)
-}
-
-// The places of own imports, as a set.
-pub(crate) fn own_places(
-    alloc: Global,
-    settings: &Settings,
-    lowered: &Lowered,
-) -> Result<IdSet, AllocError>
-    ensures places { IfOk result (λ places. places ≡ names.own_imports settings.now lowered.now.«module» lowered.now.wit lowered.now.aux) }
-{
-    let ids = own_imports(alloc, settings, &lowered.module, &lowered.wit, &lowered.aux)?;
-    place_set(alloc, ids.as_slice())
 }
 
 // What the adapters of these pairs call, where the imports are own ones.

@@ -16,7 +16,7 @@
 //! `proofs/CalledNames.antt` of those that are drawn for what own imports call, that they are distinct identifiers that stand for nothing
 //! else. `function_name` and `import_name` read the maps, and `drawn_imports` (`listed`) gives what own imports call with the names that
 //! were drawn for it, each once (`specs/Listed.antt`). `pairs_by_import` (`sorted`) gives the pairs in the order in which imports are
-//! named, and defined in the crate above.
+//! named, and `own_places_by_name` the places of own imports in the order in which the crate above defines them.
 //!
 //! Stands on `glue_check`, `glue_scope`, `glue_words`, `glue_shared` and `wasm_core`. It knows no item.
 #![tactic(auto)]
@@ -39,4 +39,4 @@ pub use handed::handed_imports;
 pub use listed::drawn_imports;
 pub use named::{Named, Wanted, WantedName, name_in};
 pub use naming::{draw_names, function_name, import_name, names_of};
-pub use pairs::{own_pairs_by_import, pairs_by_import};
+pub use pairs::{own_pairs_by_import, own_places_by_name, pairs_by_import};

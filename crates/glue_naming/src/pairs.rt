@@ -1,19 +1,21 @@
-//! Imports with the adapters that stand for them, in the order in which they are gone through.
-ghost use Rattle.std.specs.Prelude.{◌≡◌, ◌++◌, ◌∷◌, [], IfOk, OnOk, filter};
+//! Own imports, and imports with the adapters that stand for them, in the order in which they are gone through.
+ghost use Rattle.std.specs.Prelude.{◌≡◌, ◌++◌, ◌∷◌, [], IfOk, OnOk, filter, map};
+ghost use Rattle.wasm_core.specs.ids.ImportId.{ImportId};
+ghost use Rattle.glue_shared.specs.Names.{own_imports};
 ghost use Rattle.glue_naming.specs.Arranged.{IsArranged};
 ghost use Rattle.glue_naming.specs.Pairs as spec;
 
-use crate::imported::own_places;
+use glue_check::{own_ids, own_places};
 use glue_shared::{AdapterId, IdSet, Lowered, Settings};
 use std::alloc::{AllocError, Global};
 use std::cmp::Ordering;
 use wasm_core::ImportId;
 
-// The name of the import of a pair, where one stands.
-fn pair_name<'a>(lowered: &'a Lowered, pair: &(ImportId, AdapterId)) -> &'a str
-    ensures name { result.now ≡ spec.pair_name lowered.now pair.now }
+// The name of the import at a place, where one stands.
+fn place_name(lowered: &Lowered, place: ImportId) -> &str
+    ensures name { result.now ≡ spec.place_name lowered.now place.0 }
 {
-    match lowered.module.imports().get(pair.0.0 as usize) {
+    match lowered.module.imports().get(place.0 as usize) {
         Some(Some(import)) => import.name.as_str(),
         _ => "",
     }
@@ -23,7 +25,7 @@ fn pair_name<'a>(lowered: &'a Lowered, pair: &(ImportId, AdapterId)) -> &'a str
 fn pair_order(lowered: &Lowered, a: &(ImportId, AdapterId), b: &(ImportId, AdapterId)) -> Ordering
     ensures order { result ≡ spec.pair_order lowered.now a.now b.now }
 {
-    match pair_name(lowered, a).cmp(pair_name(lowered, b)) {
+    match place_name(lowered, a.0).cmp(place_name(lowered, b.0)) {
         Ordering::Equal => a.1.0.cmp(&b.1.0),
         order => order,
     }
@@ -93,4 +95,36 @@ pub fn own_pairs_by_import(
     let own = own_places(alloc, settings, lowered)?;
     let pairs = pairs_among(alloc, &own, lowered.wit.implements.as_slice())?;
     sorted_pairs(lowered, pairs)
+}
+
+// Whether a place comes before another, or after it.
+fn place_order(lowered: &Lowered, a: ImportId, b: ImportId) -> Ordering
+    ensures order { result ≡ spec.place_order lowered.now a.0 b.0 }
+{
+    match place_name(lowered, a).cmp(place_name(lowered, b)) {
+        Ordering::Equal => a.0.cmp(&b.0),
+        order => order,
+    }
+}
+
+// These places by the import's name, and then by their numbers.
+fn sorted_places(lowered: &Lowered, places: Vec<ImportId>) -> Result<Vec<ImportId>, AllocError>
+    ensures sorted { IfOk result (λ sorted. IsArranged (spec.place_order lowered.now) (map (λ (id : ImportId). id.0) places.items) (map (λ (id : ImportId). id.0) sorted.items)) }
+{
+    let mut sorted = places;
+    sorted.sort_by(|a, b| place_order(lowered, *a, *b))?;
+    Ok(sorted)
+}
+
+/// The places of the imports that the glue file defines, by the import's name, and then by their numbers. Want of memory is the only error.
+pub fn own_places_by_name(
+    alloc: Global,
+    settings: &Settings,
+    lowered: &Lowered,
+) -> Result<Vec<ImportId>, AllocError>
+    ensures sorted { IfOk result (λ sorted. IsArranged (spec.place_order lowered.now) (own_imports settings.now lowered.now.«module» lowered.now.wit lowered.now.aux) (map (λ (id : ImportId). id.0) sorted.items)) }
+{
+    let own = own_ids(alloc, settings, lowered)?;
+    let places = Vec::from_slice(alloc, own.as_slice())?;
+    sorted_places(lowered, places)
 }

@@ -109,8 +109,8 @@ const REFUSED: &[(&str, &str)] = &[
         "0061736d0100000001070160027f7f017f03020100",
         "fault Parse\n",
     ),
-    // A shared memory, an imported function that is exported and that nothing describes, two exports of one name, an
-    // imported memory.
+    // A shared memory, an imported function that is exported and that nothing describes, two exports of one name, a
+    // table that is imported from the module of placeholders.
     ("0061736d01000000050401030101", "fault Threads\n"),
     (
         "0061736d0100000001050160017f00022001185f5f7762696e6467656e5f706c616365686f6c6465725f5f036c6f670000070701036c6f670000",
@@ -121,7 +121,7 @@ const REFUSED: &[(&str, &str)] = &[
         "fault NameClash\n",
     ),
     (
-        "0061736d01000000020a0103656e76016d020001070501016d0200",
+        "0061736d01000000022001185f5f7762696e6467656e5f706c616365686f6c6465725f5f01740170000107050101740100",
         "fault NotBuilt\n",
     ),
     // Another version, a version that is a text, none, no JSON, no UTF-8, and another version beside an import.

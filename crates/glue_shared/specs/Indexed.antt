@@ -9,7 +9,7 @@ use Rattle.glue_shared.specs.declared.adapter.NonstandardWitSection.{Nonstandard
 use Rattle.glue_shared.specs.declared.aux.WasmBindgenAux.{WasmBindgenAux}
 use Rattle.glue_shared.specs.declared.import.AuxImport.{AuxImport}
 use Rattle.glue_shared.specs.declared.settings.Settings.{Settings}
-use Rattle.glue_shared.specs.Names.{has_number, is_direct, is_emscripten, is_first_of}
+use Rattle.glue_shared.specs.Names.{adapter_for, has_number, is_direct, is_emscripten, is_first_of}
 
 -- the entry at the place that an id has
 abbrev pub entry_by : {A : Type 0} → List (ℕ × ℕ) → List A → ℕ → Option A
@@ -18,6 +18,10 @@ entry_by places entries id = option_and_then (slice_get entries) (look_up nat_cm
 -- each id has the place of its first entry, among some of the entries
 abbrev pub LeadsTo : {A : Type 0} → List (ℕ × ℕ) → (all some : List (ℕ × A)) → Type 0
 LeadsTo places all some = (id : ℕ) → entry_by places all id ≡ find (λ e. e.0 == id) some
+
+-- an index gives each place the adapter of the first pair with its import
+abbrev pub GivesFirst : List (ℕ × ℕ) → List (ImportId × ℕ) → Type 0
+GivesFirst adapters pairs = (place : ℕ) → look_up nat_cmp adapters place ≡ adapter_for pairs place
 
 -- an index has the entries and the ids of the description
 pub record IsIndexOf (aux : WasmBindgenAux) (imports : List (ℕ × AuxImport)) (variadic caught : List ℕ) : Type 0 where

@@ -220,10 +220,10 @@ abbrev pub is_none : {A : Type 0} → List A → Bool
 is_none [] = true
 is_none (x ∷ xs) = false
 
--- a name from a module, of which no property is read
-abbrev pub is_whole_name : Option AuxImport → Bool
-is_whole_name (Some (what.Value (value.Bare js))) = is_from_module js.name && is_none js.fields
-is_whole_name _ = false
+-- the name of a module that an import is described as, with the properties that are read from it
+abbrev pub module_name : Option AuxImport → Option JsImport
+module_name (Some (what.Value (value.Bare js))) = if is_from_module js.name then Some js else None
+module_name other = None
 
 -- the first entry with this id
 abbrev pub entry_of : {A : Type 0} → ℕ → List (ℕ × A) → Option A
@@ -244,12 +244,12 @@ is_normal_call (Some a) = is_normal a.kind
 abbrev pub has_number : ℕ → List ℕ → Bool
 has_number n ns = list_any (λ k. k == n) ns
 
--- the adapter that is called may stand in for the import
-abbrev pub is_direct_callee : NonstandardWitSection → WasmBindgenAux → Option ℕ → Bool
-is_direct_callee wit aux None = false
-is_direct_callee wit aux (Some callee) =
-    is_normal_call (look_up nat_cmp wit.adapters callee)
-    && (not (has_number callee aux.imports_with_variadic) && is_whole_name (entry_of callee aux.imports))
+-- the name of a module that a called adapter is described as, where it is called as a function with its arguments as they are
+abbrev pub callee_name : NonstandardWitSection → WasmBindgenAux → Option ℕ → Option JsImport
+callee_name wit aux None = None
+callee_name wit aux (Some callee) =
+    if is_normal_call (look_up nat_cmp wit.adapters callee) && not (has_number callee aux.imports_with_variadic)
+    then module_name (entry_of callee aux.imports) else None
 
 -- the code of an adapter, none where it is a call
 abbrev pub code_of : Option Adapter → List Instruction
@@ -269,13 +269,34 @@ is_emscripten target.Deno = false
 is_emscripten target.Module = false
 is_emscripten target.Emscripten = true
 
+-- the name of a module that the adapter of an import does nothing but hand on to
+abbrev pub handed_name : Settings → NonstandardWitSection → WasmBindgenAux → ℕ → Option JsImport
+handed_name settings wit aux adapter =
+    if is_emscripten settings.target || (has_number adapter aux.imports_with_catch || aux.legacy_exception_handling) then None
+    else callee_name wit aux (plain_call 0 (code_of (look_up nat_cmp wit.adapters adapter)))
+
+-- a name of which no property is read
+abbrev pub is_whole : Option JsImport → Bool
+is_whole None = false
+is_whole (Some js) = is_none js.fields
+
 -- an import whose adapter this is can be the described name itself
 abbrev pub is_direct : Settings → NonstandardWitSection → WasmBindgenAux → ℕ → Bool
-is_direct settings wit aux adapter =
-    not (is_emscripten settings.target)
-    && (not (has_number adapter aux.imports_with_catch)
-    && (not aux.legacy_exception_handling
-    && is_direct_callee wit aux (plain_call 0 (code_of (look_up nat_cmp wit.adapters adapter)))))
+is_direct settings wit aux adapter = is_whole (handed_name settings wit aux adapter)
+
+-- a name of which a property is read
+abbrev pub part_of : Option JsImport → Option JsImport
+part_of None = None
+part_of (Some js) = if is_none js.fields then None else Some js
+
+-- the name of a module and the properties that are read from it, of which there is one, where the adapter of an import does nothing but hand on
+-- to it
+abbrev pub handed_part : Settings → NonstandardWitSection → WasmBindgenAux → ℕ → Option JsImport
+handed_part settings wit aux adapter = part_of (handed_name settings wit aux adapter)
+
+-- the adapter that the first of these pairs gives the import at a place
+abbrev pub adapter_for : List (ImportId × ℕ) → ℕ → Option ℕ
+adapter_for pairs place = option_map (λ pair. pair.1) (find (λ pair. pair.0.0 == place) pairs)
 
 -- an adapter defines the import at a place
 abbrev pub is_implemented : NonstandardWitSection → ℕ → Bool

@@ -83,7 +83,7 @@ fn id_set(alloc: Global, ids: &[AdapterId]) -> Result<IdSet, AllocError>
 
 /// What is said beside the adapters, with an index of what is said of import adapters. A contract sees what is said.
 #[derive(Drop)]
-pub(crate) struct IndexedAux<'a> {
+pub struct IndexedAux<'a> {
     aux: &'a WasmBindgenAux,
     imports: DescribedImports<'a>,
     variadic: IdSet,
@@ -107,7 +107,7 @@ impl<'a> Model for IndexedAux<'a> {
 
 impl<'a> IndexedAux<'a> {
     /// What is said, with its index. Want of memory is the only error.
-    pub(crate) fn new(alloc: Global, aux: &'a WasmBindgenAux) -> Result<IndexedAux<'a>, AllocError>
+    pub fn new(alloc: Global, aux: &'a WasmBindgenAux) -> Result<IndexedAux<'a>, AllocError>
         ensures same { IfOk result (λ indexed. indexed ≡ aux.now) }
     {
         let imports = DescribedImports::new(alloc, aux.imports.as_slice())?;

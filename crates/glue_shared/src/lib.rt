@@ -9,7 +9,9 @@
 mod adapter;
 mod aux;
 mod description;
+mod direct;
 mod ids;
+mod implementers;
 mod import;
 mod indexed;
 mod kept;
@@ -28,9 +30,11 @@ pub use aux::{
     AuxExportedMethodKind, AuxReceiverKind, AuxStringEnum, AuxStruct, StaticSlot, WasmBindgenAux,
 };
 pub use description::{Description, Lowered};
+pub use direct::{code_of, handed_part, is_from_module};
 pub use ids::IdSet;
+pub use implementers::Implementers;
 pub use import::{AuxImport, AuxValue, Intrinsic, JsImport, JsImportName};
-pub use indexed::DescribedImports;
+pub use indexed::{DescribedImports, IndexedAux};
 pub use kept::roots;
 pub use name_map::NameMap;
 pub use name_tests::{is_fixed_name, is_host_name, js_import, live_count};

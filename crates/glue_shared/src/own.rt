@@ -1,162 +1,18 @@
 //! The imports that the glue file defines.
 ghost use Rattle.std.specs.Prelude.{◌≡◌, ◌++◌, IfOk, OnOk, map};
-ghost use Rattle.std.specs.Option.{option_copied};
-ghost use Rattle.std.specs.List.{flat_map, list_all};
+ghost use Rattle.std.specs.List.{flat_map};
 ghost use Rattle.glue_shared.specs.Indexed as indexed;
 ghost use Rattle.glue_shared.specs.Names as spec;
 
-use crate::adapter::{
-    Adapter, AdapterId, AdapterJsImportKind, AdapterKind, Instruction, NonstandardWitSection,
-};
+use crate::adapter::{AdapterId, NonstandardWitSection};
 use crate::aux::WasmBindgenAux;
+use crate::direct::{is_direct, is_emscripten};
 use crate::ids::IdSet;
-use crate::import::{AuxImport, AuxValue, JsImportName};
 use crate::indexed::IndexedAux;
-use crate::settings::{Settings, Target};
+use crate::settings::Settings;
 use std::alloc::{AllocError, Global};
 use values::Seq;
 use wasm_core::{Import, ImportId, Memory, Module};
-
-// Whether a step changes no value.
-fn is_plain_cast(step: &Instruction) -> bool
-    ensures test { result ≡ spec.is_plain_cast step.now }
-{
-    match step {
-        Instruction::Int32ToWasm | Instruction::Int64ToWasm | Instruction::I32FromBool => true,
-        Instruction::WasmToInt32(unsigned) | Instruction::WasmToInt64(unsigned) => !*unsigned,
-        _ => false,
-    }
-}
-
-// Whether each of the steps changes no value.
-fn are_plain_casts(steps: &[Instruction]) -> bool
-    ensures test { result ≡ list_all spec.is_plain_cast steps.now }
-{
-    steps.iter().all(|step| is_plain_cast(step))
-}
-
-// The adapter that a code calls, where it does nothing else but hand its arguments on in order.
-fn plain_call(code: &[Instruction]) -> Option<AdapterId>
-    ensures callee { result ≡ spec.plain_call 0 code.now }
-{
-    let mut rest = code;
-    let mut met = 0;
-    'steps: while let Some((step, others)) = rest.split_first() {
-        match step {
-            Instruction::ArgGet(place) => {
-                if *place as usize != met {
-                    return None;
-                }
-                met += 1;
-            }
-            Instruction::CallAdapter(id) => {
-                return if are_plain_casts(others) {
-                    Some(*id)
-                } else {
-                    None
-                };
-            }
-            step => {
-                if !is_plain_cast(step) {
-                    return None;
-                }
-            }
-        }
-        rest = others;
-    }
-    None
-}
-
-// Whether the name is one of a module.
-fn is_from_module(name: &JsImportName) -> bool
-    ensures test { result ≡ spec.is_from_module name.now }
-{
-    match name {
-        JsImportName::Module { .. }
-        | JsImportName::LocalModule { .. }
-        | JsImportName::InlineJs { .. } => true,
-        JsImportName::Global { .. } | JsImportName::VendorPrefixed { .. } => false,
-    }
-}
-
-// Whether an import is a name from a module, of which no property is read.
-fn is_whole_name(import: Option<&AuxImport>) -> bool
-    ensures test { result ≡ spec.is_whole_name (option_copied import.entry) }
-{
-    match import {
-        Some(AuxImport::Value(AuxValue::Bare(js))) => {
-            is_from_module(&js.name) && js.fields.is_empty()
-        }
-        _ => false,
-    }
-}
-
-// Whether an adapter is a call of the kind `Normal`.
-fn is_normal_call(adapter: Option<&Adapter>) -> bool
-    ensures test { result ≡ spec.is_normal_call (option_copied adapter.entry) }
-{
-    match adapter {
-        Some(adapter) => matches!(
-            adapter.kind,
-            AdapterKind::Import(AdapterJsImportKind::Normal)
-        ),
-        None => false,
-    }
-}
-
-// Whether the adapter that is called may stand in for the import.
-fn is_direct_callee(
-    wit: &NonstandardWitSection,
-    aux: &IndexedAux<'_>,
-    callee: Option<AdapterId>,
-) -> bool
-    ensures test { result ≡ spec.is_direct_callee wit.now aux.now callee }
-{
-    match callee {
-        None => false,
-        Some(id) => {
-            is_normal_call(wit.adapters.get(&id))
-                && !aux.is_variadic(id)
-                && is_whole_name(aux.import(id))
-        }
-    }
-}
-
-// The adapter that an adapter with code calls, where it does nothing else.
-fn callee_of(adapter: Option<&Adapter>) -> Option<AdapterId>
-    ensures callee { result ≡ spec.plain_call 0 (spec.code_of (option_copied adapter.entry)) }
-{
-    match adapter {
-        Some(
-            Adapter {
-                kind: AdapterKind::Local(code),
-                ..
-            },
-        ) => plain_call(code.as_slice()),
-        _ => None,
-    }
-}
-
-fn is_emscripten(target: &Target) -> bool
-    ensures test { result ≡ spec.is_emscripten target.now }
-{
-    matches!(target, Target::Emscripten)
-}
-
-// Whether an import that this adapter implements can be the described name itself.
-fn is_direct(
-    settings: &Settings,
-    wit: &NonstandardWitSection,
-    aux: &IndexedAux<'_>,
-    adapter: AdapterId,
-) -> bool
-    ensures test { result ≡ spec.is_direct settings.now wit.now aux.now adapter }
-{
-    !is_emscripten(&settings.target)
-        && !aux.is_caught(adapter)
-        && !aux.is_legacy()
-        && is_direct_callee(wit, aux, callee_of(wit.adapters.get(&adapter)))
-}
 
 // The places of the imports that adapters define.
 fn implemented(alloc: Global, pairs: &[(ImportId, AdapterId)]) -> Result<IdSet, AllocError>

@@ -1,7 +1,8 @@
 -- Items that are refused, each beside items that are right.
 use Rattle.std.proofs.Common.{◌≡◌, ℕ, inl, inr, List, [], ◌∷◌, ◌++◌, refl, Bool, true, false, true≢false}
 use Rattle.std.proofs.Common.{ap, sym, ◌∙◌, subst}
-use Rattle.std.specs.Prelude.{◌⊎◌, Option, Some, None, codes, bytes_eq, map}
+use Rattle.std.specs.Prelude.{◌⊎◌, Option, Some, None, codes, bytes_eq, map, if◌then◌else◌}
+use Rattle.std.specs.Fmt.{digits}
 use Rattle.std.specs.List.{list_any, flat_map}
 use Rattle.values.specs.Lists.{IsIn}
 use Rattle.glue_words.specs.declared.word.Word.{Word}
@@ -28,7 +29,7 @@ use Rattle.glue_targets.specs.Published.{IsImportBound, IsNamed, Enters, IsVendo
 use Rattle.glue_targets.specs.Published.{fixed_published}
 use Rattle.glue_targets.specs.RoleWords.{role_words, clause_words, publish_texts, root_words, inner_texts, roots_of}
 use Rattle.glue_targets.specs.RoleWords.{statement_end}
-use Rattle.glue_targets.specs.Targets.{FixedText, loading_texts}
+use Rattle.glue_targets.specs.Targets.{FixedText, Frame, frame_texts, loading_texts}
 
 -- ---- an inner namespace: `||=` below a re-exported root, `=` below one of the glue file's own
 
@@ -55,22 +56,22 @@ abbrev is_nil : List (List ℕ) → Bool
 is_nil [] = true
 is_nil (x ∷ xs) = false
 
-module _ (settings : Settings) where
-  reexported_right : is_one_of (codes "ns1.inner ||= {};\n") (role_words settings false [] (reexported_root ∷ []) inner [])
+module _ (settings : Settings) (frame : Frame) where
+  reexported_right : is_one_of (codes "ns1.inner ||= {};\n") (role_words settings false frame (reexported_root ∷ []) inner [])
       ≡ true
   unfolding spelling
   reexported_right = refl
 
-  reexported_refused : is_one_of (codes "ns1.inner = {};\n") (role_words settings false [] (reexported_root ∷ []) inner [])
+  reexported_refused : is_one_of (codes "ns1.inner = {};\n") (role_words settings false frame (reexported_root ∷ []) inner [])
       ≡ false
   unfolding spelling
   reexported_refused = refl
 
-  own_right : is_one_of (codes "ns.inner = {};\n") (role_words settings false [] (own_root ∷ []) inner []) ≡ true
+  own_right : is_one_of (codes "ns.inner = {};\n") (role_words settings false frame (own_root ∷ []) inner []) ≡ true
   unfolding spelling
   own_right = refl
 
-  own_refused : is_one_of (codes "ns.inner ||= {};\n") (role_words settings false [] (own_root ∷ []) inner []) ≡ false
+  own_refused : is_one_of (codes "ns.inner ||= {};\n") (role_words settings false frame (own_root ∷ []) inner []) ≡ false
   unfolding spelling
   own_refused = refl
 
@@ -371,41 +372,125 @@ script_refused settings global e = rw e (inr (inr (inr (inr (inr (inl refl))))))
 
 -- ---- an assignment is one to a property
 
-assigned_root_refused : (settings : Settings) → is_one_of (codes "ns = f;\n")
-    (role_words settings false [] (own_root ∷ []) (role.Assign (codes "ns" ∷ []) thing.Reset (codes "f")) []) ≡ false
-assigned_root_refused settings = refl
+assigned_root_refused : (settings : Settings) (frame : Frame) → is_one_of (codes "ns = f;\n")
+    (role_words settings false frame (own_root ∷ []) (role.Assign (codes "ns" ∷ []) thing.Reset (codes "f")) []) ≡ false
+assigned_root_refused settings frame = refl
 
-assigned_right : (settings : Settings) → is_one_of (codes "ns.f = f1;\n")
-    (role_words settings false [] (own_root ∷ []) (role.Assign (codes "ns" ∷ codes "f" ∷ []) thing.Reset (codes "f1")) [])
+assigned_right : (settings : Settings) (frame : Frame) → is_one_of (codes "ns.f = f1;\n")
+    (role_words settings false frame (own_root ∷ []) (role.Assign (codes "ns" ∷ codes "f" ∷ []) thing.Reset (codes "f1")) [])
     ≡ true
 unfolding spelling
-assigned_right settings = refl
+assigned_right settings frame = refl
 
--- ---- loading calls the start function exactly where the module has one
+-- ---- the frame takes the memory exactly where it is imported, and hands on string constants exactly where they are
+
+-- what the frame of Deno may be, for the stem `out` and another module `m`
+abbrev frame_words : (memory strings : Bool) → Option (List (List Word))
+frame_words memory strings =
+    let frame : Frame = record { memory = memory; modules = codes "m" ∷ []; strings = strings } in
+    Some (map (λ (text : FixedText). text.words) (frame_texts target.Deno (codes "out") frame))
+
+-- the frame's start with these parameters
+abbrev start_with : List ℕ → List ℕ
+start_with parameters =
+    codes "function __wbg_get_imports(" ++ (parameters ++ codes ") {\nconst import0 = {\n__proto__: null,\n")
+
+start_right : (strings : Bool) → is_one_of (start_with []) (frame_words false strings) ≡ true
+unfolding spelling reading key_text
+start_right strings = refl
+
+start_refused : (strings : Bool) → is_one_of (start_with []) (frame_words true strings) ≡ false
+unfolding spelling reading key_text
+start_refused strings = refl
+
+memory_right : (strings : Bool) → is_one_of (start_with (codes "memory")) (frame_words true strings) ≡ true
+unfolding spelling reading key_text
+memory_right strings = refl
+
+memory_refused : (strings : Bool) → is_one_of (start_with (codes "memory")) (frame_words false strings) ≡ false
+unfolding spelling reading key_text
+memory_refused strings = refl
+
+-- the frame's end with these lines behind those of modules
+abbrev end_with : List ℕ → List ℕ
+end_with lines =
+    codes "};\nreturn {\n__proto__: null,\n\"./out_bg.js\": import0,\n\"m\": import1,\n" ++ (lines ++ codes "};\n}\n")
+
+-- the line of string constants
+abbrev constants_line : List ℕ
+constants_line = codes "\"wasm:js/string-constants\": new Proxy({}, { get: (_, name) => name }),\n"
+
+end_right : (memory : Bool) → is_one_of (end_with []) (frame_words memory false) ≡ true
+unfolding spelling reading key_text digits
+end_right false = refl
+end_right true = refl
+
+end_refused : (memory : Bool) → is_one_of (end_with []) (frame_words memory true) ≡ false
+unfolding spelling reading key_text digits
+end_refused false = refl
+end_refused true = refl
+
+string_constants_right : (memory : Bool) → is_one_of (end_with constants_line) (frame_words memory true) ≡ true
+unfolding spelling reading key_text digits
+string_constants_right false = refl
+string_constants_right true = refl
+
+string_constants_refused : (memory : Bool) → is_one_of (end_with constants_line) (frame_words memory false) ≡ false
+unfolding spelling reading key_text digits
+string_constants_refused false = refl
+string_constants_refused true = refl
+
+-- ---- loading calls the start function exactly where the module has one, and is told of string constants exactly where it imports some
 
 -- what loading of Deno may be, for the stem `out`
-abbrev loading_words : Bool → Option (List (List Word))
-loading_words starts = Some (map (λ (text : FixedText). text.words) (loading_texts target.Deno (codes "out") starts))
+abbrev loading_words : (strings starts : Bool) → Option (List (List Word))
+loading_words strings starts =
+    let frame : Frame = record { memory = false; modules = []; strings = strings } in
+    Some (map (λ (text : FixedText). text.words) (loading_texts target.Deno (codes "out") frame starts))
 
--- loading of the module, and then these lines
-abbrev loading_and : List ℕ → List ℕ
-loading_and lines =
+-- loading of the module, with these options, and then these lines
+abbrev loading_and : (options lines : List ℕ) → List ℕ
+loading_and options lines =
     codes "const wasmUrl = new URL(\"out_bg.wasm\", import.meta.url);\n"
-    ++ (codes "const wasmInstantiated = await WebAssembly.instantiateStreaming(fetch(wasmUrl), __wbg_get_imports());\n"
-    ++ (codes "const wasmInstance = wasmInstantiated.instance;\nconst wasm = wasmInstance.exports;\n" ++ lines))
+    ++ (codes "const wasmInstantiated = await WebAssembly.instantiateStreaming(fetch(wasmUrl), __wbg_get_imports()"
+    ++ (options ++ (codes ");\n"
+    ++ (codes "const wasmInstance = wasmInstantiated.instance;\nconst wasm = wasmInstance.exports;\n" ++ lines))))
 
-call_right : is_one_of (loading_and (codes "wasm.__wbindgen_start();\n")) (loading_words true) ≡ true
+-- the line that calls the start function
+abbrev call_line : List ℕ
+call_line = codes "wasm.__wbindgen_start();\n"
+
+-- what tells of string constants
+abbrev strings_option : List ℕ
+strings_option = codes ", { importedStringConstants: \"wasm:js/string-constants\" }"
+
+call_right : is_one_of (loading_and [] call_line) (loading_words false true) ≡ true
 unfolding spelling reading key_text access
 call_right = refl
 
-call_refused : is_one_of (loading_and (codes "wasm.__wbindgen_start();\n")) (loading_words false) ≡ false
+call_refused : is_one_of (loading_and [] call_line) (loading_words false false) ≡ false
 unfolding spelling reading key_text access
 call_refused = refl
 
-no_call_right : is_one_of (loading_and []) (loading_words false) ≡ true
+no_call_right : is_one_of (loading_and [] []) (loading_words false false) ≡ true
 unfolding spelling reading key_text access
 no_call_right = refl
 
-no_call_refused : is_one_of (loading_and []) (loading_words true) ≡ false
+no_call_refused : is_one_of (loading_and [] []) (loading_words false true) ≡ false
 unfolding spelling reading key_text access
 no_call_refused = refl
+
+option_right : (starts : Bool) → is_one_of (loading_and strings_option (if starts then call_line else [])) (loading_words true starts) ≡ true
+unfolding spelling reading key_text access
+option_right false = refl
+option_right true = refl
+
+option_refused : (starts : Bool) → is_one_of (loading_and strings_option (if starts then call_line else [])) (loading_words false starts) ≡ false
+unfolding spelling reading key_text access
+option_refused false = refl
+option_refused true = refl
+
+no_option_refused : (starts : Bool) → is_one_of (loading_and [] (if starts then call_line else [])) (loading_words true starts) ≡ false
+unfolding spelling reading key_text access
+no_option_refused false = refl
+no_option_refused true = refl

@@ -25,7 +25,7 @@ use Rattle.glue_shared.specs.declared.import.JsImportName.TheVariants.{VendorPre
 use Rattle.glue_shared.specs.declared.settings.Settings.{Settings}
 use Rattle.glue_shared.specs.Names.{described_hosts}
 use Rattle.glue_targets.specs.PublicTree.{PublicPair, public_tree}
-use Rattle.glue_targets.specs.Targets.{FixedText, frame_texts, loading_texts}
+use Rattle.glue_targets.specs.Targets.{FixedText, Frame, frame_texts, loading_texts}
 
 -- a declaration is exported where it has the keyword
 abbrev pub is_exported : Item → Bool
@@ -149,20 +149,20 @@ fixed_by item = fixed_of item.role (is_exported item) item.words
 abbrev pub fixed_published : List Item → List (List ℕ)
 fixed_published items = flat_map fixed_by items
 
--- the texts that an item of a role may be, where imports come from these modules too
-abbrev pub texts_of : Settings → List (List ℕ) → Role → List FixedText
-texts_of settings modules role.Fixed = frame_texts settings.target settings.stem modules
-texts_of settings modules role.Loading =
-    loading_texts settings.target settings.stem false ++ loading_texts settings.target settings.stem true
-texts_of settings modules role = []
+-- the texts that an item of a role may be, for this frame
+abbrev pub texts_of : Settings → Frame → Role → List FixedText
+texts_of settings frame role.Fixed = frame_texts settings.target settings.stem frame
+texts_of settings frame role.Loading =
+    loading_texts settings.target settings.stem frame false ++ loading_texts settings.target settings.stem frame true
+texts_of settings frame role = []
 
 -- an item is a fixed text that publishes a name otherwise than by an export clause
 pub record IsAssigned (settings : Settings) (items : List Item) (name : List ℕ) : Type 0 where
   pub item : Item
   pub stands : IsIn item items
-  pub modules : List (List ℕ)
+  pub frame : Frame
   pub text : FixedText
-  pub known : IsIn text (texts_of settings modules item.role)
+  pub known : IsIn text (texts_of settings frame item.role)
   pub same : item.words ≡ text.words
   pub assigns : IsIn name text.assigns
 

@@ -19,7 +19,7 @@ use Rattle.glue_shared.specs.declared.settings.Target.{Target}
 use Rattle.glue_shared.specs.declared.settings.Target.TheVariants as target
 use Rattle.glue_shared.specs.declared.settings.Settings.{Settings}
 use Rattle.glue_shared.specs.Paths.{Path}
-use Rattle.glue_targets.specs.Targets.{frame_texts, loading_texts}
+use Rattle.glue_targets.specs.Targets.{Frame, frame_texts, loading_texts}
 use Rattle.glue_targets.specs.Published.{is_exported}
 
 -- whether the glue file of the target is an ES module
@@ -147,28 +147,28 @@ abbrev pub assign_texts : Path → Thing → List ℕ → List Root → List (Li
 assign_texts path t name roots =
     flat_map (λ word. map (assign_words path word) (flat_map named_root roots)) (named t name)
 
--- the texts that an item of a role may have, where the role asks for one and imports come from these modules too
-abbrev pub role_words : Settings → Bool → List (List ℕ) → List Item → Role → List (List ℕ) → Option (List (List Word))
-role_words settings has_start modules items (role.Publish [] t name) bound = Some []
-role_words settings has_start modules items (role.Publish (p ∷ []) t name) bound =
+-- the texts that an item of a role may have, where the role asks for one, for this frame
+abbrev pub role_words : Settings → Bool → Frame → List Item → Role → List (List ℕ) → Option (List (List Word))
+role_words settings has_start frame items (role.Publish [] t name) bound = Some []
+role_words settings has_start frame items (role.Publish (p ∷ []) t name) bound =
     Some (publish_texts (is_es_module settings.target) p t name)
-role_words settings has_start modules items (role.Publish (p ∷ next ∷ path) t name) bound = Some []
-role_words settings has_start modules items (role.Namespace []) bound = Some []
-role_words settings has_start modules items (role.Namespace (p ∷ [])) bound =
+role_words settings has_start frame items (role.Publish (p ∷ next ∷ path) t name) bound = Some []
+role_words settings has_start frame items (role.Namespace []) bound = Some []
+role_words settings has_start frame items (role.Namespace (p ∷ [])) bound =
     Some (map (λ name. root_words (if pointwise nat_eq name p then is_es_module settings.target else false) name) bound)
-role_words settings has_start modules items (role.Namespace (p ∷ next ∷ path)) bound =
+role_words settings has_start frame items (role.Namespace (p ∷ next ∷ path)) bound =
     Some (inner_texts (p ∷ next ∷ path) (roots_of p items))
-role_words settings has_start modules items (role.Assign [] t name) bound = Some []
-role_words settings has_start modules items (role.Assign (p ∷ []) t name) bound = Some []
-role_words settings has_start modules items (role.Assign (p ∷ next ∷ path) t name) bound =
+role_words settings has_start frame items (role.Assign [] t name) bound = Some []
+role_words settings has_start frame items (role.Assign (p ∷ []) t name) bound = Some []
+role_words settings has_start frame items (role.Assign (p ∷ next ∷ path) t name) bound =
     Some (assign_texts (p ∷ next ∷ path) t name (roots_of p items))
-role_words settings has_start modules items role.Fixed bound =
-    Some (map (λ text. text.words) (frame_texts settings.target settings.stem modules))
-role_words settings has_start modules items role.Loading bound =
-    Some (map (λ text. text.words) (loading_texts settings.target settings.stem has_start))
-role_words settings has_start modules items role.Import bound = None
-role_words settings has_start modules items (role.Foreign number) bound = None
-role_words settings has_start modules items (role.Define place) bound = None
-role_words settings has_start modules items (role.Declare t) bound = None
-role_words settings has_start modules items (role.Helper name) bound = None
-role_words settings has_start modules items role.Body bound = None
+role_words settings has_start frame items role.Fixed bound =
+    Some (map (λ text. text.words) (frame_texts settings.target settings.stem frame))
+role_words settings has_start frame items role.Loading bound =
+    Some (map (λ text. text.words) (loading_texts settings.target settings.stem frame has_start))
+role_words settings has_start frame items role.Import bound = None
+role_words settings has_start frame items (role.Foreign number) bound = None
+role_words settings has_start frame items (role.Define place) bound = None
+role_words settings has_start frame items (role.Declare t) bound = None
+role_words settings has_start frame items (role.Helper name) bound = None
+role_words settings has_start frame items role.Body bound = None

@@ -1,4 +1,5 @@
--- The texts of a target, which depend on the names of files and on whether the module has a start function.
+-- The texts of a target, which depend on the names of files, on what the frame takes and hands on, and on whether the module
+-- has a start function.
 use Rattle.std.specs.Prelude.{ℕ, ◌+◌, Bool, true, false, List, [], ◌∷◌, ◌++◌, codes}
 use Rattle.glue_words.specs.declared.word.Word.{Word}
 use Rattle.glue_words.specs.declared.item.Item.{Item}
@@ -22,9 +23,14 @@ file_names stem = (codes "$file", file_name [] stem (codes "_bg.wasm")) ∷ []
 abbrev pub fixed_words : List ℕ → List ℕ → List Word
 fixed_words stem text = renamed (name_for []) (name_for (file_names stem)) (words_in text)
 
+-- the words of the frame's start, where its function takes the memory or not
+abbrev pub start_words : List ℕ → Bool → List Word
+start_words stem true = fixed_words stem deno.FRAME_START_MEMORY.now
+start_words stem false = fixed_words stem deno.FRAME_START.now
+
 -- the frame up to the first member
-abbrev pub frame_start : List ℕ → Item
-frame_start stem = record { role = Fixed; words = fixed_words stem deno.FRAME_START.now }
+abbrev pub frame_start : List ℕ → Bool → Item
+frame_start stem memory = record { role = Fixed; words = start_words stem memory }
 
 -- ---- the modules that imports come from
 
@@ -47,12 +53,19 @@ modules_words number (path ∷ paths) = module_words number path ++ modules_word
 abbrev pub own_path : List ℕ → List ℕ
 own_path stem = file_name (codes "./") stem (codes "_bg.js")
 
+-- the line of string constants, where the module imports some
+abbrev pub string_constants : Bool → List Word
+string_constants true = words_in deno.FRAME_STRINGS.now
+string_constants false = []
+
 -- the frame from the end of the members on: the module of these members has the number 0, and other modules are
 -- numbered from 1 on
-abbrev pub frame_end : List ℕ → List (List ℕ) → Item
-frame_end stem modules = record {
+abbrev pub frame_end : List ℕ → List (List ℕ) → Bool → Item
+frame_end stem modules strings = record {
   role = Fixed;
-  words = words_in deno.FRAME_MODULES.now ++ (modules_words 0 (own_path stem ∷ modules) ++ words_in deno.FRAME_END.now);
+  words =
+      words_in deno.FRAME_MODULES.now
+      ++ (modules_words 0 (own_path stem ∷ modules) ++ (string_constants strings ++ words_in deno.FRAME_END.now));
 }
 
 -- ---- loading
@@ -62,9 +75,14 @@ abbrev pub start_call : Bool → List Word
 start_call true = words_in deno.START_CALL.now
 start_call false = []
 
+-- the words of loading, where the module imports string constants or not
+abbrev pub loading_words : List ℕ → Bool → List Word
+loading_words stem true = fixed_words stem deno.LOADING_STRINGS.now
+loading_words stem false = fixed_words stem deno.LOADING.now
+
 -- loading, and behind it that call
-abbrev pub loading_item : List ℕ → Bool → Item
-loading_item stem starts = record { role = Loading; words = fixed_words stem deno.LOADING.now ++ start_call starts }
+abbrev pub loading_item : List ℕ → (strings starts : Bool) → Item
+loading_item stem strings starts = record { role = Loading; words = loading_words stem strings ++ start_call starts }
 
 -- ---- the texts of each target
 
@@ -77,12 +95,22 @@ pub record FixedText : Type 0 where
 abbrev pub plain_text : Item → FixedText
 plain_text item = record { words = item.words; assigns = [] }
 
--- the texts of the frame on a target, where imports come from these modules too
-abbrev pub frame_texts : Target → List ℕ → List (List ℕ) → List FixedText
-frame_texts target.Deno stem modules = plain_text (frame_start stem) ∷ plain_text (frame_end stem modules) ∷ []
-frame_texts t stem modules = []
+-- what a frame and loading depend on, beside the names of files
+pub record Frame : Type 0 where
+  -- the first memory is imported
+  pub memory : Bool
+  -- imports come from these modules too, beside the one whose members the frame holds
+  pub modules : List (List ℕ)
+  -- the module imports string constants
+  pub strings : Bool
+
+-- the texts of the frame on a target
+abbrev pub frame_texts : Target → List ℕ → Frame → List FixedText
+frame_texts target.Deno stem frame =
+    plain_text (frame_start stem frame.memory) ∷ plain_text (frame_end stem frame.modules frame.strings) ∷ []
+frame_texts t stem frame = []
 
 -- the texts of loading on a target, for whether the module has a start function
-abbrev pub loading_texts : Target → List ℕ → Bool → List FixedText
-loading_texts target.Deno stem starts = plain_text (loading_item stem starts) ∷ []
-loading_texts t stem starts = []
+abbrev pub loading_texts : Target → List ℕ → Frame → Bool → List FixedText
+loading_texts target.Deno stem frame starts = plain_text (loading_item stem frame.strings starts) ∷ []
+loading_texts t stem frame starts = []

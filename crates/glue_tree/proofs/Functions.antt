@@ -157,6 +157,17 @@ apart_both : (xs ys : List Word) → begins_apart xs ≡ true → begins_apart y
 apart_both [] ys h k = k
 apart_both (x ∷ xs) ys h k = h
 
+-- words that are as their kinds say and stand before what follows them, that begin apart from what is before them and end with a gap
+pub words_alone : (words : List Word) → list_all is_right words ≡ true → each_next spaced words None ≡ true → begins_apart words ≡ true → ends_in_gap words ≡ true
+    → StandAlone words
+words_alone words right stand apart ends =
+    let parts = all_parts is_sound is_single words right in
+    alone_by_kind words parts.0 (next_parts words None stand).0 apart (singles_stand false words parts.1) ends (singles_open false words parts.1)
+
+-- and take exports by their names
+pub words_named : (words : List Word) → each_next spaced words None ≡ true → each_next is_named_access words None ≡ true
+words_named words stand = (next_parts words None stand).1
+
 -- words around a function
 pub record IsFrame (front back : List Word) : Type 0 where
   pub right : (list_all is_right front ≡ true) × (list_all is_right back ≡ true)
@@ -181,16 +192,11 @@ module _ {front back : List Word} (frame : IsFrame front back) (params : List (L
 
   pub item_alone : StandAlone (item_words front back params body)
   item_alone =
-      let words = item_words front back params body in
-      let right = all_parts is_sound is_single words item_right in
-      alone_by_kind words right.0 (next_parts words None item_spaced).0
-      (apart_both front (function_words params body ++ back) frame.apart refl)
-      (singles_stand false words right.1)
+      words_alone (item_words front back params body) item_right item_spaced (apart_both front (function_words params body ++ back) frame.apart refl)
       (ends_in_gap-append front (function_words params body ++ back) (ends_in_gap-append (function_words params body) back frame.ends))
-      (singles_open false words right.1)
 
   pub item_named : each_next is_named_access (item_words front back params body) None ≡ true
-  item_named = (next_parts (item_words front back params body) None item_spaced).1
+  item_named = words_named (item_words front back params body) item_spaced
 
   -- no word of the function is `export`
   pub function_inner : list_all is_inner (function_words params body) ≡ true

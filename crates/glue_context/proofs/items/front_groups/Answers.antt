@@ -1,3 +1,4 @@
+use Rattle.glue_context.proofs.Common.{frame_by}
 use Rattle.glue_context.proofs.Lists.{groups_made, seven_put}
 use Rattle.glue_context.proofs.items.front_groups.Goals as goal
 
@@ -18,16 +19,16 @@ returns g c =
         declared = c.in_ok-declares.ensures.items;
         defines = defines;
         defined = c.in_ok-defines.ensures.items;
-        numbered = c.in_ok-foreign.ensures.few;
-        are = groups_made c.args.basis.now.settings.now.stem c.args.modules.now c.args.called.now _ lines foreign constants declares started defines ended
+        numbered = rw c.as_slice.ensures at c.in_ok-foreign.ensures.few;
+        are = groups_made c.args.basis.now.settings.now.stem (frame_by c.args.frame.now) c.args.called.now _ lines foreign constants declares started defines ended
             c.in_ok-start.start c.in_ok-end.end
             (seven_put lines foreign constants declares started defines ended c.new-groups.ensures c.in_ok-push.ensures.ok c.in_ok-push-2.ensures.ok
             c.in_ok-push-3.ensures.ok c.in_ok-push-4.ensures.ok c.in_ok-push-5.ensures.ok c.in_ok-push-6.ensures.ok c.in_ok-push-7.ensures.ok)
-            c.in_ok-foreign.ensures.lines
+            (rw c.as_slice.ensures at c.in_ok-foreign.ensures.lines)
             c.in_ok-constants.ensures.constants
             c.in_ok-start_group.ensures.items
             c.in_ok-start.ensures.item
             c.in_ok-end_group.ensures.items
-            c.in_ok-end.ensures.item;
+            (rw c.as_slice-2.ensures at c.in_ok-end.ensures.item);
       };
     }

@@ -1,4 +1,4 @@
-use Rattle.std.proofs.Common.{ℕ, List, ◌+◌, ◌++◌, drop, ap, sym, ◌∙◌, append_assoc}
+use Rattle.std.proofs.Common.{List, ◌+◌, ◌++◌, drop, ap, sym, ◌∙◌, append_assoc}
 use Rattle.glue_words.specs.declared.word.Word.{Word}
 use Rattle.glue_targets.specs.Targets.{module_words, modules_words}
 use Rattle.glue_targets.proofs.FrameEnd.{modules_next}

@@ -1,6 +1,6 @@
 use Rattle.std.proofs.Common.{◌≡◌, ◌≤◌, ◌+◌, length}
 use Rattle.glue_shared.specs.Names.{plain_call}
-use Rattle.glue_shared.proofs.own.plain_call.Given as goal
+use Rattle.glue_shared.proofs.direct.plain_call.Given as goal
 
 abbrev pub invariant-steps : goal.invariant-steps
 invariant-steps l = record {
