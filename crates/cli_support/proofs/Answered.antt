@@ -15,7 +15,6 @@ use Rattle.glue_check.specs.FaultKinds.{is_of_check}
 use Rattle.glue_check.specs.declared.verdict.Checked.{Checked}
 use Rattle.glue_check.proofs.FaultKinds.{first_kind}
 use Rattle.glue_context.specs.Edits.{has_start}
-use Rattle.glue_context.specs.Items.{frame_of}
 use Rattle.glue_context.specs.Keys.{described_keys}
 use Rattle.glue_context.specs.Linked.{IsLinked}
 use Rattle.glue_context.specs.Defined.{IsDefined}
@@ -50,7 +49,7 @@ made_of checked s hosts keys items written missing o of_settings of_hosts of_key
       glue = g;
       js = refl;
       «module» = w;
-      linked = subst (λ (m : Contents). IsLinked own (host_names own l.aux) (described_keys l.aux) (frame_of own l) m items (has_start l.«module»)) (sym w) k.linked;
+      linked = subst (λ (m : Contents). IsLinked own (host_names own l.aux) (described_keys l.aux) m items (has_start l.«module»)) (sym w) k.linked;
       defined = subst (λ (m : Contents). IsDefined own g.names l m items) (sym w) k.defined;
       published = k.published;
     })

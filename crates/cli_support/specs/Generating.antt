@@ -29,7 +29,7 @@ use Rattle.cli_support.specs.declared.bindgen.Handed.TheVariants as handed
 use Rattle.glue_context.specs.Edits.{has_start}
 use Rattle.glue_shared.specs.declared.name_map.NameMap.{NameMap}
 use Rattle.glue_naming.specs.Naming.{AreNames}
-use Rattle.glue_context.specs.Items.{IsGlue, frame_of}
+use Rattle.glue_context.specs.Items.{IsGlue}
 use Rattle.glue_context.specs.Rewritten.{rewritten}
 use Rattle.glue_context.specs.Linked.{IsLinked}
 use Rattle.glue_context.specs.Defined.{IsDefined}
@@ -222,7 +222,7 @@ pub record IsMadeOf (settings : Settings) (l : Lowered) (o : Made) : Type 0 wher
   pub glue : AreItemsOf settings l o.items
   pub js : o.js ≡ printed o.items
   pub «module» : o.«module» ≡ rewritten settings l
-  pub linked : IsLinked settings (host_names settings l.aux) (described_keys l.aux) (frame_of settings l) o.«module» o.items (has_start l.«module»)
+  pub linked : IsLinked settings (host_names settings l.aux) (described_keys l.aux) o.«module» o.items (has_start l.«module»)
   pub defined : IsDefined settings glue.names l o.«module» o.items
   pub published : IsPublished settings l.aux (fixed_public settings l.«module» l.wit l.aux) o.items
 

@@ -322,3 +322,38 @@ const wasm = wasmInstance.exports;
 fn each_helper_that_is_asked_for_stands_once(rt: HostRuntime) -> Result<(), Fail> {
     assert_file(&rt, rt.alloc(), FIVE_IMPORTS, HELPED, HELPERS)
 }
+
+// A module that imports `e`, which gives an integer.
+const ONE_IMPORT: &[u8] =
+    b"\0asm\x01\0\0\0\x01\x05\x01`\0\x01\x7f\x02\x1e\x01\x18__wbindgen_placeholder__\x01e\0\0";
+
+const INSTANCE: &str = r#"{"version":1,"adapters":[
+{"id":0,"results":["s32"],"code":[["CallAdapter",1],["Int32ToWasm"]]},
+{"id":1,"results":["s32"],"import":"normal"}],
+"implements":[[0,0]],
+"imports":[{"adapter":1,"what":["Intrinsic","Instance"]}]}"#;
+
+// The instance has a name that loading declares.
+const INSTANCE_FILE: &str = r#"function __wbg_get_imports() {
+    const import0 = {
+        __proto__: null,
+        e: function() {
+            const ret = wasmInstance;
+            return ret;
+        },
+    };
+    return {
+        __proto__: null,
+        "./out_bg.js": import0,
+    };
+}
+const wasmUrl = new URL("out_bg.wasm", import.meta.url);
+const wasmInstantiated = await WebAssembly.instantiateStreaming(fetch(wasmUrl), __wbg_get_imports());
+const wasmInstance = wasmInstantiated.instance;
+const wasm = wasmInstance.exports;
+"#;
+
+#[test]
+fn an_import_may_give_the_instance(rt: HostRuntime) -> Result<(), Fail> {
+    assert_file(&rt, rt.alloc(), ONE_IMPORT, INSTANCE, INSTANCE_FILE)
+}

@@ -21,10 +21,9 @@ use Rattle.glue_adapters.specs.Adapters.{code_of}
 use Rattle.glue_check.specs.declared.files.FileFlags.{FileFlags}
 use Rattle.glue_check.specs.declared.verdict.Condition.TheVariants as conditions
 use Rattle.glue_check.specs.Answers.{answer}
-use Rattle.glue_check.specs.Links.{unembedded}
 use Rattle.glue_check.specs.Unbuilt as spec
 use Rattle.glue_imports.specs.Expressions.{has_expression}
-use Rattle.glue_check.specs.Unbuilt.{is_unbuilt_entry, is_unbuilt_export, is_unbuilt_adapter}
+use Rattle.glue_check.specs.Unbuilt.{is_told, is_unbuilt_entry, is_unbuilt_export, is_unbuilt_adapter}
 use Rattle.glue_check.specs.Verdict.{unbuilt}
 use Rattle.glue_check.proofs.Conditions.{none_unbuilt}
 
@@ -92,7 +91,7 @@ settings_built f s l h =
 -- the imports of the module and of the description, and the setting on them
 pub record AreBuiltImports (s : Settings) (l : Lowered) : Type 0 where
   pub kinds : (place : ℕ) → IsIn place (own_imports s l.«module» l.wit l.aux) → spec.is_defined_kind l.«module» (entry_at l.«module».imports place) ≡ true
-  pub expressions : (e : ℕ × AuxImport) → IsIn e l.aux.imports → (has_expression s e.1 || is_some (unembedded s.split_linked_modules e)) ≡ true
+  pub expressions : (e : ℕ × AuxImport) → IsIn e l.aux.imports → (has_expression s e.1 || is_told s e) ≡ true
   pub kept : s.omit_imports ≡ false
 
 pub imports_built : (f : FileFlags) (s : Settings) (l : Lowered) → unbuilt f s l ≡ None → AreBuiltImports s l
@@ -109,7 +108,7 @@ imports_built f s l h =
       kinds = λ place i.
           not_false (spec.is_defined_kind l.«module» (entry_at l.«module».imports place)) (list_any-none (spec.is_other_own l.«module») own place both.0 i);
       expressions = λ e i.
-          not_false (has_expression s e.1 || is_some (unembedded s.split_linked_modules e)) (list_any-none (is_unbuilt_entry s) l.aux.imports e both.1 i);
+          not_false (has_expression s e.1 || is_told s e) (list_any-none (is_unbuilt_entry s) l.aux.imports e both.1 i);
       kept = rest.1;
     }
 

@@ -25,7 +25,8 @@ use Rattle.glue_imports.specs.declared.part.Part.TheVariants as part
 use Rattle.glue_imports.specs.declared.part.Expression.{Expression}
 use Rattle.glue_imports.specs.Roots.{root_name, root_of, root}
 use Rattle.glue_imports.specs.Preludes.{line_end, catch_front, result_is, close_line, plain, instance_of, cast, linked, present}
-use Rattle.glue_imports.specs.Expressions.{around, assigned, index, new_front, delete_front, accessor_front, owner, described_call, accessor, value_parts, static_parts, parts_of, intrinsic_expression, expression}
+use Rattle.glue_imports.specs.Expressions.{around, assigned, index, new_front, delete_front, accessor_front, owner, described_call, accessor, value_parts, static_parts, parts_of, loaded, intrinsic_expression, expression}
+use Rattle.glue_imports.specs.Intrinsics.{declares_instance, declares_module, name_if}
 use Rattle.glue_adapters.specs.Called.{intrinsic_count, argument_count, is_count, may_spread, fewest, fits_count}
 
 -- how many operands there have to be for one that a part names
@@ -97,15 +98,22 @@ fields_within (field ∷ fields) first second third =
 
 -- ---- each kind
 
-intrinsic_suffices : (externref bound : Bool) (name : Intrinsic)
-    → suffices (intrinsic_count name) (asked_if (intrinsic_expression externref bound name)) ≡ true
-intrinsic_suffices externref true i.ObjectCloneRef = refl
-intrinsic_suffices externref true i.ObjectDropRef = refl
-intrinsic_suffices externref false i.ObjectCloneRef = refl
-intrinsic_suffices externref false i.ObjectDropRef = refl
-intrinsic_suffices true bound i.ExternrefHeapLiveCount = refl
-intrinsic_suffices false bound i.ExternrefHeapLiveCount = refl
-intrinsic_suffices externref bound other = refl
+-- a name that loading declares asks for none
+loaded_suffices : (declared : Bool) (name : List ℕ) → suffices (Some 0) (asked_if (option_map loaded (name_if declared name))) ≡ true
+loaded_suffices true name = refl
+loaded_suffices false name = refl
+
+intrinsic_suffices : (target : Target) (externref bound : Bool) (name : Intrinsic)
+    → suffices (intrinsic_count name) (asked_if (intrinsic_expression target externref bound name)) ≡ true
+intrinsic_suffices target externref true i.ObjectCloneRef = refl
+intrinsic_suffices target externref true i.ObjectDropRef = refl
+intrinsic_suffices target externref false i.ObjectCloneRef = refl
+intrinsic_suffices target externref false i.ObjectDropRef = refl
+intrinsic_suffices target true bound i.ExternrefHeapLiveCount = refl
+intrinsic_suffices target false bound i.ExternrefHeapLiveCount = refl
+intrinsic_suffices target externref bound i.Instance = loaded_suffices (declares_instance target) (codes "wasmInstance")
+intrinsic_suffices target externref bound i.Module = loaded_suffices (declares_module target) (codes "wasmModule")
+intrinsic_suffices target externref bound other = refl
 
 accessor_suffices : (m : NameMap) (js : JsImport) (of_instances : Bool) (field which : List ℕ) (spread : Bool)
     → suffices None (operands_asked (accessor m js of_instances (described_call field which spread))) ≡ true
@@ -197,7 +205,8 @@ asked_given s m call spread bound (what.Cast comment) count h few = given (Some 
 asked_given s m call spread bound (what.LinkTo path content) count h few =
     given (Some 0) _ count (link_suffices s.split_linked_modules s.target path content) h
 asked_given s m call spread bound (what.Intrinsic name) count h few =
-    given (intrinsic_count name) (asked_if (intrinsic_expression s.externref bound name)) count (intrinsic_suffices s.externref bound name) h
+    given (intrinsic_count name) (asked_if (intrinsic_expression s.target s.externref bound name)) count
+    (intrinsic_suffices s.target s.externref bound name) h
 asked_given s m call spread bound other count h few = plain_given m call spread other count h few
 
 -- so each operand that its text names is there

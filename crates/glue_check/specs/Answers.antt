@@ -12,6 +12,7 @@ use Rattle.glue_check.specs.Links.{link_not_embedded}
 use Rattle.glue_check.specs.Modules.{module_clash}
 use Rattle.glue_check.specs.Naming.{bad_name, global_twice, name_clash}
 use Rattle.glue_check.specs.Publishing.{export_clash, fixed_export}
+use Rattle.glue_check.specs.TargetValues.{intrinsic_target}
 use Rattle.glue_check.specs.Unbuilt.{unbuilt_target, unbuilt_imports, unbuilt_exports, unbuilt_instructions, unbuilt_classes, unbuilt_settings, unbuilt_lifecycle, unbuilt_files}
 use Rattle.glue_check.specs.Verdict.{threads, package_json}
 
@@ -36,4 +37,5 @@ answer files settings l conditions.NameClash = name_clash settings l
 answer files settings l conditions.ModuleClash = module_clash settings l
 answer files settings l conditions.ExportClash = export_clash l.aux
 answer files settings l conditions.FixedExport = fixed_export settings l
+answer files settings l conditions.IntrinsicTarget = intrinsic_target settings l
 answer files settings l conditions.LinkNotEmbedded = link_not_embedded settings l

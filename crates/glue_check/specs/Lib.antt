@@ -6,5 +6,6 @@ pub mod Modules
 pub mod Naming
 pub mod Publishing
 pub mod Taken
+pub mod TargetValues
 pub mod Unbuilt
 pub mod Verdict

@@ -29,6 +29,7 @@ use Rattle.glue_faults.specs.First.{where_true}
 use Rattle.glue_adapters.specs.Adapters.{code_of}
 use Rattle.glue_check.specs.declared.files.FileFlags.{FileFlags}
 use Rattle.glue_check.specs.Links.{unembedded}
+use Rattle.glue_check.specs.TargetValues.{is_absent}
 
 -- ---- targets
 
@@ -74,9 +75,14 @@ is_defined_kind m (Some i) = is_function i.kind || is_plain_memory (memory_of m 
 abbrev pub is_other_own : Contents → ℕ → Bool
 is_other_own m place = not (is_defined_kind m (entry_at m.imports place))
 
--- an import without an expression. A link without content, where linked modules aren't split off, has none, and a condition tells of it
+-- Conditions tell of an import without an expression: a link without content, where linked modules aren't split off, or an intrinsic
+-- that the target has no value for.
+abbrev pub is_told : Settings → ℕ × AuxImport → Bool
+is_told settings entry = is_some (unembedded settings.split_linked_modules entry) || is_absent settings.target entry
+
+-- any other import without an expression
 unfoldable pub is_unbuilt_entry : Settings → ℕ × AuxImport → Bool
-is_unbuilt_entry settings entry = not (has_expression settings entry.1 || is_some (unembedded settings.split_linked_modules entry))
+is_unbuilt_entry settings entry = not (has_expression settings entry.1 || is_told settings entry)
 
 -- imports that the glue file defines and that bring in another thing, imports of another form, or a setting that changes imports
 abbrev pub unbuilt_imports : Settings → Lowered → Option Fault

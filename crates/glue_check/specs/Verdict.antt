@@ -17,6 +17,7 @@ use Rattle.glue_check.specs.Links.{link_not_embedded}
 use Rattle.glue_check.specs.Modules.{module_clash}
 use Rattle.glue_check.specs.Naming.{bad_name, global_twice, name_clash}
 use Rattle.glue_check.specs.Publishing.{export_clash, fixed_export}
+use Rattle.glue_check.specs.TargetValues.{intrinsic_target}
 use Rattle.glue_check.specs.Unbuilt.{unbuilt_target, unbuilt_imports, unbuilt_exports, unbuilt_instructions, unbuilt_classes, unbuilt_settings, unbuilt_lifecycle, unbuilt_files}
 
 -- a memory that threads share
@@ -46,6 +47,7 @@ verdict settings l = first_some (
     ∷ module_clash settings l
     ∷ export_clash l.aux
     ∷ fixed_export settings l
+    ∷ intrinsic_target settings l
     ∷ link_not_embedded settings l
     ∷ [])
 

@@ -11,6 +11,7 @@ ghost use Rattle.glue_check.specs.Unbuilt as spec;
 use crate::files::FileFlags;
 use crate::links::unembedded;
 use crate::own::{import_at, own_ids};
+use crate::target_values::is_absent;
 use glue_faults::{Fault, not_built};
 use glue_imports::has_expression;
 use glue_shared::{
@@ -99,13 +100,19 @@ fn is_other_own(module: &Module, place: ImportId) -> bool
     !is_defined_kind(module, import_at(module.imports(), place))
 }
 
-// Whether an import has no expression that is built; of a link without content a condition tells.
+// Whether a condition tells of an import.
+fn is_told(settings: &Settings, entry: &(AdapterId, AuxImport)) -> bool
+    ensures test { result ≡ spec.is_told settings.now entry.now }
+{
+    unembedded(settings.split_linked_modules, entry).is_some() || is_absent(&settings.target, entry)
+}
+
+// Whether an import has no expression that is built, and no condition tells of it.
 #[tactic(auto, unfolding(crate::specs::Unbuilt::is_unbuilt_entry))]
 fn is_unbuilt_entry(settings: &Settings, entry: &(AdapterId, AuxImport)) -> bool
     ensures test { result ≡ spec.is_unbuilt_entry settings.now entry.now }
 {
-    !(has_expression(settings, &entry.1)
-        || unembedded(settings.split_linked_modules, entry).is_some())
+    !(has_expression(settings, &entry.1) || is_told(settings, entry))
 }
 
 // Whether one of these imports brings in another thing.

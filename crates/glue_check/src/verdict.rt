@@ -11,6 +11,7 @@ use crate::links::link_not_embedded;
 use crate::modules::module_clash;
 use crate::naming::{bad_name, global_twice, name_clash};
 use crate::publishing::{export_clash, fixed_export};
+use crate::target_values::intrinsic_target;
 use crate::unbuilt::{
     unbuilt_classes, unbuilt_exports, unbuilt_files, unbuilt_imports, unbuilt_instructions,
     unbuilt_lifecycle, unbuilt_settings, unbuilt_target,
@@ -44,6 +45,7 @@ enum Condition {
     ModuleClash,
     ExportClash,
     FixedExport,
+    IntrinsicTarget,
     LinkNotEmbedded,
 }
 
@@ -60,7 +62,7 @@ const UNBUILT: [Condition; 8] = [
 ];
 
 /// The conditions in their order: the first that gives a fault decides.
-const CONDITIONS: [Condition; 12] = [
+const CONDITIONS: [Condition; 13] = [
     Condition::Threads,
     Condition::PackageJson,
     Condition::UnsupportedInstr,
@@ -72,6 +74,7 @@ const CONDITIONS: [Condition; 12] = [
     Condition::ModuleClash,
     Condition::ExportClash,
     Condition::FixedExport,
+    Condition::IntrinsicTarget,
     Condition::LinkNotEmbedded,
 ];
 
@@ -141,6 +144,7 @@ fn answer(
         Condition::ModuleClash => module_clash(alloc, settings, lowered),
         Condition::ExportClash => export_clash(alloc, aux),
         Condition::FixedExport => fixed_export(alloc, settings, lowered),
+        Condition::IntrinsicTarget => Ok(intrinsic_target(settings, lowered)),
         Condition::LinkNotEmbedded => link_not_embedded(alloc, settings, lowered),
     }
 }

@@ -3,14 +3,14 @@
 use crate::checking::{Asked, asked_settings, fault_text};
 use crate::compare::assert_case;
 use crate::described::{Edit, edited_lowered};
-use crate::edits::{LOGGING, NO_CODE, NO_PAIR, SECOND_PAIR};
+use crate::edits::{CALL_MORE, INSTANCE, LOGGING, MODULE, NO_CODE, NO_PAIR, SECOND_PAIR};
 use crate::modules::{
     ADD, FOREIGN_AND_OWN, FOREIGN_MEMORY, FOREIGN_PROTO, FROM_GLUE_FILE, FROM_PROTO, FROM_STRINGS,
     TWO_IMPORTS, WITH_FOREIGN, WITH_MANY_EXPORTS, WITH_MEMORY_IMPORT, WITH_OTHER_TAG,
     WITH_TABLE_IMPORT, WITH_TAG_IMPORT,
 };
 use glue_adapters::{bad_adapter, unbound_import};
-use glue_check::{Fault, bad_name, fixed_export, module_clash, name_clash};
+use glue_check::{Fault, bad_name, fixed_export, intrinsic_target, module_clash, name_clash};
 use glue_lower::LowerFault;
 use glue_shared::{Lowered, Settings};
 use std::alloc::{AllocError, Global};
@@ -25,6 +25,7 @@ enum Call {
     NameClash,
     ModuleClash,
     FixedExport,
+    IntrinsicTarget,
 }
 
 /// What is asked for, a module, what is replaced in the description of `add` and `log`, and the fault: nothing without one.
@@ -59,6 +60,7 @@ fn answer(
         Call::NameClash => name_clash(alloc, settings, lowered),
         Call::ModuleClash => module_clash(alloc, settings, lowered),
         Call::FixedExport => fixed_export(alloc, settings, lowered),
+        Call::IntrinsicTarget => Ok(intrinsic_target(settings, lowered)),
     }
 }
 
@@ -309,6 +311,47 @@ const MODULES: &[Case] = &[
     ),
 ];
 
+/// The module and its instance, on each target.
+const TARGET_VALUES: &[Case] = &[
+    (&[], ADD, &[], ""),
+    (
+        &[Asked::Bundler],
+        ADD,
+        &[CALL_MORE, MODULE],
+        "IntrinsicTarget",
+    ),
+    (
+        &[Asked::Bundler],
+        ADD,
+        &[CALL_MORE, INSTANCE],
+        "IntrinsicTarget",
+    ),
+    (&[Asked::Web], ADD, &[CALL_MORE, MODULE], ""),
+    (&[Asked::Web], ADD, &[CALL_MORE, INSTANCE], ""),
+    (&[Asked::NoModules], ADD, &[CALL_MORE, MODULE], ""),
+    (&[Asked::NoModules], ADD, &[CALL_MORE, INSTANCE], ""),
+    (&[Asked::Node], ADD, &[CALL_MORE, MODULE], ""),
+    (&[Asked::Node], ADD, &[CALL_MORE, INSTANCE], ""),
+    (&[Asked::NodeModule], ADD, &[CALL_MORE, MODULE], ""),
+    (&[Asked::NodeModule], ADD, &[CALL_MORE, INSTANCE], ""),
+    (&[], ADD, &[CALL_MORE, MODULE], "IntrinsicTarget"),
+    (&[], ADD, &[CALL_MORE, INSTANCE], ""),
+    (&[Asked::Module], ADD, &[CALL_MORE, MODULE], ""),
+    (&[Asked::Module], ADD, &[CALL_MORE, INSTANCE], ""),
+    (
+        &[Asked::Emscripten],
+        ADD,
+        &[CALL_MORE, MODULE],
+        "IntrinsicTarget",
+    ),
+    (
+        &[Asked::Emscripten],
+        ADD,
+        &[CALL_MORE, INSTANCE],
+        "IntrinsicTarget",
+    ),
+];
+
 const CONDITIONS: &[Condition] = &[
     (Call::BadAdapter, ACCESSORS),
     (Call::UnboundImport, UNBOUND),
@@ -333,6 +376,22 @@ fn assert_condition<H: Abort>(
 fn each_call_gives_its_fault(rt: HostRuntime) -> Result<(), LowerFault> {
     for condition in CONDITIONS {
         assert_condition(&rt, rt.alloc(), condition)?;
+    }
+    Ok(())
+}
+
+#[test]
+fn each_target_has_its_values(rt: HostRuntime) -> Result<(), LowerFault> {
+    for (asked, module, edits, want) in TARGET_VALUES {
+        assert_call(
+            &rt,
+            rt.alloc(),
+            Call::IntrinsicTarget,
+            asked,
+            module,
+            edits,
+            want,
+        )?;
     }
     Ok(())
 }

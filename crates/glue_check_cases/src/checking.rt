@@ -16,6 +16,7 @@ pub enum Asked {
     Web,
     NoModules,
     Node,
+    NodeModule,
     Module,
     Emscripten,
     Debug,
@@ -50,6 +51,7 @@ fn ask_target(settings: &mut Settings, asked: Asked) {
         }
         Asked::Web => settings.target = Target::Web,
         Asked::Node => settings.target = Target::Node { module: false },
+        Asked::NodeModule => settings.target = Target::Node { module: true },
         Asked::Module => settings.target = Target::Module,
         Asked::Emscripten => settings.target = Target::Emscripten,
         _ => {}

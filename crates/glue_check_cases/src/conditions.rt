@@ -3,8 +3,9 @@ use crate::checking::{Case, Group, Place, assert_cases, assert_groups, fault_tol
 use crate::compare::assert_told;
 use crate::described::{Edit, edited_lowered};
 use crate::edits::{
-    ADD_IMPORT, ADDING, BARE_LINK, CALL_MORE, CALLING_NOTHING, LOGGING, NO_CODE, NO_PAIR, PACKAGE,
-    PROTO_NAME, SAME_PAIR, SECOND_ADD, SECOND_LAST, SECOND_PAIR, SUB, SUM, UNSUPPORTED,
+    ADD_IMPORT, ADDING, BARE_LINK, CALL_MORE, CALLING_NOTHING, INSTANCE, LOGGING, MODULE, NO_CODE,
+    NO_PAIR, PACKAGE, PROTO_NAME, SAME_PAIR, SECOND_ADD, SECOND_LAST, SECOND_PAIR, SUB, SUM,
+    UNSUPPORTED,
 };
 use crate::modules::{
     ADD, EXPORTED_TWICE, IMPORTED_TWICE, LOG_MEMORY, PROTO_MEMORY, TWO_IMPORTS, WITH_EXTERN,
@@ -372,6 +373,12 @@ const NAMES: &[Case] = &[
     (ADD, &[ADDING, SECOND_ADD], "ExportClash add"),
 ];
 
+/// Values that loading declares on this target, and on others alone.
+const TARGET_VALUES: &[Case] = &[
+    (ADD, &[CALL_MORE, INSTANCE], ""),
+    (ADD, &[CALL_MORE, MODULE], "IntrinsicTarget"),
+];
+
 /// Links: with and without content, and two without.
 const LINKS: &[Case] = &[
     (ADD, &[CALL_MORE, FULL_LINK], ""),
@@ -388,6 +395,11 @@ fn each_condition_on_adapters_has_its_fault(rt: HostRuntime) -> Result<(), Alloc
 #[test]
 fn each_condition_on_names_has_its_fault(rt: HostRuntime) -> Result<(), AllocError> {
     assert_cases(&rt, rt.alloc(), NAMES)
+}
+
+#[test]
+fn values_that_the_target_lacks_are_told(rt: HostRuntime) -> Result<(), AllocError> {
+    assert_cases(&rt, rt.alloc(), TARGET_VALUES)
 }
 
 #[test]

@@ -52,6 +52,20 @@ pub const CALL_MORE: Edit = (
 {"id":9,"import":"normal"}"#,
 );
 
+/// It is the module's instance.
+pub const INSTANCE: Edit = (
+    r#""fields":["log"]}]}"#,
+    r#""fields":["log"]}]},
+{"adapter":9,"what":["Intrinsic","Instance"]}"#,
+);
+
+/// It is the module itself.
+pub const MODULE: Edit = (
+    r#""fields":["log"]}]}"#,
+    r#""fields":["log"]}]},
+{"adapter":9,"what":["Intrinsic","Module"]}"#,
+);
+
 /// It is a link to a file without content.
 pub const BARE_LINK: Edit = (
     r#""fields":["log"]}]}"#,

@@ -4,7 +4,7 @@ use crate::checking::{Asked, AskedCase, Case, assert_asked, assert_cases};
 use crate::described::Edit;
 use crate::edits::{
     ADD_IMPORT, ADDING, BARE_LINK, CALL_MORE, CALLING_NOTHING, GLOBAL_WASM, IN_NAMESPACE, LOGGING,
-    NO_CODE, NO_PAIR, ONE_NAME, PACKAGE, PROTO_NAME, SAME_PAIR, SECOND_ADD, SECOND_LAST,
+    MODULE, NO_CODE, NO_PAIR, ONE_NAME, PACKAGE, PROTO_NAME, SAME_PAIR, SECOND_ADD, SECOND_LAST,
     SECOND_PAIR, SUM, TRUTH, UNSUPPORTED,
 };
 use crate::modules::{
@@ -18,6 +18,13 @@ const SNIPPET: Edit = (r#""version":1"#, r#""version":1,"snippets":{"a":[]}"#);
 
 /// A class.
 const CLASS: Edit = (r#""version":1"#, r#""version":1,"structs":[{"name":"C"}]"#);
+
+/// The import adapter more is a link without content, and one after it the module itself.
+const LINK_AND_MODULE: Edit = (
+    r#""fields":["log"]}]}"#,
+    r#""fields":["log"]}]},
+{"adapter":9,"what":["LinkTo","a.js",null]},{"adapter":9,"what":["Intrinsic","Module"]}"#,
+);
 
 /// The module is to be made anew.
 const REINIT: Edit = (r#""version":1"#, r#""version":1,"uses_reinit":true"#);
@@ -60,10 +67,11 @@ const PAIRS: &[AskedCase] = &[
         &[],
         (
             ADD,
-            &[ADDING, SECOND_ADD, CALL_MORE, BARE_LINK],
+            &[ADDING, SECOND_ADD, CALL_MORE, MODULE],
             "ExportClash add",
         ),
     ),
+    (&[], (ADD, &[CALL_MORE, LINK_AND_MODULE], "IntrinsicTarget")),
     // The first and the last.
     (&[Asked::Web, Asked::Debug], (ADD, &[], "NotBuilt target")),
     (

@@ -263,6 +263,9 @@ const GROUPS: &[Group] = &[
             r#"["IndexingDeleterOfObject"]"#,
             r#"["Intrinsic","Add"]"#,
             r#"["Intrinsic","Exports"]"#,
+            r#"["Intrinsic","Instance"]"#,
+            // It comes before the condition on targets too.
+            r#"["Intrinsic","Module"]"#,
         ],
     ),
     // The export is called like a name that the description takes from outside.
@@ -284,9 +287,7 @@ const GROUPS: &[Group] = &[
             r#"["UnwrapExportedClass","C"]"#,
             r#"["Intrinsic","FunctionTable"]"#,
             r#"["Intrinsic","InitExternrefTable"]"#,
-            r#"["Intrinsic","Instance"]"#,
             r#"["Intrinsic","Memory"]"#,
-            r#"["Intrinsic","Module"]"#,
             r#"["Intrinsic","StringFromUtf8Lossy"]"#,
         ],
     ),

@@ -1,6 +1,6 @@
 -- What the items that define own imports hold and declare, and that each belongs into the file.
 use Rattle.glue_context.proofs.Common.{◌≡◌, ℕ, inl, inr, List, [], ◌∷◌, ◌++◌, map, flat_map, Bool, true, false, refl, sym, ap, ◌∙◌, subst, arith, rules, append-nil, codes, filter_map, filter_map-append, true≢false, list_all, list_any, Option, Some, None, is_some, IsIn, AreAmong, HOSTS, Item, Belongs, Context, IsFrame, bound_name, bound_in, used_in, hosted_in, wasm_in, spliced_in, is_export_key, is_exported, Contents, AuxImport, Settings, NameMap, Lowered, host_names, own_imports, HasSteps, IsDefineItem, js_import, names_of, entry_at}
-use Rattle.std.specs.Prelude.{◌&&◌, ◌||◌, cond, not}
+use Rattle.std.specs.Prelude.{◌&&◌, cond, not}
 use Rattle.std.proofs.lemmas.Bool.{and_parts}
 use Rattle.std.proofs.lemmas.List.Folds.{list_all-append, list_any-append}
 use Rattle.wasm_core.specs.ids.ImportId.{ImportId}
@@ -44,6 +44,7 @@ use Rattle.glue_context.specs.DefinedItems.{IsAdapterItem, IsDefinedBy, IsFuncti
 use Rattle.glue_context.specs.Rewritten.{rewritten}
 use Rattle.glue_context.proofs.Declared.{all_found}
 use Rattle.glue_context.proofs.Edited.{moved_keeps}
+use Rattle.glue_context.proofs.Entries.{any_there}
 use Rattle.glue_context.proofs.ExpressionFits.{IsWell, function_fit}
 use Rattle.glue_context.proofs.ExpressionNames.{HasImport, function_has}
 use Rattle.glue_context.proofs.Fits.{AreWell, HasBasis, HasNames, fixed_hosts, function_binds, function_fits, function_inner, has_parts, inner_words, keys_described, names_with}
@@ -281,15 +282,6 @@ module _ (s : Settings) (m : NameMap) (l : Lowered) where
   defines : (name : List ℕ) → IsFrame (definition_front name) definition_back
   unfolding joins punct_text
   defines name = record { right = (refl, refl); before = refl; behind = refl; after = refl; apart = refl; ends = refl }
-
-  any_there : (test : ℕ → Bool) (ns : List ℕ) (n : ℕ) → IsIn n ns → test n ≡ true → list_any test ns ≡ true
-  any_there test [] n i h = absurd i
-  any_there test (k ∷ ns) n (inl same) h = rw (ap test (sym same) ∙ h) refl
-  any_there test (k ∷ ns) n (inr i) h = by (test k) (any_there test ns n i h)
-    where
-      by : (b : Bool) → list_any test ns ≡ true → (b || list_any test ns) ≡ true
-      by true q = refl
-      by false q = q
 
   web_known : IsIn (codes "WebAssembly") (host_names s l.aux)
   unfolding host_names

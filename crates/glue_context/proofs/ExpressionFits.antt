@@ -30,7 +30,8 @@ use Rattle.glue_imports.specs.declared.part.Expression.{Expression}
 use Rattle.glue_imports.specs.Definitions.{typeof_front, if_function, else_not_defined, function_or_throw}
 use Rattle.glue_imports.specs.Roots.{drawn_name, root_name, root_of, root}
 use Rattle.glue_imports.specs.Preludes.{plain, line_end, catch_front, close_line, result_is, instance_of, cast, linked, present}
-use Rattle.glue_imports.specs.Expressions.{around, assigned, index, new_front, delete_front, accessor_front, owner, described_call, accessor, value_parts, static_parts, intrinsic_expression, expression}
+use Rattle.glue_imports.specs.Expressions.{around, assigned, index, new_front, delete_front, accessor_front, owner, described_call, accessor, value_parts, static_parts, loaded, intrinsic_expression, expression}
+use Rattle.glue_imports.specs.Intrinsics.{declares_instance, declares_module, name_if}
 use Rattle.glue_tree.specs.FixedWords.{semicolon, comma}
 use Rattle.glue_binding.proofs.Parts.{bound_places}
 use Rattle.glue_binding.proofs.Standing.{parts_fit, expression_fits}
@@ -282,26 +283,36 @@ instance_fit m j n = by j.name (n j.name (inl refl))
 
 -- ---- intrinsics, links and casts
 
-intrinsic_fit : (externref bound : Bool) (name : Intrinsic) → fit_if (intrinsic_expression externref bound name) ≡ true
+-- a name that loading declares
+loaded_fit : (declared : Bool) (name : List ℕ) → is_ident name ≡ true → fit_if (option_map loaded (name_if declared name)) ≡ true
 unfolding joins punct_text
-intrinsic_fit externref true i.ObjectCloneRef = refl
-intrinsic_fit externref true i.ObjectDropRef = refl
-intrinsic_fit externref false i.ObjectCloneRef = refl
-intrinsic_fit externref false i.ObjectDropRef = refl
-intrinsic_fit externref bound i.IsUndefined = rw undefined_ident refl
-intrinsic_fit externref bound i.Reinit = rw undefined_ident refl
-intrinsic_fit externref bound i.Throw = rw (ascii_ident (codes "Error") refl) refl
-intrinsic_fit externref bound i.CopyToTypedArray = rw (ascii_ident (codes "Uint8Array") refl) refl
-intrinsic_fit externref bound i.DebugString = rw (ascii_ident (codes "debugString") refl) refl
-intrinsic_fit externref bound i.PanicError = rw (ascii_ident (codes "PanicError") refl) refl
-intrinsic_fit externref bound i.NumberGet = rw undefined_ident refl
-intrinsic_fit externref bound i.StringGet = rw undefined_ident refl
-intrinsic_fit externref bound i.BooleanGet = rw undefined_ident refl
-intrinsic_fit externref bound i.BigIntGetAsI64 = rw undefined_ident refl
-intrinsic_fit externref bound i.CheckedDiv = rw (ascii_ident (codes "RangeError") refl) refl
-intrinsic_fit true bound i.ExternrefHeapLiveCount = refl
-intrinsic_fit false bound i.ExternrefHeapLiveCount = rw (ascii_ident (codes "heap") refl, ascii_ident (codes "heap_next") refl) refl
-intrinsic_fit externref bound other = refl
+loaded_fit true name h = rw h refl
+loaded_fit false name h = refl
+
+intrinsic_fit : (target : Target) (externref bound : Bool) (name : Intrinsic) → fit_if (intrinsic_expression target externref bound name) ≡ true
+unfolding joins punct_text
+intrinsic_fit target externref true i.ObjectCloneRef = refl
+intrinsic_fit target externref true i.ObjectDropRef = refl
+intrinsic_fit target externref false i.ObjectCloneRef = refl
+intrinsic_fit target externref false i.ObjectDropRef = refl
+intrinsic_fit target externref bound i.IsUndefined = rw undefined_ident refl
+intrinsic_fit target externref bound i.Reinit = rw undefined_ident refl
+intrinsic_fit target externref bound i.Throw = rw (ascii_ident (codes "Error") refl) refl
+intrinsic_fit target externref bound i.CopyToTypedArray = rw (ascii_ident (codes "Uint8Array") refl) refl
+intrinsic_fit target externref bound i.DebugString = rw (ascii_ident (codes "debugString") refl) refl
+intrinsic_fit target externref bound i.PanicError = rw (ascii_ident (codes "PanicError") refl) refl
+intrinsic_fit target externref bound i.NumberGet = rw undefined_ident refl
+intrinsic_fit target externref bound i.StringGet = rw undefined_ident refl
+intrinsic_fit target externref bound i.BooleanGet = rw undefined_ident refl
+intrinsic_fit target externref bound i.BigIntGetAsI64 = rw undefined_ident refl
+intrinsic_fit target externref bound i.CheckedDiv = rw (ascii_ident (codes "RangeError") refl) refl
+intrinsic_fit target true bound i.ExternrefHeapLiveCount = refl
+intrinsic_fit target false bound i.ExternrefHeapLiveCount = rw (ascii_ident (codes "heap") refl, ascii_ident (codes "heap_next") refl) refl
+intrinsic_fit target externref bound i.Instance =
+    loaded_fit (declares_instance target) (codes "wasmInstance") (ascii_ident (codes "wasmInstance") refl)
+intrinsic_fit target externref bound i.Module =
+    loaded_fit (declares_module target) (codes "wasmModule") (ascii_ident (codes "wasmModule") refl)
+intrinsic_fit target externref bound other = refl
 
 url_ident : is_ident (codes "URL") ≡ true
 url_ident = ascii_ident (codes "URL") refl
@@ -343,7 +354,7 @@ text_fits s m call spread bound (what.IndexingGetterOfClass j) n = around_fit m 
 text_fits s m call spread bound (what.IndexingSetterOfClass j) n = around_fit m [] j (index 0 ++ assigned 1) n index_set_around
 text_fits s m call spread bound (what.IndexingDeleterOfClass j) n = around_fit m delete_front j (index 0) n delete_around
 text_fits s m call spread bound (what.LinkTo path content) n = link_fit s.split_linked_modules s.target path content
-text_fits s m call spread bound (what.Intrinsic name) n = intrinsic_fit s.externref bound name
+text_fits s m call spread bound (what.Intrinsic name) n = intrinsic_fit s.target s.externref bound name
 text_fits s m call spread bound other n = refl
 
 -- an expression fits whose global is an identifier, and so is its drawn name, which isn't `wasm`

@@ -33,7 +33,8 @@ use Rattle.glue_imports.specs.declared.part.Expression.{Expression}
 use Rattle.glue_imports.specs.Definitions.{typeof_front, if_function, else_not_defined, function_or_throw}
 use Rattle.glue_imports.specs.Roots.{drawn_name, root_name, root_of, root}
 use Rattle.glue_imports.specs.Preludes.{plain, let_line, try_front, line_end, catch_front, close_line, result_is, unless_undefined, instance_of, cast, linked, present}
-use Rattle.glue_imports.specs.Expressions.{around, assigned, index, new_front, delete_front, accessor_front, owner, described_call, value_parts, static_parts, parts_of, intrinsic_expression, expression}
+use Rattle.glue_imports.specs.Expressions.{around, assigned, index, new_front, delete_front, accessor_front, owner, described_call, value_parts, static_parts, parts_of, loaded, intrinsic_expression, expression}
+use Rattle.glue_imports.specs.Intrinsics.{loaded_name}
 use Rattle.helper_table.proofs.Held.{free_names}
 use Rattle.helper_table.specs.Laws.{any_in}
 use Rattle.glue_check.specs.Taken.{brought}
@@ -85,6 +86,16 @@ module _ (c : Context) where
 
   plain_has : (parts : List Part) → AllByRecursion HasPart parts → HasExpression (plain parts)
   plain_has parts h = record { above = tt; value = h }
+
+  -- ---- names that loading declares
+
+  -- a file has those of the values of intrinsics
+  abbrev pub HasLoaded : Target → Type 0
+  HasLoaded target = (value : Intrinsic) (name : List ℕ) → loaded_name target value ≡ Some name → IsIn name c.declared
+
+  loaded_has : (o : Option (List ℕ)) → ((name : List ℕ) → o ≡ Some name → IsIn name c.declared) → HasSome (option_map loaded o)
+  loaded_has None h = tt
+  loaded_has (Some name) h = plain_has (part.Name name ∷ []) (h name refl, tt)
 
   -- ---- parts whose names each file has
 
@@ -221,14 +232,17 @@ module _ (c : Context) where
 
     -- ---- each kind
 
-    intrinsic_known : (externref bound : Bool) (name : Intrinsic) → known_if (intrinsic_expression externref bound name) ≡ true
-    intrinsic_known externref true i.ObjectCloneRef = refl
-    intrinsic_known externref true i.ObjectDropRef = refl
-    intrinsic_known externref false i.ObjectCloneRef = refl
-    intrinsic_known externref false i.ObjectDropRef = refl
-    intrinsic_known true bound i.ExternrefHeapLiveCount = refl
-    intrinsic_known false bound i.ExternrefHeapLiveCount = refl
-    intrinsic_known externref bound other = refl
+    -- an intrinsic is a name that loading declares, or else its parts use what each file has
+    intrinsic_has : (target : Target) → HasLoaded target → (externref bound : Bool) (name : Intrinsic) → HasSome (intrinsic_expression target externref bound name)
+    intrinsic_has target k externref bound i.Instance = loaded_has (loaded_name target i.Instance) (k i.Instance)
+    intrinsic_has target k externref bound i.Module = loaded_has (loaded_name target i.Module) (k i.Module)
+    intrinsic_has target k externref true i.ObjectCloneRef = some_known (intrinsic_expression target externref true i.ObjectCloneRef) refl
+    intrinsic_has target k externref true i.ObjectDropRef = some_known (intrinsic_expression target externref true i.ObjectDropRef) refl
+    intrinsic_has target k externref false i.ObjectCloneRef = some_known (intrinsic_expression target externref false i.ObjectCloneRef) refl
+    intrinsic_has target k externref false i.ObjectDropRef = some_known (intrinsic_expression target externref false i.ObjectDropRef) refl
+    intrinsic_has target k true bound i.ExternrefHeapLiveCount = tt
+    intrinsic_has target k false bound i.ExternrefHeapLiveCount = some_known (intrinsic_expression target false bound i.ExternrefHeapLiveCount) refl
+    intrinsic_has target k externref bound other = some_known (intrinsic_expression target externref bound other) refl
 
     link_known : (split : Bool) (target : Target) (path : List ℕ) (content : Option (List ℕ)) → known_if (linked split target path content) ≡ true
     link_known true (targets.Node true) path content = refl
@@ -263,46 +277,46 @@ module _ (c : Context) where
       around_has m _ h j refl accessor_front _ refl (two_keys m _ h j.fields field h.keys).0 (described_has m _ h false field (codes "set") spread refl)
 
   expression_has_all : (s : Settings) (m : NameMap) (call : AdapterJsImportKind) (spread bound : Bool) (w : AuxImport) → HasImport m w
-      → HasSome (expression s m call spread bound w)
-  expression_has_all s m call spread bound (what.Value value) h = value_has m call spread value h
-  expression_has_all s m call spread bound (what.ValueWithThis j property) h =
+      → HasLoaded s.target → HasSome (expression s m call spread bound w)
+  expression_has_all s m call spread bound (what.Value value) h k = value_has m call spread value h
+  expression_has_all s m call spread bound (what.ValueWithThis j property) h k =
       let keys = two_keys m _ h j.fields property h.keys in
       around_has m _ h j refl [] (part.Property property ∷ part.Arguments spread ∷ []) refl keys.0 (keys.1, (tt, tt))
-  expression_has_all s m call spread bound (what.Instanceof j) h = instance_has m _ h j refl h.keys
-  expression_has_all s m call spread bound (what.Static j optional) h = static_has m _ h j refl optional h.keys
-  expression_has_all s m call spread bound (what.String text) h = plain_has (part.Literal text ∷ []) (tt, tt)
-  expression_has_all s m call spread bound (what.Cast comment) h = some_known m _ h (Some (cast bound comment)) (cast_known m _ h bound comment)
-  expression_has_all s m call spread bound (what.LinkTo path content) h =
+  expression_has_all s m call spread bound (what.Instanceof j) h k = instance_has m _ h j refl h.keys
+  expression_has_all s m call spread bound (what.Static j optional) h k = static_has m _ h j refl optional h.keys
+  expression_has_all s m call spread bound (what.String text) h k = plain_has (part.Literal text ∷ []) (tt, tt)
+  expression_has_all s m call spread bound (what.Cast comment) h k = some_known m _ h (Some (cast bound comment)) (cast_known m _ h bound comment)
+  expression_has_all s m call spread bound (what.LinkTo path content) h k =
       some_known m _ h (linked s.split_linked_modules s.target path content) (link_known m _ h s.split_linked_modules s.target path content)
-  expression_has_all s m call spread bound (what.Intrinsic name) h =
-      some_known m _ h (intrinsic_expression s.externref bound name) (intrinsic_known m _ h s.externref bound name)
-  expression_has_all s m call spread bound (what.StructuralMethod property) h = plain_has _ (tt, (h.keys, (tt, tt)))
-  expression_has_all s m call spread bound (what.StructuralGetter property) h = plain_has _ (tt, (h.keys, tt))
-  expression_has_all s m call spread bound (what.StructuralSetter property) h = plain_has _ (tt, (h.keys, (tt, (tt, (tt, (tt, tt))))))
-  expression_has_all s m call spread bound (what.StructuralClassGetter j property) h =
+  expression_has_all s m call spread bound (what.Intrinsic name) h k =
+      intrinsic_has m _ h s.target k s.externref bound name
+  expression_has_all s m call spread bound (what.StructuralMethod property) h k = plain_has _ (tt, (h.keys, (tt, tt)))
+  expression_has_all s m call spread bound (what.StructuralGetter property) h k = plain_has _ (tt, (h.keys, tt))
+  expression_has_all s m call spread bound (what.StructuralSetter property) h k = plain_has _ (tt, (h.keys, (tt, (tt, (tt, (tt, tt))))))
+  expression_has_all s m call spread bound (what.StructuralClassGetter j property) h k =
       let keys = two_keys m _ h j.fields property h.keys in
       around_has m _ h j refl [] (part.Property property ∷ []) refl keys.0 (keys.1, tt)
-  expression_has_all s m call spread bound (what.StructuralClassSetter j property) h =
+  expression_has_all s m call spread bound (what.StructuralClassSetter j property) h k =
       let keys = two_keys m _ h j.fields property h.keys in
       around_has m _ h j refl [] (part.Property property ∷ assigned 0) refl keys.0 (keys.1, parts_known m _ h (assigned 0) refl)
-  expression_has_all s m call spread bound (what.IndexingGetterOfClass j) h =
+  expression_has_all s m call spread bound (what.IndexingGetterOfClass j) h k =
       around_has m _ h j refl [] (index 0) refl h.keys (parts_known m _ h (index 0) refl)
-  expression_has_all s m call spread bound (what.IndexingSetterOfClass j) h =
+  expression_has_all s m call spread bound (what.IndexingSetterOfClass j) h k =
       around_has m _ h j refl [] (index 0 ++ assigned 1) refl h.keys (parts_known m _ h (index 0 ++ assigned 1) refl)
-  expression_has_all s m call spread bound (what.IndexingDeleterOfClass j) h =
+  expression_has_all s m call spread bound (what.IndexingDeleterOfClass j) h k =
       around_has m _ h j refl delete_front (index 0) refl h.keys (parts_known m _ h (index 0) refl)
-  expression_has_all s m call spread bound what.IndexingGetterOfObject h =
+  expression_has_all s m call spread bound what.IndexingGetterOfObject h k =
       let parts = parts_of m call spread what.IndexingGetterOfObject in some_known m _ h (option_map plain parts) refl
-  expression_has_all s m call spread bound what.IndexingSetterOfObject h =
+  expression_has_all s m call spread bound what.IndexingSetterOfObject h k =
       let parts = parts_of m call spread what.IndexingSetterOfObject in some_known m _ h (option_map plain parts) refl
-  expression_has_all s m call spread bound what.IndexingDeleterOfObject h =
+  expression_has_all s m call spread bound what.IndexingDeleterOfObject h k =
       let parts = parts_of m call spread what.IndexingDeleterOfObject in some_known m _ h (option_map plain parts) refl
-  expression_has_all s m call spread bound other h = tt
+  expression_has_all s m call spread bound other h k = tt
 
   -- an import's expression, with the statements before it, uses no other names than a file has of the import
   pub expression_has : (s : Settings) (m : NameMap) (call : AdapterJsImportKind) (spread bound : Bool) (w : AuxImport) (e : Expression) → HasImport m w
-      → expression s m call spread bound w ≡ Some e → HasExpression e
-  expression_has s m call spread bound w e h is = subst HasSome is (expression_has_all s m call spread bound w h)
+      → HasLoaded s.target → expression s m call spread bound w ≡ Some e → HasExpression e
+  expression_has s m call spread bound w e h k is = subst HasSome is (expression_has_all s m call spread bound w h k)
 
   -- nor does the definition of an import by a value
   pub function_has : (m : NameMap) (j : JsImport) (text : List ℕ) → HasImport m (what.Value (v.Bare j)) → AllByRecursion HasPart (function_or_throw m j text)

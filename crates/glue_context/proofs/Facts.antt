@@ -1,5 +1,5 @@
 -- What is known of a description whose items are made, however it was checked, and that the check gives it.
-use Rattle.glue_context.proofs.Common.{◌≡◌, ℕ, List, [], true, false, None, Some, Option, arith, list_all, is_bindable, is_definable, IsIn, IsAway, AreDistinct, ImportId, AuxExport, AuxImport, Settings, NameMap, Deno, Lowered, fixed_names, own_imports, IsBuiltExport, HasSteps, FileFlags, unbuilt, verdict}
+use Rattle.glue_context.proofs.Common.{◌≡◌, ℕ, List, [], true, false, None, Some, Option, arith, list_all, is_bindable, is_definable, IsIn, IsAway, AreDistinct, ImportId, AuxExport, AuxImport, Settings, NameMap, Deno, Lowered, frame_of, rewritten, fixed_names, own_imports, IsBuiltExport, HasSteps, FileFlags, unbuilt, verdict}
 use Rattle.glue_check.proofs.{BuiltForm.target_built, BuiltForm.settings_built, BuiltForm.imports_built, BuiltForm.exports_built, BuiltForm.only_functions}
 use Rattle.glue_check.proofs.{ExportNames.distinct_functions, ExportNames.names_of, OwnPairs.IsDefinableBy, OwnPairs.IsDefinedImport, OwnPairs.kept_pair, OwnPairs.number_there, OwnPairs.own_defined, OwnPairs.own_distinct, Passed.brought_apart, Passed.brought_ident, Steps.export_steps, Steps.pair_steps}
 use Rattle.glue_check.specs.Taken.{brought}
@@ -7,6 +7,8 @@ use Rattle.glue_naming.specs.Pairs.{is_among, own_pairs}
 use Rattle.glue_shared.specs.Names.{adapter_for, has_number}
 use Rattle.glue_words.specs.Ident.{is_ident}
 use Rattle.glue_context.specs.DefinedItems.{is_definable_by}
+use Rattle.glue_context.specs.FrameIn.{frame_in}
+use Rattle.glue_context.proofs.FrameRead.{frame_read}
 use Rattle.glue_context.proofs.Lists.{all_by}
 
 pub record Facts (s : Settings) (l : Lowered) : Type 0 where
@@ -29,6 +31,8 @@ pub record Facts (s : Settings) (l : Lowered) : Type 0 where
   pub exports : (e : AuxExport) → IsIn e l.aux.exports → IsBuiltExport e
   pub export_steps : (e : AuxExport) → IsIn e l.aux.exports → HasSteps s l e.adapter
   pub pair_steps : (pair : ImportId × ℕ) → IsIn pair l.wit.implements → has_number pair.0.0 (own_imports s l.«module» l.wit l.aux) ≡ true → HasSteps s l pair.1
+  -- what the frame goes by can be read off the written module
+  pub framed : frame_of s l ≡ frame_in s.stem (rewritten s l)
 
 -- a pair of an own import is described, and its import is an own one
 pub own_pair : (s : Settings) (l : Lowered) (pair : ImportId × ℕ) → IsIn pair (own_pairs s l)
@@ -55,6 +59,7 @@ built f s l whole passed =
       exports = exports_built f s l whole;
       export_steps = export_steps f s l whole passed;
       pair_steps = pair_steps f s l whole passed;
+      framed = frame_read f s l whole passed;
     }
 
 module _ (f : FileFlags) (s : Settings) (l : Lowered) (whole : unbuilt f s l ≡ None) (passed : verdict s l ≡ None) where

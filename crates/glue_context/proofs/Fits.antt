@@ -40,7 +40,7 @@ use Rattle.glue_context.specs.Keys.{described_keys, import_properties, imported_
 use Rattle.glue_context.proofs.Declared.{all_found}
 use Rattle.glue_context.proofs.Lists.{none_given}
 use Rattle.glue_context.proofs.ExpressionFits.{IsWell, IsNamedWell, expression_fit}
-use Rattle.glue_context.proofs.ExpressionNames.{HasPart, HasExpression, used_hosts, expression_has}
+use Rattle.glue_context.proofs.ExpressionNames.{HasPart, HasExpression, HasLoaded, used_hosts, expression_has}
 
 -- ---- what steps bring along
 
@@ -133,12 +133,13 @@ module _ (s : Settings) (l : Lowered) where
     AreWell = ForDrawn (λ name. (is_ident name ≡ true) × (is_wasm name ≡ false))
 
     -- these names hold what functions and definitions use of the file: `wasm`, `memory` where that is handed in, helpers that need nothing of the
-    -- module, and the drawn names
+    -- module, the drawn names, and those that loading declares for the values of intrinsics
     pub record HasBasis (declared : List (List ℕ)) : Type 0 where
       pub wasm : IsIn (codes "wasm") declared
       pub memory : takes_memory s l ≡ true → IsIn (codes "memory") declared
       pub helpers : AreAmong free_names declared
       pub drawn : ForDrawn (λ name. IsIn name declared)
+      pub values : HasLoaded (names_with declared) s.target
 
     abbrev AreThere : List Step → Type 0
     AreThere = AllByRecursion (IsThere s l m)
@@ -169,7 +170,7 @@ module _ (s : Settings) (l : Lowered) where
         used = fixed_hosts;
         helpers = basis.helpers;
         exports = basis.wasm;
-      }) d.is
+      }) basis.values d.is
 
       has_names : (steps : List Step) → AreThere steps → HasNames (names_with declared) (outside_of steps)
       has_names [] h = (tt, tt, tt, tt, refl)

@@ -1,4 +1,4 @@
--- What an adapter calls that does nothing but hand on to a property of a module's name.
+-- What an adapter calls that does nothing but hand on to a module's name or a property of it.
 use Rattle.glue_context.proofs.Common.{◌≡◌, ℕ, ◌+◌, inl, inr, List, [], ◌∷◌, Bool, true, false, refl, sym, ap, ◌∙◌, Option, Some, None, IsIn, AuxImport, Settings, Lowered, option_map}
 use Rattle.std.specs.Prelude.{◌==◌, ◌&&◌, ◌||◌, cond, find, not}
 use Rattle.std.specs.List.{list_all}
@@ -91,8 +91,10 @@ module _ (s : Settings) (l : Lowered) (adapter : ℕ) (js : JsImport) where
           record { id = id; called = call_in 0 code id e; described = is.0; from_module = is.1 }
       by false q = cc
 
-  pub handed_is : handed_part s l.wit l.aux adapter ≡ Some js → IsHanded l adapter js
-  handed_is h =
+  pub name_is : handed_name s l.wit l.aux adapter ≡ Some js → IsHanded l adapter js
+  name_is h =
       let kept = is_emscripten s.target || (has_number adapter l.aux.imports_with_catch || l.aux.legacy_exception_handling) in
-      callee_is (plain_call 0 code) refl
-      (kept_is kept (callee_name l.wit l.aux (plain_call 0 code)) js (part_is (handed_name s l.wit l.aux adapter) js h))
+      callee_is (plain_call 0 code) refl (kept_is kept (callee_name l.wit l.aux (plain_call 0 code)) js h)
+
+  pub handed_is : handed_part s l.wit l.aux adapter ≡ Some js → IsHanded l adapter js
+  handed_is h = name_is (part_is (handed_name s l.wit l.aux adapter) js h)

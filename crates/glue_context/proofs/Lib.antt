@@ -2,13 +2,16 @@ mod Common
 mod Declared
 mod DefinedFacts
 mod Edited
+mod Entries
 mod ExpressionFits
 mod ExpressionNames
 pub mod Facts
 mod Fits
+mod FrameRead
 mod HandedParts
 mod ImportedFacts
 mod ImportedNames
 mod Lists
 pub mod Made
+mod OwnPaths
 mod Paths

@@ -7,7 +7,10 @@ use Rattle.values.proofs.Members.{in_left, in_right, in_either}
 use Rattle.glue_targets.specs.PublicTree.{PublicPair, public_tree, function_pair}
 use Rattle.glue_targets.specs.Published.{IsNamed, fixed_of}
 use Rattle.glue_targets.specs.Targets.{FixedText, Frame, frame_end, frame_start, frame_texts, module_name, own_path}
+use Rattle.glue_shared.specs.declared.import.Intrinsic.{Intrinsic}
+use Rattle.glue_shared.specs.declared.import.Intrinsic.TheVariants as intrinsics
 use Rattle.glue_shared.specs.declared.settings.Target.{Target}
+use Rattle.glue_shared.specs.declared.settings.Target.TheVariants as targets
 use Rattle.glue_shared.specs.declared.import.JsImportName.{JsImportName}
 use Rattle.glue_shared.specs.Names.{described_names, entry_of, has_number}
 use Rattle.glue_words.specs.declared.word.Word.{Word}
@@ -26,6 +29,7 @@ use Rattle.helper_table.specs.Closed.{IsBare, asked_helpers}
 use Rattle.helper_table.specs.Names.{single_names}
 use Rattle.helper_table.proofs.Held.{held_item, free_names, helper_hosts, each_held, held_belong, held_distinct, held_inner, held_listed, asked_declared}
 use Rattle.glue_imports.specs.Roots.{drawn_name, or_empty}
+use Rattle.glue_imports.specs.Intrinsics.{loaded_name}
 use Rattle.glue_targets.proofs.FixedTexts as fixed
 use Rattle.glue_targets.proofs.FixedTexts.{start_binds}
 use Rattle.glue_targets.proofs.FrameEnd.{module_names, own_name, end_bound, end_fixed, end_fits, end_hosts}
@@ -36,6 +40,7 @@ use Rattle.glue_check.proofs.Globals.{described_host, from_flat, in_flat}
 use Rattle.glue_check.proofs.OwnPairs.{pair_kept}
 use Rattle.glue_context.specs.DefinedItems.{takes_memory}
 use Rattle.glue_context.specs.Edits.{has_start}
+use Rattle.glue_context.specs.FrameIn.{frame_in}
 use Rattle.glue_context.specs.Keys.{described_keys}
 use Rattle.glue_context.specs.Foreign.{has_strings, path_of}
 use Rattle.glue_context.specs.ExportedItems.{declare_item}
@@ -53,7 +58,7 @@ use Rattle.glue_context.proofs.{Facts.Facts, Facts.built, Facts.own_pair, Fits.n
 
 -- the three facts of items that a built description asks for
 pub record IsSound (s : Settings) (m : NameMap) (l : Lowered) (items : List Item) : Type 0 where
-  pub linked : IsLinked s (host_names s l.aux) (described_keys l.aux) (frame_of s l) (rewritten s l) items (has_start l.«module»)
+  pub linked : IsLinked s (host_names s l.aux) (described_keys l.aux) (rewritten s l) items (has_start l.«module»)
   pub defined : IsDefined s m l (rewritten s l) items
   pub published : IsPublished s l.aux (fixed_public s l.«module» l.wit l.aux) items
 
@@ -74,6 +79,11 @@ pairs_distinct (e ∷ es) h = (λ k. h.0 (pair_named e es k), pairs_distinct es 
 loading_within : (memory starts : Bool) → AreAmong (fixed.loading_uses starts) (start_binds memory ++ loading_bound)
 loading_within true starts = grind arith
 loading_within false starts = grind arith
+
+-- the names of the values of intrinsics are among those that loading declares
+deno_loaded : (value : Intrinsic) (name : List ℕ) → loaded_name targets.Deno value ≡ Some name → IsIn name loading_bound
+deno_loaded intrinsics.Instance name h = let same : name ≡ codes "wasmInstance" = cc in inr (inr (inl same))
+deno_loaded other name h = cc
 
 -- what foreign lines declare, and that they publish nothing
 lines_bound : (from : ℕ) (paths : List (List ℕ)) → flat_map (λ (item : Item). bound_in item.words) (foreign_lines from paths) ≡ module_names from paths
@@ -362,6 +372,8 @@ module _ (s : Settings) (m : NameMap) (l : Lowered) (items : List Item) (b : Fac
     drawn = λ id w mine is name i other.
         let d = entry_drawn id w mine is name i other in
         subst (λ (text : List ℕ). IsIn text (first ++ free_names)) (drawn_is name d) (drawn_first d.text d.listed);
+    values = λ value name h. among_in name loading_bound (first ++ free_names) (there loading_bound loaded)
+        (deno_loaded value name (subst (λ (target : Target). loaded_name target value ≡ Some name) b.deno h));
   }
 
   -- an export's function has a name that is an identifier, and stands among the first
@@ -464,7 +476,7 @@ module _ (s : Settings) (m : NameMap) (l : Lowered) (items : List Item) (b : Fac
       (held_belong parts bare needed g.helpers g.asked c (held_among s l.«module» paths held memory few g.numbered listed imported_names constant_names names)
       (known helper_hosts refl))
 
-  linked : IsLinked s (host_names s l.aux) (described_keys l.aux) (frame_of s l) (rewritten s l) all starts
+  linked : IsLinked s (host_names s l.aux) (described_keys l.aux) (rewritten s l) all starts
   linked =
       let c = names_with s l declared in
       let d = held_distinct parts bare needed g.helpers g.asked in
@@ -482,7 +494,9 @@ module _ (s : Settings) (m : NameMap) (l : Lowered) (items : List Item) (b : Fac
       (λ place item k x before after. rw (define_role s m l place item x) tt)
       (λ before after. (frame_told s.target s.stem (frame_of s l) b.deno).0) (λ before after. (frame_told s.target s.stem (frame_of s l) b.deno).1)
       (held_so _ (λ entry before after. tt)) (λ before after. rw b.deno (inl refl))) in
-      assumption (k, exported, prescribed)
+      let framed : EachItem (IsPrescribed s starts (frame_in s.stem (rewritten s l))) [] all =
+      subst (λ (frame : Frame). EachItem (IsPrescribed s starts frame) [] all) b.framed prescribed in
+      assumption (k, exported, framed)
 
   defined : IsDefined s m l (rewritten s l) all
   defined =

@@ -3,6 +3,7 @@ pub mod DefinedItems
 pub mod Edits
 pub mod ExportedItems
 pub mod Foreign
+pub mod FrameIn
 pub mod Functions
 pub mod ImportedItems
 pub mod Items

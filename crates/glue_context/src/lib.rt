@@ -14,10 +14,11 @@
 //! `specs/Edits.antt`); the module that is written is that one (`rewritten` of `specs/Rewritten.antt`). The theorem rests on facts
 //! of a description, however it was checked (`sound_by_facts`, `proofs/Facts.antt`): items of which each belongs into the file are
 //! linked, where their names are declared once and are no host's (`proofs/Declared.antt`). An item may refer to a helper that needs
-//! nothing of the module: since it asks for it, the helper is there. The names that proofs here cite come from `proofs/Common.antt`.
+//! nothing of the module: since it asks for it, the helper is there. What the frame goes by is read off the written module
+//! (`specs/FrameIn.antt`, `proofs/FrameRead.antt`). The names that proofs here cite come from `proofs/Common.antt`.
 //!
-//! Stands on `glue_check`, `glue_naming`, `glue_targets`, `glue_lines`, `helper_table`, `glue_binding`, `glue_imports`, `glue_steps`,
-//! `glue_tree`, `glue_shared`, `glue_scope`, `glue_words` and `wasm_core`. It knows no setter and no file.
+//! Stands on `glue_check`, `glue_adapters`, `glue_naming`, `glue_targets`, `glue_lines`, `helper_table`, `glue_binding`, `glue_imports`,
+//! `glue_steps`, `glue_tree`, `glue_shared`, `glue_scope`, `glue_words` and `wasm_core`. It knows no setter and no file.
 #![tactic(auto)]
 
 mod defined;

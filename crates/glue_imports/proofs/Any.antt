@@ -8,14 +8,15 @@ use Rattle.glue_shared.specs.declared.import.Intrinsic.{Intrinsic}
 use Rattle.glue_shared.specs.declared.import.Intrinsic.TheVariants as i
 use Rattle.glue_shared.specs.declared.name_map.NameMap.{NameMap}
 use Rattle.glue_shared.specs.declared.settings.Settings.{Settings}
+use Rattle.glue_shared.specs.declared.settings.Target.{Target}
 use Rattle.glue_imports.specs.Expressions.{intrinsic_expression, expression, has_expression}
 
-any_intrinsic : (externref bound : Bool) (name : Intrinsic)
-    → is_some (intrinsic_expression externref bound name) ≡ is_some (intrinsic_expression externref false name)
-any_intrinsic externref bound i.Add = refl
-any_intrinsic externref bound other = refl
+any_intrinsic : (target : Target) (externref bound : Bool) (name : Intrinsic)
+    → is_some (intrinsic_expression target externref bound name) ≡ is_some (intrinsic_expression target externref false name)
+any_intrinsic target externref bound i.Add = refl
+any_intrinsic target externref bound other = refl
 
 pub any_call : (s : Settings) (m : NameMap) (call : AdapterJsImportKind) (spread bound : Bool) (what : AuxImport)
     → is_some (expression s m call spread bound what) ≡ has_expression s what
-any_call s m call spread bound (w.Intrinsic name) = any_intrinsic s.externref bound name
+any_call s m call spread bound (w.Intrinsic name) = any_intrinsic s.target s.externref bound name
 any_call s m call spread bound other = refl

@@ -1,9 +1,11 @@
 -- The expressions of intrinsics.
-use Rattle.std.specs.Prelude.{ℕ, Bool, true, false, List, [], ◌∷◌, codes, Option, Some, None, option_map}
+use Rattle.std.specs.Prelude.{ℕ, Bool, true, false, not, List, [], ◌∷◌, codes, Option, Some, None, option_map}
 use Rattle.glue_words.specs.declared.punct.TheConstants as punct
 use Rattle.glue_words.specs.declared.key.TheConstants as key
 use Rattle.glue_shared.specs.declared.import.Intrinsic.{Intrinsic}
 use Rattle.glue_shared.specs.declared.import.Intrinsic.TheVariants as i
+use Rattle.glue_shared.specs.declared.settings.Target.{Target}
+use Rattle.glue_shared.specs.declared.settings.Target.TheVariants as targets
 use Rattle.glue_imports.specs.declared.part.Part.{Part}
 use Rattle.glue_imports.specs.declared.part.Part.TheVariants as p
 
@@ -113,6 +115,44 @@ other_intrinsic bound i.PanicError = Some panic_error
 other_intrinsic bound i.Throw = Some thrown_error
 other_intrinsic bound i.Rethrow = Some (p.Key key.THROW ∷ p.Space ∷ p.Operand 0 ∷ [])
 other_intrinsic bound other = None
+
+-- ---- values that loading declares
+
+-- loading declares `wasmModule` on this target
+abbrev pub declares_module : Target → Bool
+declares_module targets.Web = true
+declares_module (targets.NoModules global) = true
+declares_module (targets.Node is_module) = true
+declares_module targets.Module = true
+declares_module other = false
+
+-- loading declares `wasmInstance` on this target
+abbrev pub declares_instance : Target → Bool
+declares_instance targets.Web = true
+declares_instance (targets.NoModules global) = true
+declares_instance (targets.Node is_module) = true
+declares_instance targets.Deno = true
+declares_instance targets.Module = true
+declares_instance other = false
+
+-- a name, where it is declared
+abbrev pub name_if : (declared : Bool) → (name : List ℕ) → Option (List ℕ)
+name_if true name = Some name
+name_if false name = None
+
+-- the name that loading declares for the value of an intrinsic
+abbrev pub loaded_name : Target → Intrinsic → Option (List ℕ)
+loaded_name target i.Module = name_if (declares_module target) (codes "wasmModule")
+loaded_name target i.Instance = name_if (declares_instance target) (codes "wasmInstance")
+loaded_name target other = None
+
+-- an intrinsic whose value loading declares on other targets, and not on this one
+abbrev pub lacks_value : Target → Intrinsic → Bool
+lacks_value target i.Module = not (declares_module target)
+lacks_value target i.Instance = not (declares_instance target)
+lacks_value target other = false
+
+-- ---- all of them
 
 -- what one table has, or else another
 abbrev pub or_else : {A : Type 0} → Option A → Option A → Option A

@@ -1,16 +1,18 @@
 //! The expression of an import.
-ghost use Rattle.std.specs.Prelude.{◌≡◌, ◌++◌, ◌∷◌, [], IfOk};
+ghost use Rattle.std.specs.Prelude.{◌≡◌, ◌++◌, ◌∷◌, [], IfOk, option_map};
 ghost use Rattle.glue_imports.specs.Expressions as spec;
+ghost use Rattle.glue_imports.specs.Intrinsics as table;
+ghost use Rattle.glue_imports.specs.Preludes as preludes;
 ghost use Rattle.glue_imports.specs.declared.part.Part.TheVariants as p;
 
-use crate::intrinsic::{has_parts, intrinsic_parts};
+use crate::intrinsic::{has_parts, intrinsic_parts, loaded_name};
 use crate::part::{Expression, Part};
 use crate::prelude::{
     cast, has_link, instance_of, intrinsic_prelude, joined, linked, plain, present,
 };
 use crate::roots::root;
 use glue_shared::{
-    AdapterJsImportKind, AuxImport, AuxValue, Intrinsic, JsImport, NameMap, Settings,
+    AdapterJsImportKind, AuxImport, AuxValue, Intrinsic, JsImport, NameMap, Settings, Target,
 };
 use glue_words::{key, punct};
 use std::alloc::{AllocError, Global};
@@ -329,18 +331,47 @@ fn parts_of(
     }
 }
 
+// The value that loading declares for an intrinsic, by its name.
+fn loaded_value(
+    alloc: Global,
+    target: &Target,
+    intrinsic: Intrinsic,
+) -> Result<Option<Expression>, AllocError>
+    ensures expression { IfOk result (λ e. e ≡ option_map spec.loaded (table.loaded_name target.now intrinsic)) }
+{
+    match loaded_name(alloc, target, intrinsic)? {
+        None => Ok(None),
+        Some(name) => Ok(plain(alloc, Some(one(alloc, Part::Name(name))?))),
+    }
+}
+
+// The expression of an intrinsic that has statements before it, or whose value loading declares.
+fn prelude_or_loaded(
+    alloc: Global,
+    target: &Target,
+    externref: bool,
+    intrinsic: Intrinsic,
+) -> Result<Option<Expression>, AllocError>
+    ensures expression { IfOk result (λ e. e ≡ table.or_else (preludes.intrinsic_prelude externref intrinsic) (option_map spec.loaded (table.loaded_name target.now intrinsic))) }
+{
+    match intrinsic_prelude(alloc, externref, intrinsic)? {
+        Some(expression) => Ok(Some(expression)),
+        None => loaded_value(alloc, target, intrinsic),
+    }
+}
+
 // The expression of an intrinsic.
 fn intrinsic_expression(
     alloc: Global,
-    externref: bool,
+    settings: &Settings,
     bound: bool,
     intrinsic: Intrinsic,
 ) -> Result<Option<Expression>, AllocError>
-    ensures expression { IfOk result (λ e. e ≡ spec.intrinsic_expression externref bound intrinsic) }
+    ensures expression { IfOk result (λ e. e ≡ spec.intrinsic_expression settings.now.target settings.now.externref bound intrinsic) }
 {
     match plain(alloc, intrinsic_parts(alloc, bound, intrinsic)?) {
         Some(expression) => Ok(Some(expression)),
-        None => intrinsic_prelude(alloc, externref, intrinsic),
+        None => prelude_or_loaded(alloc, &settings.target, settings.externref, intrinsic),
     }
 }
 
@@ -368,7 +399,7 @@ pub fn expression(
             linked(alloc, split, &settings.target, path, content)
         }
         AuxImport::Intrinsic(intrinsic) => {
-            intrinsic_expression(alloc, settings.externref, bound, *intrinsic)
+            intrinsic_expression(alloc, settings, bound, *intrinsic)
         }
         _ => Ok(plain(alloc, parts_of(alloc, basis.names, call, spread, what)?)),
     }
@@ -382,7 +413,9 @@ pub fn has_expression(settings: &Settings, what: &AuxImport) -> bool
         AuxImport::LinkTo(_, content) => {
             has_link(settings.split_linked_modules, &settings.target, content)
         }
-        AuxImport::Intrinsic(intrinsic) => has_parts(settings.externref, *intrinsic),
+        AuxImport::Intrinsic(intrinsic) => {
+            has_parts(&settings.target, settings.externref, *intrinsic)
+        }
         AuxImport::WrapInExportedClass(_) | AuxImport::UnwrapExportedClass(_) => false,
         _ => true,
     }

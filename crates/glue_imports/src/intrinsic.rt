@@ -5,7 +5,7 @@ ghost use Rattle.glue_imports.specs.Expressions as exprs;
 ghost use Rattle.glue_imports.specs.Intrinsics as spec;
 
 use crate::part::Part;
-use glue_shared::Intrinsic;
+use glue_shared::{Intrinsic, Target};
 use glue_words::{key, punct};
 use std::alloc::{AllocError, Global};
 use values::{Seq, Text};
@@ -294,18 +294,75 @@ pub fn intrinsic_parts(
     }
 }
 
-/// Whether an intrinsic has an expression here, where the setting `externref` has this value.
-pub fn has_parts(externref: bool, intrinsic: Intrinsic) -> bool
-    ensures test { result ≡ is_some (exprs.intrinsic_expression externref false intrinsic) }
+// Whether loading declares `wasmModule`.
+fn declares_module(target: &Target) -> bool
+    ensures test { result ≡ spec.declares_module target.now }
+{
+    matches!(
+        target,
+        Target::Web | Target::NoModules { .. } | Target::Node { .. } | Target::Module
+    )
+}
+
+// Whether loading declares `wasmInstance`.
+fn declares_instance(target: &Target) -> bool
+    ensures test { result ≡ spec.declares_instance target.now }
+{
+    matches!(
+        target,
+        Target::Web | Target::NoModules { .. } | Target::Node { .. } | Target::Deno | Target::Module
+    )
+}
+
+// A name, where it is declared.
+fn name_if(alloc: Global, declared: bool, name: &str) -> Result<Option<Text>, AllocError>
+    ensures name { IfOk result (λ found. found ≡ spec.name_if declared name.now) }
+{
+    if declared {
+        Ok(Some(Text::from_str(alloc, name)?))
+    } else {
+        Ok(None)
+    }
+}
+
+/// The name that loading declares for the value of an intrinsic, where it declares one.
+pub fn loaded_name(
+    alloc: Global,
+    target: &Target,
+    intrinsic: Intrinsic,
+) -> Result<Option<Text>, AllocError>
+    ensures name { IfOk result (λ name. name ≡ spec.loaded_name target.now intrinsic) }
+{
+    match intrinsic {
+        Intrinsic::Module => name_if(alloc, declares_module(target), "wasmModule"),
+        Intrinsic::Instance => name_if(alloc, declares_instance(target), "wasmInstance"),
+        _ => Ok(None),
+    }
+}
+
+/// Whether loading declares the value of an intrinsic on other targets, and not on this one.
+pub fn lacks_value(target: &Target, intrinsic: Intrinsic) -> bool
+    ensures test { result ≡ spec.lacks_value target.now intrinsic }
+{
+    match intrinsic {
+        Intrinsic::Module => !declares_module(target),
+        Intrinsic::Instance => !declares_instance(target),
+        _ => false,
+    }
+}
+
+/// Whether an intrinsic has an expression on a target, where the setting `externref` has this value.
+pub fn has_parts(target: &Target, externref: bool, intrinsic: Intrinsic) -> bool
+    ensures test { result ≡ is_some (exprs.intrinsic_expression target.now externref false intrinsic) }
 {
     match intrinsic {
         Intrinsic::ExternrefHeapLiveCount => !externref,
         Intrinsic::FunctionTable
         | Intrinsic::InitExternrefTable
-        | Intrinsic::Instance
         | Intrinsic::Memory
-        | Intrinsic::Module
         | Intrinsic::StringFromUtf8Lossy => false,
+        Intrinsic::Instance => declares_instance(target),
+        Intrinsic::Module => declares_module(target),
         _ => true,
     }
 }

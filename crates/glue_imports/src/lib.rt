@@ -7,7 +7,8 @@
 //! `specs/Preludes.antt`; nothing but want of memory fails. Whether an import has an expression depends neither on the names nor on how it
 //! is called (`proofs/Any.antt`). That the parts of each stand well beside one another is shown above, in `glue_context`. Classes that are
 //! wrapped or unwrapped, and operations that need another export, have no parts here yet, nor have links to files on a target whose glue
-//! file is no ES module. Helpers are named by the names that they bind.
+//! file is no ES module. The module's own object and its instance have parts on the targets whose loading declares them, and `lacks_value`
+//! answers whether a target doesn't. Helpers are named by the names that they bind.
 //!
 //! `function_or_throw` gives the parts that define an import by a property of a module's name, which needs no function of its own
 //! (`specs/Definitions.antt`); `root` those of the value itself.
@@ -26,5 +27,6 @@ mod roots;
 
 pub use definition::function_or_throw;
 pub use expressions::{Basis, expression, has_expression};
+pub use intrinsic::lacks_value;
 pub use part::{Expression, Part};
 pub use roots::{global_name, root};

@@ -159,6 +159,18 @@ pub unwritten : (bytes : List ℕ) (made : Made) (x : Option ℕ) (old : Option 
 unwritten bytes made None old is comes = record { cause = None; comes = (comes, is); written = prefix_none old _ }
 unwritten bytes made (Some section) old is comes = record { cause = Some Oversized; comes = (comes, is); written = prefix_none old _ }
 
+-- there was no memory for the listing of what was made
+pub unlisted : (bytes : List ℕ) (made : Made) (x : Option ℕ) (old : Option (List ℕ)) (before : ℕ) → IsOutputOf bytes made → outcome bytes ≡ planning x → Answered bytes 5 (Some made) old old before before
+unlisted bytes made x old before is comes = record {
+  known = inr (inr (inr refl));
+  done = λ zero. absurd (omega (arith, zero));
+  refused = λ one. absurd (omega (arith, one));
+  failed = λ four. absurd (omega (arith, four));
+  short = λ five. inr (unwritten bytes made x old is comes);
+  kept = λ other short. refl;
+  later = omega arith;
+}
+
 -- a fault's line was to be written
 pub refused_answer : (bytes : List ℕ) (f : Fault) (status : ℕ) (old new : Option (List ℕ)) (before now : ℕ) → is_memory f ≡ false → (f ≢ fault.OutOfMemory → outcome bytes ≡ Some (Refused f))
     → Wrote 1 (fault_line (Refused f)) status old new before now → Answered bytes status None old new before now

@@ -88,9 +88,18 @@ fn lowered(alloc: Global, case: &Case) -> Result<Lowered, LowerFault> {
     }
 }
 
+/// The target of a case: a browser where its way of calling says `web`, and else Deno.
+fn target(case: &Case) -> Target {
+    if case.1.contains("web") {
+        Target::Web
+    } else {
+        Target::Deno
+    }
+}
+
 /// The settings of a case: linked modules are split off where its way of calling says `split`.
 fn set_for(alloc: Global, case: &Case) -> Result<Settings, AllocError> {
-    let mut set = settings(alloc, Target::Deno, EncodeInto::Always)?;
+    let mut set = settings(alloc, target(case), EncodeInto::Always)?;
     set.split_linked_modules = case.1.contains("split");
     Ok(set)
 }

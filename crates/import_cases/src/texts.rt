@@ -1,7 +1,8 @@
 //! What is described of an import, how it is called, its operands, and the statements that are expected.
 
-/// The JSON of what is described; how it is called, with `spread` where the last argument is spread and `bound` where there is a
-/// result; a letter for each operand, `i` for a parameter and `u` for one that is read as unsigned; and the statements.
+/// The JSON of what is described; how it is called, with `spread` where the last argument is spread, `bound` where there is a result,
+/// `split` where linked modules are split off and `web` where the file is made for browsers; a letter for each operand, `i` for a
+/// parameter and `u` for one that is read as unsigned; and the statements.
 pub type Case = (&'static str, &'static str, &'static str, &'static str);
 
 /// Values of globals, called in each way, read, and texts.
@@ -550,6 +551,33 @@ return ret;"#,
         "normal bound",
         "",
         r#"const ret = wasm;
+return ret;"#,
+    ),
+    (
+        r#"["Intrinsic","Instance"]"#,
+        "normal bound",
+        "",
+        r#"const ret = wasmInstance;
+return ret;"#,
+    ),
+    (
+        r#"["Intrinsic","Instance"]"#,
+        "normal",
+        "",
+        r#"wasmInstance;"#,
+    ),
+    (
+        r#"["Intrinsic","Instance"]"#,
+        "normal web bound",
+        "",
+        r#"const ret = wasmInstance;
+return ret;"#,
+    ),
+    (
+        r#"["Intrinsic","Module"]"#,
+        "normal web bound",
+        "",
+        r#"const ret = wasmModule;
 return ret;"#,
     ),
     (
