@@ -1,26 +1,13 @@
 -- The roots of a description are entries of its module.
-use Rattle.std.proofs.Common.{◌≡◌, List, [], ◌∷◌, Bool, true, false, true≢false, cond, refl, sym, All}
-use Rattle.std.specs.Prelude.{Option, Some, None, slice_get}
+use Rattle.std.proofs.Common.{◌≡◌, List, [], ◌∷◌, Bool, true, false, cond, refl, All}
 use Rattle.std.specs.List.{filter}
 use Rattle.std.proofs.lemmas.List.Elements.{All-nil, All-cons}
 use Rattle.wasm_core.specs.entries.ExportItem.{ExportItem}
-use Rattle.wasm_core.specs.entries.ExportItem.TheVariants as items
-use Rattle.wasm_core.specs.Contents.{Contents, IsEntry}
+use Rattle.wasm_core.specs.Contents.{Contents}
 use Rattle.wasm_core.specs.Edits.{IsLiveItem}
-use Rattle.glue_shared.specs.Roots.{is_entry, is_live_item, named_items, roots_of}
+use Rattle.glue_context.proofs.Edited.{item_from}
+use Rattle.glue_shared.specs.Roots.{is_live_item, named_items, roots_of}
 use Rattle.glue_shared.specs.declared.description.Lowered.{Lowered}
-
-entry_from : {A : Type 0} (o : Option (Option A)) → is_entry o ≡ true → IsEntry o
-entry_from (Some (Some x)) h = tt
-entry_from (Some None) h = absurd (true≢false (sym h))
-entry_from None h = absurd (true≢false (sym h))
-
-item_from : (m : Contents) (item : ExportItem) → is_live_item m item ≡ true → IsLiveItem m item
-item_from m (items.Func id) h = entry_from (slice_get m.funcs id.0) h
-item_from m (items.Table id) h = entry_from (slice_get m.tables id.0) h
-item_from m (items.Memory id) h = entry_from (slice_get m.memories id.0) h
-item_from m (items.Global id) h = entry_from (slice_get m.globals id.0) h
-item_from m (items.Tag id) h = entry_from (slice_get m.tags id.0) h
 
 module _ (m : Contents) where
   live_case : (item : ExportItem) (xs : List ExportItem) (b : Bool) → is_live_item m item ≡ b → All (IsLiveItem m) (filter (is_live_item m) xs) → All (IsLiveItem m) (cond b (item ∷ filter (is_live_item m) xs) (filter (is_live_item m) xs))

@@ -25,8 +25,7 @@ impl Bindgen {
         self
     }
 
-    /// Whether names from modules are used as names of the host, without import lines. That isn't built: a call with it refuses
-    /// (`NotBuilt` with `imports`).
+    /// Whether names from modules are used as names of the host, without lines that take them.
     pub fn omit_imports(&mut self, enable: bool) -> &mut Bindgen
         ensures set { result.now ≡ record self.old { flags = record self.old.flags { omit_imports = enable } } }
         ensures same_reference { result.ghost_name ≡ self.entry.ghost_name }

@@ -185,7 +185,7 @@ fn plan(alloc: Global, checked: &Checked) -> Result<(Seq<Item>, Edits), AllocErr
     ensures fit { IfOk result (λ drawn. AreFit drawn.1 checked.now.lowered.«module») }
 {
     let items = planned_items(alloc, checked)?;
-    let edits = edits_of(alloc, checked.settings(), checked.lowered())?;
+    let edits = edits_of::<IdentScope>(alloc, checked.settings(), checked.lowered())?;
     Ok((items, edits))
 }
 

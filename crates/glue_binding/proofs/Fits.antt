@@ -5,15 +5,11 @@ use Rattle.std.specs.Prelude.{◌&&◌, codes}
 use Rattle.std.specs.List.{list_all}
 use Rattle.glue_words.specs.Ident.{is_ident}
 use Rattle.glue_words.proofs.Idents.{ascii_ident}
-use Rattle.glue_words.specs.Names.{wasm_name, wasm_in}
 use Rattle.glue_tree.specs.Term.{Lines, NoLines}
 use Rattle.glue_tree.proofs.Fit.{fit, all_fit, line_fit, lines_fit}
-use Rattle.glue_tree.proofs.Functions.{wasm_kind}
-use Rattle.glue_imports.specs.declared.part.Part.{Part}
 use Rattle.glue_steps.specs.declared.step.Step.{Step}
-use Rattle.glue_binding.specs.Spelling.{Plain, Missing, Local, Unsigned, term_of, terms, parts_words, Piece, Ahead, Cleanup, pieces_of, nested, tree_of, temporaries}
+use Rattle.glue_binding.specs.Spelling.{Plain, Missing, Local, Unsigned, term_of, terms, Piece, Ahead, Cleanup, pieces_of, nested, tree_of, temporaries}
 use Rattle.glue_binding.proofs.Each.{Each}
-use Rattle.glue_binding.proofs.Parts.{parts_found, parts_take}
 use Rattle.glue_binding.proofs.Standing.{IsNamed, step_fit, fitting, steps_each, run_stands, bound_stands}
 use Rattle.glue_binding.proofs.Rowwise.{IsRowwise, AllHave, pieces_have}
 
@@ -34,10 +30,6 @@ terms_fit : (ps : List Plain) → Each IsNamed ps → all_fit (terms ps) ≡ tru
 terms_fit [] h = refl
 terms_fit (p ∷ ps) h = and_true _ _ (plain_fit p h.0) (terms_fit ps h.1)
 
--- no export is taken in an import's text
-no_export : (locals : List (List ℕ)) (args : List Plain) (parts : List Part) → wasm_in (parts_words parts locals args) ≡ []
-no_export locals args parts = parts_found wasm_name wasm_kind (λ n. refl) (λ n. refl) locals args parts ∙ parts_take parts
-
 fits : IsRowwise (λ l. line_fit l ≡ true) IsNamed IsName (λ s. step_fit s ≡ true)
 fits = record {
   missing = tt;
@@ -46,8 +38,8 @@ fits = record {
   ends = λ p h. plain_fit p h;
   export_runs = λ name n f args h. terms_fit args h;
   export_binds = λ name n f x d args h. and_true _ _ d (terms_fit args h);
-  import_runs = λ adapter n e f locals c l args h. run_stands e (fitting e f) locals c l args h (no_export locals args);
-  import_binds = λ adapter n e f locals c l x d args h. bound_stands e (fitting e f) locals c l args h (no_export locals args) x d;
+  import_runs = λ adapter n e f locals c l args h. run_stands e (fitting e f) locals c l args h;
+  import_binds = λ adapter n e f locals c l x d args h. bound_stands e (fitting e f) locals c l args h x d;
   takes = λ f x d p h. and_true _ _ d (rw (ascii_ident (codes "takeObject") refl) (terms_fit (p ∷ []) (h, tt)));
   borrows = λ f x d p h. and_true _ _ d (rw (ascii_ident (codes "addBorrowedObject") refl)
       (terms_fit (p ∷ []) (h, tt)));

@@ -149,6 +149,7 @@ module _ (kind : Word → Option (List ℕ)) (is : IsKind kind) where
     part_holds locals args h (part.Host name fields) o f = f
     part_holds locals args h (part.Name name) o f = f
     part_holds locals args h part.Exports o f = f
+    part_holds locals args h (part.Export name) o f = f
     part_holds locals args h (part.Property name) o f = f
     part_holds locals args h (part.Chained name) o f = f
     part_holds locals args h (part.Member name) o f = f

@@ -6,7 +6,7 @@ use Rattle.std.specs.List.{filter_map, flat_map}
 use Rattle.glue_words.specs.declared.word.Word.{Word}
 use Rattle.glue_words.specs.declared.word.Word.TheVariants as w
 use Rattle.glue_words.specs.declared.word.NoteKind.TheVariants.{Slash}
-use Rattle.glue_words.specs.Names.{bound_name, bound_in, local_bound_name, local_name, wasm_name, local_bound_in, local_in, wasm_in}
+use Rattle.glue_words.specs.Names.{bound_name, bound_in, local_bound_name, local_name, local_bound_in, local_in}
 use Rattle.glue_words.specs.Functions.{parenthesised}
 use Rattle.glue_tree.specs.Spelling.{comma_unless, is_none}
 use Rattle.glue_tree.specs.FixedWords.{close_paren}
@@ -25,6 +25,7 @@ abbrev pub outer_part : Part → List Word
 outer_part (part.Host name fields) = w.Host name false ∷ path_words fields
 outer_part (part.Name name) = w.Refer name false ∷ []
 outer_part part.Exports = w.Refer (codes "wasm") false ∷ []
+outer_part (part.Export name) = w.Refer (codes "wasm") false ∷ w.Wasm name ∷ []
 outer_part (part.Property name) = property_parts name
 outer_part (part.Chained name) = chained_words name
 outer_part (part.Member name) = w.Prop name ∷ []
@@ -97,6 +98,7 @@ module _ (kind : Word → Option (List ℕ)) (is : IsKind kind) (local : (name :
   part_found locals args (part.Host name fields) = refl
   part_found locals args (part.Name name) = refl
   part_found locals args part.Exports = refl
+  part_found locals args (part.Export name) = refl
   part_found locals args (part.Property name) = refl
   part_found locals args (part.Chained name) = refl
   part_found locals args (part.Member name) = refl
@@ -164,19 +166,13 @@ part_uses (part.Property name) = (property_tells name).locals
 part_uses (part.Chained name) = (chained_tells name).locals
 part_uses other = refl
 
-part_takes : (p : Part) → wasm_in (outer_part p) ≡ []
-part_takes (part.Host name fields) = (path_tells fields).takes
-part_takes (part.Property name) = (property_tells name).takes
-part_takes (part.Chained name) = (chained_tells name).takes
-part_takes other = refl
-
 part_declares : (p : Part) → bound_in (outer_part p) ≡ []
 part_declares (part.Host name fields) = (path_tells fields).binds
 part_declares (part.Property name) = (property_tells name).binds
 part_declares (part.Chained name) = (chained_tells name).binds
 part_declares other = refl
 
--- they declare no names, declare and use no locals, and take no exports
+-- they declare no names, and declare and use no locals
 pub parts_declare : (parts : List Part) → bound_in (outer_parts parts) ≡ []
 parts_declare = parts_none bound_name part_declares
 
@@ -185,9 +181,6 @@ parts_bind = parts_none local_bound_name part_binds
 
 pub parts_use : (parts : List Part) → local_in (outer_parts parts) ≡ []
 parts_use = parts_none local_name part_uses
-
-pub parts_take : (parts : List Part) → wasm_in (outer_parts parts) ≡ []
-parts_take = parts_none wasm_name part_takes
 
 -- nor do an expression and the statements before it
 module _ (kind : Word → Option (List ℕ)) (none : (parts : List Part) → filter_map kind (outer_parts parts) ≡ []) (e : Expression) where

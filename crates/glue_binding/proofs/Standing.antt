@@ -7,13 +7,12 @@ use Rattle.std.proofs.lemmas.List.{append-nil}
 use Rattle.std.proofs.lemmas.List.Splits.{length-slice_split}
 use Rattle.std.specs.Prelude.{Option, Some, None, ◌&&◌, ◌==◌, nat_lt, codes}
 use Rattle.std.specs.List.{list_all, flat_map, slice_split}
-use Rattle.std.proofs.lemmas.List.Elements.{filter_map-append}
 use Rattle.glue_words.specs.declared.word.Word.{Word}
 use Rattle.glue_words.specs.declared.word.Word.TheVariants as w
 use Rattle.glue_words.specs.declared.word.NoteKind.TheVariants.{Slash}
 use Rattle.glue_words.specs.Ident.{is_ident}
 use Rattle.glue_words.specs.Limits.{is_computed}
-use Rattle.glue_words.specs.Names.{wasm_name, wasm_in}
+use Rattle.glue_words.specs.Names.{wasm_in}
 use Rattle.glue_words.specs.Tables.{punct_text}
 use Rattle.glue_words.specs.Spacing.{joins, first_word, each_next, begins_apart}
 use Rattle.glue_words.specs.Functions.{parenthesised}
@@ -33,7 +32,7 @@ use Rattle.glue_steps.specs.declared.step.Step.TheVariants.{CallImport}
 use Rattle.glue_binding.specs.Spelling.{Plain, Missing, Local, Unsigned, path_words, shift_words, plain_words, guarded_words, argument_words, arguments_words, without_dot, chained_words, part_words, parts_words, import_line_words}
 use Rattle.glue_binding.proofs.Each.{Each, each_there, each_item, each_below}
 use Rattle.glue_binding.proofs.Parts.{bound_places}
-use Rattle.glue_binding.proofs.Paths.{MayFollow, StandsBetween, path_stands, property_stands}
+use Rattle.glue_binding.proofs.Paths.{MayFollow, StandsBetween, path_stands, property_stands, property_tells}
 
 and_true : (a b : Bool) → a ≡ true → b ≡ true → (a && b) ≡ true
 and_true a b h k = ap (λ x. x && b) h ∙ k
@@ -67,6 +66,7 @@ abbrev first_words : Part → List Word
 first_words (part.Host name fields) = w.Host [] false ∷ []
 first_words (part.Name name) = w.Refer name false ∷ []
 first_words part.Exports = w.Refer (codes "wasm") false ∷ []
+first_words (part.Export name) = w.Refer (codes "wasm") false ∷ []
 first_words (part.Property name) = accesses
 first_words (part.Chained name) = optional ∷ []
 first_words (part.Member name) = w.Prop name ∷ []
@@ -89,6 +89,7 @@ abbrev last_words : Part → List Word
 last_words (part.Host name fields) = closers
 last_words (part.Name name) = w.Refer name false ∷ []
 last_words part.Exports = w.Refer (codes "wasm") false ∷ []
+last_words (part.Export name) = w.Wasm [] ∷ []
 last_words (part.Property name) = closers
 last_words (part.Chained name) = closers
 last_words (part.Member name) = w.Prop name ∷ []
@@ -260,6 +261,10 @@ text_behind other text = refl
 text_before : (text : List ℕ) (next : Option Word) → spaced (w.Text text) next ≡ spaced (w.Text []) next
 text_before text None = refl
 text_before text (Some next) = refl
+
+export_before : (name : List ℕ) (next : Option Word) → spaced (w.Wasm name) next ≡ spaced (w.Wasm []) next
+export_before name None = refl
+export_before name (Some next) = refl
 
 bound_before : (name : List ℕ) (next : Option Word) → spaced (w.LocalBind name) next ≡ spaced (w.LocalBind []) next
 bound_before name None = refl
@@ -610,6 +615,11 @@ module _ (count : ℕ) (locals : List (List ℕ)) (there : (n : ℕ) → nat_lt 
   part_stands (part.Name name) h = plain_stands (w.Refer name false) (ap (λ (b : Bool). ((b && true) && true) && true) h)
   part_stands part.Exports h = plain_stands (w.Refer (codes "wasm") false)
       (ap (λ (b : Bool). ((b && true) && true) && true) (ascii_ident (codes "wasm") refl))
+  part_stands (part.Export name) h = record {
+    good = ap (λ (b : Bool). (((b && true) && true) && true) && true) (ascii_ident (codes "wasm") refl);
+    front = λ word rest next f. (and_parts (spaced word (Some (w.Refer (codes "wasm") false))) true f).0;
+    back = λ next b. and_true _ _ (export_before name next ∙ (and_parts (spaced (w.Wasm []) next) true b).0) refl;
+  }
   part_stands (part.Property name) h = access_stands name
   part_stands (part.Chained name) h = chained_stands name
   part_stands (part.Member name) h = plain_stands (w.Prop name) (ap (λ (b : Bool). ((b && true) && true) && true) (ident_prop name h))
@@ -727,15 +737,41 @@ no_access [] h = refl
 no_access (w.Wasm name ∷ words) h = cc
 no_access (word ∷ words) h = refl
 
+both_apart : (words more : List Word) → begins_apart words ≡ true → begins_apart more ≡ true → begins_apart (words ++ more) ≡ true
+both_apart [] more h k = k
+both_apart (word ∷ words) more h k = h
+
+-- an operand is no access of an export
+operand_apart : (p : Plain) → begins_apart (plain_words p) ≡ true
+operand_apart Missing = refl
+operand_apart (Local name) = refl
+operand_apart (Unsigned p) = both_apart (plain_words p) shift_words (operand_apart p) refl
+
+guarded_apart : (p : Plain) → begins_apart (guarded_words p) ≡ true
+guarded_apart Missing = refl
+guarded_apart (Local name) = refl
+guarded_apart (Unsigned p) = refl
+
+-- nor does a part begin with one
+part_apart : (locals : List (List ℕ)) (args : List Plain) (p : Part) → begins_apart (part_words locals args p) ≡ true
+part_apart locals args (part.Property name) = no_access (property_parts name) (property_tells name).takes
+part_apart locals args (part.Operand n) = guarded_apart (item_at Missing args n)
+part_apart locals args (part.Whole n) = operand_apart (item_at Missing args n)
+part_apart locals args other = refl
+
+parts_apart : (locals : List (List ℕ)) (args : List Plain) (parts : List Part) (more : List Word) → begins_apart more ≡ true
+    → begins_apart (parts_words parts locals args ++ more) ≡ true
+parts_apart locals args [] more h = h
+parts_apart locals args (p ∷ parts) more h =
+    subst (λ (words : List Word). begins_apart words ≡ true) (sym (append_assoc (part_words locals args p) (parts_words parts locals args) more))
+    (both_apart (part_words locals args p) (parts_words parts locals args ++ more) (part_apart locals args p) (parts_apart locals args parts more h))
+
 -- after a space or a line feed any part may stand
 after_gap : (text : List ℕ) (p : Part) → before_all (w.Gap text) (first_words p) ≡ true
 after_gap text (part.Property name) = refl
 after_gap text (part.Operand n) = refl
 after_gap text (part.Whole n) = refl
 after_gap text p = refl
-
-joined_none : (xs ys : List Word) → wasm_in xs ≡ [] → wasm_in ys ≡ [] → wasm_in (xs ++ ys) ≡ []
-joined_none xs ys h k = filter_map-append wasm_name xs ys ∙ ap (λ (ns : List (List ℕ)). ns ++ wasm_in ys) h ∙ k
 
 start_good : (name : List ℕ) → is_ident name ≡ true → list_all is_good (const_start name) ≡ true
 start_good name i = ap (λ (b : Bool). (((b && true) && true) && true) && true) i
@@ -745,8 +781,7 @@ start_each name next f = and_true _ _ f refl
 
 -- the statements of an expression that fits stand as lines, whatever the names of its locals and the operands are
 module _ (e : Expression) (f : Fitting e) (locals : List (List ℕ)) (same : length locals ≡ length e.locals)
-    (idents : Each (λ (x : List ℕ). is_ident x ≡ true) locals) (args : List Plain) (named : Each IsNamed args)
-    (none : (parts : List Part) → wasm_in (parts_words parts locals args) ≡ []) where
+    (idents : Each (λ (x : List ℕ). is_ident x ≡ true) locals) (args : List Plain) (named : Each IsNamed args) where
   there : (n : ℕ) → nat_lt n (length e.locals) ≡ true → is_ident (item_at [] locals n) ≡ true
   there n h =
       let lt : n < length locals = grind (arith, nat_tests, same) in
@@ -770,8 +805,8 @@ module _ (e : Expression) (f : Fitting e) (locals : List (List ℕ)) (same : len
   ended_each : each_next spaced ended (Some line_feed) ≡ true
   ended_each = each_next_both spaced value_words (semicolon ∷ []) (Some line_feed) stand.each refl
 
-  ended_none : wasm_in ended ≡ []
-  ended_none = joined_none value_words (semicolon ∷ []) (none e.value) refl
+  ended_apart : begins_apart ended ≡ true
+  ended_apart = parts_apart locals args e.value (semicolon ∷ []) refl
 
   -- the value behind a space or a line feed
   ended_behind : (text : List ℕ) → spaced (w.Gap text) (first_word ended (Some line_feed)) ≡ true
@@ -784,18 +819,18 @@ module _ (e : Expression) (f : Fitting e) (locals : List (List ℕ)) (same : len
 
   -- the statements before the value, and words behind them
   behind_prelude : (words : List Word) → list_all is_good words ≡ true → each_next spaced words (Some line_feed) ≡ true
-      → spaced line_feed (first_word words (Some line_feed)) ≡ true → wasm_in words ≡ [] → is_line (before_words ++ words) ≡ true
+      → spaced line_feed (first_word words (Some line_feed)) ≡ true → begins_apart words ≡ true → is_line (before_words ++ words) ≡ true
   behind_prelude words g k fed n =
       let above = prelude_stands (length e.locals) locals there args named (first_word words (Some line_feed)) fed e.prelude f.«prelude» in
       and_true _ _ (all_both is_good before_words words above.good g)
       (and_true _ _ (each_next_both spaced before_words words (Some line_feed) above.each k)
-      (no_access (before_words ++ words) (joined_none before_words words (none e.prelude) n)))
+      (parts_apart locals args e.prelude words n))
 
   pub run_stands : is_line (import_line_words None e locals args) ≡ true
-  run_stands = behind_prelude ended ended_good ended_each (ended_behind (codes "\n")) ended_none
+  run_stands = behind_prelude ended ended_good ended_each (ended_behind (codes "\n")) ended_apart
 
   pub bound_stands : (name : List ℕ) → is_ident name ≡ true → is_line (import_line_words (Some name) e locals args) ≡ true
   bound_stands name ident = behind_prelude (const_start name ++ ended)
       (all_both is_good (const_start name) ended (start_good name ident) ended_good)
       (each_next_both spaced (const_start name) ended (Some line_feed)
-      (start_each name (first_word ended (Some line_feed)) (ended_behind (codes " "))) ended_each) refl ended_none
+      (start_each name (first_word ended (Some line_feed)) (ended_behind (codes " "))) ended_each) refl refl

@@ -136,9 +136,10 @@ fixed_word part.LineFeed = Some line_feed
 fixed_word (part.Note text) = Some (w.Note Slash text)
 fixed_word other = None
 
--- the words of a part that reads properties, or goes by operands
+-- the words of a part that reads properties or an export, or goes by operands
 abbrev pub operand_words : List Plain → Part → List Word
 operand_words args (part.Host name fields) = w.Host name false ∷ path_words fields
+operand_words args (part.Export name) = w.Refer (codes "wasm") false ∷ w.Wasm name ∷ []
 operand_words args (part.Property name) = property_parts name
 operand_words args (part.Chained name) = chained_words name
 operand_words args (part.Operand n) = guarded_words (item_at Missing args n)
@@ -147,7 +148,7 @@ operand_words args (part.Arguments spread) = parenthesised (arguments_words true
 operand_words args (part.OtherArguments spread) = parenthesised (arguments_words true spread (below args))
 operand_words args other = []
 
--- the words of a part that goes by locals or operands, or reads properties
+-- the words of a part that goes by locals or operands, or reads properties or an export
 abbrev pub varied_words : (locals : List (List ℕ)) → List Plain → Part → List Word
 varied_words locals args (part.Binding n) = w.LocalBind (item_at [] locals n) ∷ []
 varied_words locals args (part.Local n) = w.Local (item_at [] locals n) ∷ []

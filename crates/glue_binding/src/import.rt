@@ -1,5 +1,5 @@
 //! The statements of an import's expression.
-ghost use Rattle.std.specs.Prelude.{◌≡◌, ◌++◌, ◌∷◌, [], false, map, IfOk, OnOk};
+ghost use Rattle.std.specs.Prelude.{◌≡◌, ◌++◌, ◌∷◌, [], false, codes, map, IfOk, OnOk};
 ghost use Rattle.glue_words.specs.declared.word.Word.TheVariants as w;
 ghost use Rattle.glue_scope.specs.Properties.{property_parts};
 ghost use Rattle.glue_steps.specs.Stack.{below, item_at};
@@ -36,6 +36,15 @@ fn push_host(
     for field in fields {
         push_field(alloc, field, words)?;
     }
+    Ok(())
+}
+
+// An export of the module.
+fn push_export(alloc: Global, name: &Text, words: &mut Seq<Word>) -> Result<(), AllocError>
+    ensures words { OnOk result (words.new ≡ words.old ++ (w.Refer (codes "wasm") false ∷ w.Wasm name.now ∷ [])) }
+{
+    words.push(Word::Refer(Text::from_str(alloc, "wasm")?, false))?;
+    words.push(Word::Wasm(name.copy(alloc)?))?;
     Ok(())
 }
 
@@ -137,7 +146,7 @@ fn fixed_word(alloc: Global, part: &Part) -> Result<Option<Word>, AllocError>
     }
 }
 
-// The words of a part that reads properties, or goes by operands.
+// The words of a part that reads properties or an export, or goes by operands.
 fn push_operands(
     alloc: Global,
     part: &Part,
@@ -148,6 +157,7 @@ fn push_operands(
 {
     match part {
         Part::Host(name, fields) => push_host(alloc, name, fields.as_slice(), words),
+        Part::Export(name) => push_export(alloc, name, words),
         Part::Property(name) => push_field(alloc, name, words),
         Part::Chained(name) => push_chained(alloc, name, words),
         Part::Operand(place) => push_guarded_at(alloc, operands, *place, words),
@@ -158,7 +168,7 @@ fn push_operands(
     }
 }
 
-// The words of a part that goes by locals or operands, or reads properties.
+// The words of a part that goes by locals or operands, or reads properties or an export.
 fn push_varied(
     alloc: Global,
     part: &Part,

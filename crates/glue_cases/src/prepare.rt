@@ -1,15 +1,10 @@
 use crate::compare::{assert_case, assert_told, shown};
-use glue_inputs::{CONFIG, settings};
+use glue_inputs::{CONFIG, EMPTY, MARKED, TABLE, TABLE_WITHOUT, settings};
 use glue_prepare::{Prepared, prepare};
 use glue_shared::{EncodeInto, Settings, Target};
 use std::alloc::{AllocError, Global};
 use std::test::Fail;
 use wasm_core::{Export, Module, ParseFault};
-
-const EMPTY: &[u8] = b"\0asm\x01\0\0\0";
-
-/// Nothing but the marker.
-pub const MARKED: &[u8] = b"\0asm\x01\0\0\0\0! __wasm_bindgen_emscripten_marker";
 
 /// Exports `memory`, `__indirect_function_table`, `__data_end`, `__heap_base` and `default`.
 const LINKED: &[u8] =
@@ -18,14 +13,6 @@ const LINKED: &[u8] =
 /// The same with the marker.
 const MARKED_LINKED: &[u8] =
     b"\0asm\x01\0\0\0\x01\x04\x01`\0\0\x03\x02\x01\0\x04\x04\x01p\0\x01\x05\x03\x01\0\x01\x06\x0b\x02\x7f\0A\x01\x0b\x7f\0A\x02\x0b\x07K\x05\x06memory\x02\0\x19__indirect_function_table\x01\0\x0a__data_end\x03\0\x0b__heap_base\x03\x01\x07default\0\0\x0a\x04\x01\x02\0\x0b\0! __wasm_bindgen_emscripten_marker";
-
-/// Exports `__externref_table_alloc`.
-pub const TABLE: &[u8] =
-    b"\0asm\x01\0\0\0\x01\x04\x01`\0\0\x03\x02\x01\0\x07\x1b\x01\x17__externref_table_alloc\0\0\x0a\x04\x01\x02\0\x0b";
-
-/// The same with a section that lists `-reference-types`.
-pub const TABLE_WITHOUT: &[u8] =
-    b"\0asm\x01\0\0\0\x01\x04\x01`\0\0\x03\x02\x01\0\x07\x1b\x01\x17__externref_table_alloc\0\0\x0a\x04\x01\x02\0\x0b\0\"\x0ftarget_features\x01-\x0freference-types";
 
 /// Lists `+reference-types` and `+multivalue`.
 const FEATURES: &[u8] =

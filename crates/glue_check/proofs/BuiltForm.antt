@@ -92,7 +92,6 @@ settings_built f s l h =
 pub record AreBuiltImports (s : Settings) (l : Lowered) : Type 0 where
   pub kinds : (place : ℕ) → IsIn place (own_imports s l.«module» l.wit l.aux) → spec.is_defined_kind l.«module» (entry_at l.«module».imports place) ≡ true
   pub expressions : (e : ℕ × AuxImport) → IsIn e l.aux.imports → (has_expression s e.1 || is_told s e) ≡ true
-  pub kept : s.omit_imports ≡ false
 
 pub imports_built : (f : FileFlags) (s : Settings) (l : Lowered) → unbuilt f s l ≡ None → AreBuiltImports s l
 unfolding answer is_unbuilt_entry
@@ -101,15 +100,11 @@ imports_built f s l h =
     let others = list_any (spec.is_other_own l.«module») own in
     let entries = list_any (is_unbuilt_entry s) l.aux.imports in
     let forms = others || entries in
-    let slots = is_some_item l.aux.static_slots in
-    let all = neither forms (slots || s.omit_imports) (where_true-none (forms || (slots || s.omit_imports)) _ (none_unbuilt conditions.UnbuiltImports f s l (search rules) h)) in
-    let both = neither others entries all.0 in
-    let rest = neither slots s.omit_imports all.1 in record {
+    let both = neither others entries (where_true-none forms _ (none_unbuilt conditions.UnbuiltImports f s l (search rules) h)) in record {
       kinds = λ place i.
           not_false (spec.is_defined_kind l.«module» (entry_at l.«module».imports place)) (list_any-none (spec.is_other_own l.«module») own place both.0 i);
       expressions = λ e i.
           not_false (has_expression s e.1 || is_told s e) (list_any-none (is_unbuilt_entry s) l.aux.imports e both.1 i);
-      kept = rest.1;
     }
 
 -- ---- exports

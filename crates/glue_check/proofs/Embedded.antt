@@ -1,18 +1,24 @@
--- Where there is no fault and all is built, each described import has an expression.
-use Rattle.std.proofs.Common.{◌≡◌, ℕ, Bool, true, false, not, ◌&&◌, None, Some, refl, ap, sym, ◌∙◌, rules, true≢false}
-use Rattle.std.specs.Prelude.{◌||◌, is_some}
+-- Where there is no fault and all is built, each described import has an expression, and the item of the module that it gives stands.
+use Rattle.std.proofs.Common.{◌≡◌, ℕ, List, Bool, true, false, not, ◌&&◌, cond, Option, None, Some, refl, ap, sym, ◌∙◌, rules, true≢false}
+use Rattle.std.specs.Prelude.{◌||◌, codes, is_some}
+use Rattle.std.proofs.lemmas.Bool.{and_parts}
 use Rattle.std.specs.List.{list_any}
 use Rattle.values.specs.Lists.{IsIn}
 use Rattle.glue_shared.specs.declared.import.AuxImport.{AuxImport}
+use Rattle.glue_shared.specs.declared.import.AuxImport.TheVariants as what
+use Rattle.glue_shared.specs.declared.import.Intrinsic.{Intrinsic}
+use Rattle.glue_shared.specs.declared.import.Intrinsic.TheVariants as i
 use Rattle.glue_shared.specs.declared.description.Lowered.{Lowered}
 use Rattle.glue_shared.specs.declared.settings.Settings.{Settings}
 use Rattle.glue_faults.specs.declared.fault.Fault.TheVariants as faults
 use Rattle.glue_faults.specs.First.{first_of}
 use Rattle.glue_faults.proofs.First.{first_of-none, list_any-none, option_map-none, where_true-none}
 use Rattle.glue_imports.specs.Expressions.{has_expression}
+use Rattle.glue_imports.specs.Given.{given_item, gives_item, is_giving}
 use Rattle.glue_check.specs.declared.verdict.Condition.TheVariants as conditions
 use Rattle.glue_check.specs.Answers.{answer}
 use Rattle.glue_check.specs.Links.{unembedded}
+use Rattle.glue_check.specs.Missing.{entry_lacks, excludes, has_sole_memory, is_excluded, lacked_part, lacked_unless, lacking, memory_there}
 use Rattle.glue_check.specs.TargetValues.{is_absent}
 use Rattle.glue_check.specs.Unbuilt.{is_told}
 use Rattle.glue_check.specs.Verdict.{verdict}
@@ -37,9 +43,52 @@ present s l h e i =
     (none_of conditions.IntrinsicTarget s l (search rules) h) in
     list_any-none (is_absent s.target) l.aux.imports e none i
 
+-- none lacks a part
+complete : (s : Settings) (l : Lowered) → verdict s l ≡ None → (e : ℕ × AuxImport) → IsIn e l.aux.imports → lacking s l e.1 ≡ None
+unfolding answer
+complete s l h e i =
+    let none = option_map-none faults.MissingPart (first_of (entry_lacks s l) l.aux.imports)
+    (none_of conditions.MissingPart s l (search rules) h) in
+    first_of-none (entry_lacks s l) l.aux.imports e none i
+
+-- a part that isn't lacked is there
+there_if : (there : Bool) (part : List ℕ) → lacked_unless there part ≡ None → there ≡ true
+there_if true part h = refl
+there_if false part h = cc
+
+-- so none goes by another way of keeping references
+unexcluded : (s : Settings) (l : Lowered) (w : AuxImport) → lacking s l w ≡ None → excludes s.externref w ≡ false
+unexcluded s l (what.Intrinsic name) h = by (is_excluded s.externref name) h
+  where
+    by : (b : Bool) → cond b (Some (codes "externref")) (lacked_part l name) ≡ None → b ≡ false
+    by true h = cc
+    by false h = refl
+unexcluded s l other h = refl
+
+-- nor does it lack a part then
+unlacked : (excluded : Bool) (part : Option (List ℕ)) → cond excluded (Some (codes "externref")) part ≡ None → part ≡ None
+unlacked true part h = cc
+unlacked false part h = h
+
+-- and the item that it gives stands
+given_by : (s : Settings) (l : Lowered) (w : AuxImport) → lacking s l w ≡ None → gives_item w ≡ true → is_some (given_item l w) ≡ true
+given_by s l (what.Intrinsic name) h g = by name (unlacked (is_excluded s.externref name) (lacked_part l name) h) g
+  where
+    by : (name : Intrinsic) → lacked_part l name ≡ None → is_giving name ≡ true → is_some (given_item l (what.Intrinsic name)) ≡ true
+    by i.Memory h g =
+        (and_parts (has_sole_memory l.«module».memories) (is_some (given_item l (what.Intrinsic i.Memory))) (there_if (memory_there l) (codes "memory") h)).1
+    by i.FunctionTable h g = there_if (is_some (given_item l (what.Intrinsic i.FunctionTable))) (codes "function_table") h
+    by i.InitExternrefTable h g = there_if (is_some (given_item l (what.Intrinsic i.InitExternrefTable))) (codes "externref_table") h
+    by other h g = absurd (true≢false (sym g))
+given_by s l other h g = absurd (true≢false (sym g))
+
+pub given_there : (s : Settings) (l : Lowered) → verdict s l ≡ None → (e : ℕ × AuxImport) → IsIn e l.aux.imports → gives_item e.1 ≡ true
+    → is_some (given_item l e.1) ≡ true
+given_there s l h e i g = given_by s l e.1 (complete s l h e i) g
+
 -- so no condition tells of an import
 untold : (s : Settings) (l : Lowered) → verdict s l ≡ None → (e : ℕ × AuxImport) → IsIn e l.aux.imports → is_told s e ≡ false
-untold s l h e i = rw (embedded s l h e i, present s l h e i) refl
+untold s l h e i = rw (embedded s l h e i, present s l h e i, unexcluded s l e.1 (complete s l h e i)) refl
 
 last_true : (a b : Bool) → (a || b) ≡ true → b ≡ false → a ≡ true
 last_true true b h k = refl

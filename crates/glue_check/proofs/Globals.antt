@@ -35,27 +35,27 @@ some_of (Some x) h = (x, refl)
 -- ---- names of the outside
 
 -- a name brings no fewer where imports are left out
-more_hosts : (omitted : Bool) (n : JsImportName) (x : List ℕ) → IsIn x (described_hosts false n) → IsIn x (described_hosts omitted n)
+pub more_hosts : (omitted : Bool) (n : JsImportName) (x : List ℕ) → IsIn x (described_hosts false n) → IsIn x (described_hosts omitted n)
 more_hosts omitted (js.Global name) x i = i
 more_hosts omitted (js.VendorPrefixed name prefixes) x i = i
 more_hosts omitted other x i = absurd i
 
 -- what a described name brings is of the outside
 pub described_host : (s : Settings) (l : Lowered) (n : JsImportName) → IsIn n (described_names l.aux) → (x : List ℕ)
-    → IsIn x (described_hosts false n) → IsIn x (host_names s l.aux)
+    → IsIn x (described_hosts s.omit_imports n) → IsIn x (host_names s l.aux)
 unfolding host_names
 described_host s l n i x k =
     let described = flat_map (described_hosts s.omit_imports) (described_names l.aux) in
     in_right x (map (λ w. w.now) HOSTS) (target_hosts s.target ++ (described ++ inspect_names s l.aux))
     (in_right x (target_hosts s.target) (described ++ inspect_names s l.aux)
     (in_left x described (inspect_names s l.aux)
-    (in_flat (described_hosts s.omit_imports) (described_names l.aux) n x i (more_hosts s.omit_imports n x k))))
+    (in_flat (described_hosts s.omit_imports) (described_names l.aux) n x i k)))
 
 -- and so is what an import brings
-pub brought_host : (s : Settings) (l : Lowered) (e : ℕ × AuxImport) → IsIn e l.aux.imports → (x : List ℕ) → IsIn x (brought false e.1)
+pub brought_host : (s : Settings) (l : Lowered) (e : ℕ × AuxImport) → IsIn e l.aux.imports → (x : List ℕ) → IsIn x (brought s.omit_imports e.1)
     → IsIn x (host_names s l.aux)
 brought_host s l e i x k =
-    let r = from_flat (described_hosts false) (names_of (js_import e.1)) x k in
+    let r = from_flat (described_hosts s.omit_imports) (names_of (js_import e.1)) x k in
     let imported = flat_map (λ (e : ℕ × AuxImport). names_of (js_import e.1)) l.aux.imports in
     described_host s l r.0
     (in_left r.0 imported (map (λ r. r.1.name) l.aux.reexports) (in_flat (λ (e : ℕ × AuxImport). names_of (js_import e.1)) l.aux.imports e r.0 i r.1)) x r.2

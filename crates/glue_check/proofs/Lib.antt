@@ -2,10 +2,14 @@ pub mod BuiltForm
 pub mod Called
 pub mod Conditions
 mod Described
+pub mod EachOnce
 pub mod ExportNames
 pub mod FaultKinds
 pub mod Globals
 pub mod Embedded
+pub mod ImportOrder
+mod SeenNames
+mod OmittedNames
 pub mod OwnNames
 mod Operands
 pub mod OwnPairs

@@ -14,8 +14,6 @@ use Rattle.glue_shared.specs.declared.import.AuxValue.TheVariants as v
 use Rattle.glue_shared.specs.declared.import.Intrinsic.{Intrinsic}
 use Rattle.glue_shared.specs.declared.import.Intrinsic.TheVariants as i
 use Rattle.glue_shared.specs.declared.import.JsImport.{JsImport}
-use Rattle.glue_shared.specs.declared.import.JsImportName.{JsImportName}
-use Rattle.glue_shared.specs.declared.import.JsImportName.TheVariants as names
 use Rattle.glue_shared.specs.declared.name_map.NameMap.{NameMap}
 use Rattle.glue_shared.specs.declared.settings.Settings.{Settings}
 use Rattle.glue_shared.specs.declared.settings.Target.{Target}
@@ -23,8 +21,9 @@ use Rattle.glue_shared.specs.declared.settings.Target.TheVariants as targets
 use Rattle.glue_imports.specs.declared.part.Part.{Part}
 use Rattle.glue_imports.specs.declared.part.Part.TheVariants as part
 use Rattle.glue_imports.specs.declared.part.Expression.{Expression}
-use Rattle.glue_imports.specs.Roots.{root_name, root_of, root}
+use Rattle.glue_imports.specs.Roots.{begins, begins_with, drawn_name, plain_name, root}
 use Rattle.glue_imports.specs.Preludes.{line_end, catch_front, result_is, close_line, plain, instance_of, cast, linked, present}
+use Rattle.glue_imports.specs.Given.{Given, false_set, last_of, set_text, statements, table_filled, texts_from}
 use Rattle.glue_imports.specs.Expressions.{around, assigned, index, new_front, delete_front, accessor_front, owner, described_call, accessor, value_parts, static_parts, parts_of, loaded, intrinsic_expression, expression}
 use Rattle.glue_imports.specs.Intrinsics.{declares_instance, declares_module, name_if}
 use Rattle.glue_adapters.specs.Called.{intrinsic_count, argument_count, is_count, may_spread, fewest, fits_count}
@@ -75,11 +74,11 @@ fields_asked [] behind = refl
 fields_asked (field ∷ fields) behind = zero_max (operands_asked (map part.Property fields ++ behind)) ∙ fields_asked fields behind
 
 root_asked : (m : NameMap) (js : JsImport) (behind : List Part) → operands_asked (root m js ++ behind) ≡ operands_asked behind
-root_asked m js behind = by js.name
+root_asked m js behind = by (drawn_name m js.name)
   where
-    by : (n : JsImportName) → operands_asked (root_of m js.fields n ++ behind) ≡ operands_asked behind
-    by (names.Global name) = zero_max (operands_asked behind)
-    by other = zero_max (operands_asked (map part.Property js.fields ++ behind)) ∙ fields_asked js.fields behind
+    by : (drawn : Option (List ℕ)) → operands_asked (begins_with js.fields drawn (plain_name js.name) ++ behind) ≡ operands_asked behind
+    by None = zero_max (operands_asked behind)
+    by (Some drawn) = zero_max (operands_asked (map part.Property js.fields ++ behind)) ∙ fields_asked js.fields behind
 
 around_asked : (m : NameMap) (front : List Part) (js : JsImport) (behind : List Part) → operands_asked (around m front js behind) ≡ operands_asked (front ++ behind)
 around_asked m [] js behind = root_asked m js behind
@@ -103,17 +102,33 @@ loaded_suffices : (declared : Bool) (name : List ℕ) → suffices (Some 0) (ask
 loaded_suffices true name = refl
 loaded_suffices false name = refl
 
-intrinsic_suffices : (target : Target) (externref bound : Bool) (name : Intrinsic)
-    → suffices (intrinsic_count name) (asked_if (intrinsic_expression target externref bound name)) ≡ true
-intrinsic_suffices target externref true i.ObjectCloneRef = refl
-intrinsic_suffices target externref true i.ObjectDropRef = refl
-intrinsic_suffices target externref false i.ObjectCloneRef = refl
-intrinsic_suffices target externref false i.ObjectDropRef = refl
-intrinsic_suffices target true bound i.ExternrefHeapLiveCount = refl
-intrinsic_suffices target false bound i.ExternrefHeapLiveCount = refl
-intrinsic_suffices target externref bound i.Instance = loaded_suffices (declares_instance target) (codes "wasmInstance")
-intrinsic_suffices target externref bound i.Module = loaded_suffices (declares_module target) (codes "wasmModule")
-intrinsic_suffices target externref bound other = refl
+-- a table of references is filled without one
+filled_asked : (place : ℕ) (text : List ℕ) (slots : List (ℕ × List ℕ))
+    → operands_asked (statements (set_text (place, text)) slots ++ last_of (set_text (place, text)) slots) ≡ 0
+filled_asked place text [] = refl
+filled_asked place text (slot ∷ slots) = rw (filled_asked slot.0 slot.1 slots) refl
+
+table_asked : (slots : List (ℕ × List ℕ)) → operands_asked (statements false_set slots ++ last_of false_set slots) ≡ 0
+table_asked [] = refl
+table_asked (slot ∷ slots) = rw (filled_asked slot.0 slot.1 slots) refl
+
+table_suffices : (externref : Bool) (g : Given) → suffices None (asked_if (table_filled externref g)) ≡ true
+table_suffices true g = rw (table_asked (texts_from 1028 g.slots)) refl
+table_suffices false g = refl
+
+intrinsic_suffices : (target : Target) (externref : Bool) (g : Given) (bound : Bool) (name : Intrinsic)
+    → suffices (intrinsic_count name) (asked_if (intrinsic_expression target externref g bound name)) ≡ true
+intrinsic_suffices target externref g true i.ObjectCloneRef = refl
+intrinsic_suffices target externref g true i.ObjectDropRef = refl
+intrinsic_suffices target externref g false i.ObjectCloneRef = refl
+intrinsic_suffices target externref g false i.ObjectDropRef = refl
+intrinsic_suffices target true g bound i.ExternrefHeapLiveCount = refl
+intrinsic_suffices target false g bound i.ExternrefHeapLiveCount = refl
+intrinsic_suffices target true g bound i.InitExternrefTable = table_suffices true g
+intrinsic_suffices target false g bound i.InitExternrefTable = refl
+intrinsic_suffices target externref g bound i.Instance = loaded_suffices (declares_instance target) (codes "wasmInstance")
+intrinsic_suffices target externref g bound i.Module = loaded_suffices (declares_module target) (codes "wasmModule")
+intrinsic_suffices target externref g bound other = refl
 
 accessor_suffices : (m : NameMap) (js : JsImport) (of_instances : Bool) (field which : List ℕ) (spread : Bool)
     → suffices None (operands_asked (accessor m js of_instances (described_call field which spread))) ≡ true
@@ -140,19 +155,19 @@ chained_asked [] = refl
 chained_asked (field ∷ fields) = rw (chained_asked fields) refl
 
 static_suffices : (m : NameMap) (js : JsImport) (optional : Bool) → suffices (Some 0) (operands_asked (static_parts m js optional)) ≡ true
-static_suffices m js true = by js.name
+static_suffices m js true = by (drawn_name m js.name)
   where
-    by : (n : JsImportName) → suffices (Some 0) (operands_asked (present (root_name m n) js.fields)) ≡ true
-    by (names.Global name) = rw (chained_asked js.fields) refl
-    by other = rw (chained_asked js.fields) refl
+    by : (drawn : Option (List ℕ)) → suffices (Some 0) (operands_asked (present (begins drawn (plain_name js.name)) js.fields)) ≡ true
+    by None = rw (chained_asked js.fields) refl
+    by (Some drawn) = rw (chained_asked js.fields) refl
 static_suffices m js false = ap (λ (ps : List Part). suffices (Some 0) (operands_asked ps)) (sym (append-nil (root m js))) ∙ ap (suffices (Some 0)) (root_asked m js [])
 
 instance_suffices : (m : NameMap) (js : JsImport) → suffices (Some 1) (expression_asked (instance_of (root m js))) ≡ true
-instance_suffices m js = by js.name
+instance_suffices m js = by (drawn_name m js.name)
   where
-    by : (n : JsImportName) → suffices (Some 1) (expression_asked (instance_of (root_of m js.fields n))) ≡ true
-    by (names.Global name) = refl
-    by other = rw (fields_within js.fields line_end (catch_front ++ part.LineFeed ∷ result_is (part.Key key.FALSE ∷ line_end) ++ close_line) (part.Local 0 ∷ [])) refl
+    by : (drawn : Option (List ℕ)) → suffices (Some 1) (expression_asked (instance_of (begins_with js.fields drawn (plain_name js.name)))) ≡ true
+    by None = refl
+    by (Some drawn) = rw (fields_within js.fields line_end (catch_front ++ part.LineFeed ∷ result_is (part.Key key.FALSE ∷ line_end) ++ close_line) (part.Local 0 ∷ [])) refl
 
 cast_suffices : (bound : Bool) (comment : List ℕ) → suffices (Some 1) (expression_asked (cast bound comment)) ≡ true
 cast_suffices true comment = refl
@@ -198,21 +213,21 @@ plain_given m call spread w count h few =
     subst (λ (n : ℕ). n ≤ count) (sym (plain_asked (parts_of m call spread w))) (parts_given m call spread w count h few)
 
 -- and so with any other
-asked_given : (s : Settings) (m : NameMap) (call : AdapterJsImportKind) (spread bound : Bool) (w : AuxImport) (count : ℕ)
-    → is_count (argument_count w) count ≡ true → nat_le (fewest spread w) count ≡ true → asked_if (expression s m call spread bound w) ≤ count
-asked_given s m call spread bound (what.Instanceof js) count h few = given (Some 1) _ count (instance_suffices m js) h
-asked_given s m call spread bound (what.Cast comment) count h few = given (Some 1) _ count (cast_suffices bound comment) h
-asked_given s m call spread bound (what.LinkTo path content) count h few =
+asked_given : (s : Settings) (m : NameMap) (g : Given) (call : AdapterJsImportKind) (spread bound : Bool) (w : AuxImport) (count : ℕ)
+    → is_count (argument_count w) count ≡ true → nat_le (fewest spread w) count ≡ true → asked_if (expression s m g call spread bound w) ≤ count
+asked_given s m g call spread bound (what.Instanceof js) count h few = given (Some 1) _ count (instance_suffices m js) h
+asked_given s m g call spread bound (what.Cast comment) count h few = given (Some 1) _ count (cast_suffices bound comment) h
+asked_given s m g call spread bound (what.LinkTo path content) count h few =
     given (Some 0) _ count (link_suffices s.split_linked_modules s.target path content) h
-asked_given s m call spread bound (what.Intrinsic name) count h few =
-    given (intrinsic_count name) (asked_if (intrinsic_expression s.target s.externref bound name)) count
-    (intrinsic_suffices s.target s.externref bound name) h
-asked_given s m call spread bound other count h few = plain_given m call spread other count h few
+asked_given s m g call spread bound (what.Intrinsic name) count h few =
+    given (intrinsic_count name) (asked_if (intrinsic_expression s.target s.externref g bound name)) count
+    (intrinsic_suffices s.target s.externref g bound name) h
+asked_given s m g call spread bound other count h few = plain_given m call spread other count h few
 
 -- so each operand that its text names is there
-pub operands_given : (s : Settings) (m : NameMap) (call : AdapterJsImportKind) (spread bound : Bool) (w : AuxImport) (count : ℕ) (text : Expression)
-    → fits_count spread w count ≡ true → expression s m call spread bound w ≡ Some text → expression_asked text ≤ count
-operands_given s m call spread bound w count text h e =
+pub operands_given : (s : Settings) (m : NameMap) (g : Given) (call : AdapterJsImportKind) (spread bound : Bool) (w : AuxImport) (count : ℕ) (text : Expression)
+    → fits_count spread w count ≡ true → expression s m g call spread bound w ≡ Some text → expression_asked text ≤ count
+operands_given s m g call spread bound w count text h e =
     let given = and_parts (is_count (argument_count w) count) _ h in
     let few = and_parts (not spread || may_spread w) (nat_le (fewest spread w) count) given.1 in
-    subst (λ (o : Option Expression). asked_if o ≤ count) e (asked_given s m call spread bound w count given.0 few.1)
+    subst (λ (o : Option Expression). asked_if o ≤ count) e (asked_given s m g call spread bound w count given.0 few.1)

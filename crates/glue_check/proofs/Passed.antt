@@ -27,7 +27,8 @@ use Rattle.glue_shared.specs.Names.{is_one_of, has_number, fixed_names, describe
 use Rattle.glue_adapters.specs.Resolving.{entry_at}
 use Rattle.glue_faults.specs.declared.fault.Fault.TheVariants as faults
 use Rattle.glue_faults.specs.First.{first_of, first_after, where_true}
-use Rattle.glue_faults.specs.Clash.{first_clash, AreCompatible}
+use Rattle.glue_faults.specs.Clash.{first_clash, first_clash_after, AreCompatible}
+use Rattle.glue_faults.specs.declared.fault.Fault.{Fault}
 use Rattle.glue_faults.proofs.First.{first_of-none, some-none, where_true-none, option_map-none, find-none, neither}
 use Rattle.glue_faults.proofs.After.{after-none, new_numbers}
 use Rattle.glue_faults.proofs.Apart.{compatible}
@@ -42,12 +43,14 @@ use Rattle.glue_check.specs.declared.modules.Claimed.{Claimed}
 use Rattle.glue_check.specs.Modules as modules
 use Rattle.glue_check.specs.Modules.{clashing_module, foreign_module}
 use Rattle.glue_check.specs.Naming as naming
-use Rattle.glue_check.specs.Naming.{bad_text, name_clash}
+use Rattle.glue_check.specs.Naming.{bad_text, name_clash, written_clash}
 use Rattle.glue_check.specs.Publishing as publishing
-use Rattle.glue_check.specs.Taken.{brought}
+use Rattle.glue_check.specs.Omitted.{omitted_names, other_names}
+use Rattle.glue_check.specs.Taken.{brought, global_begun, name_if}
 use Rattle.glue_check.specs.Verdict.{verdict, is_shared}
 use Rattle.glue_check.proofs.Conditions.{none_of}
 use Rattle.glue_check.proofs.BuiltForm.{away, not_false}
+use Rattle.glue_check.proofs.OmittedNames.{either_brought, none_fixed}
 
 -- no memory is shared
 pub no_threads : (s : Settings) (l : Lowered) → verdict s l ≡ None → list_any is_shared l.«module».memories ≡ false
@@ -220,9 +223,9 @@ imports_bound s l h k i fixed =
 abbrev names_of : Settings → Lowered → List (List ℕ)
 names_of s l = own_names s l.«module» l.wit l.aux
 
-no_texts : (s : Settings) (l : Lowered) → verdict s l ≡ None → bad_text (names_of s l) l.aux ≡ None
+no_texts : (s : Settings) (l : Lowered) → verdict s l ≡ None → bad_text s.omit_imports (names_of s l) l.aux ≡ None
 unfolding answer
-no_texts s l h = option_map-none faults.BadName (bad_text (names_of s l) l.aux) (none_of conditions.BadName s l (search rules) h)
+no_texts s l h = option_map-none faults.BadName (bad_text s.omit_imports (names_of s l) l.aux) (none_of conditions.BadName s l (search rules) h)
 
 chosen-none : (name : List ℕ) (o : Option (List ℕ)) (f : List ℕ → Option (List ℕ)) → o ≡ Some name → option_and_then f o ≡ None → f name ≡ None
 chosen-none name None f e h = cc
@@ -230,26 +233,63 @@ chosen-none name (Some other) f e h = let same : name ≡ other = cc in ap f sam
 
 -- the names of the outside that an import brings are identifiers
 pub brought_ident : (s : Settings) (l : Lowered) → verdict s l ≡ None → (e : ℕ × AuxImport) → IsIn e l.aux.imports → (name : List ℕ)
-    → IsIn name (brought false e.1) → is_ident name ≡ true
+    → IsIn name (brought s.omit_imports e.1) → is_ident name ≡ true
 unfolding bad_text
 brought_ident s l h e i name k =
-    let none = some-none (first_of naming.bad_segment l.aux.exports ∷ first_of naming.bad_brought l.aux.imports ∷ find naming.is_proto (names_of s l) ∷ []) (first_of naming.bad_brought l.aux.imports) (no_texts s l h) (inr (inl refl)) in
-    not_false (is_ident name) (find-none (λ (n : List ℕ). not (is_ident n)) (brought false e.1) name (first_of-none naming.bad_brought l.aux.imports e none i) k)
+    let bad = naming.bad_brought s.omit_imports in
+    let none = some-none (first_of naming.bad_segment l.aux.exports ∷ first_of bad l.aux.imports ∷ find naming.is_proto (names_of s l) ∷ []) (first_of bad l.aux.imports) (no_texts s l h) (inr (inl refl)) in
+    not_false (is_ident name) (find-none (λ (n : List ℕ). not (is_ident n)) (brought s.omit_imports e.1) name (first_of-none bad l.aux.imports e none i) k)
 
--- and none that the glue file binds
-pub brought_apart : (s : Settings) (l : Lowered) → verdict s l ≡ None → (e : ℕ × AuxImport) → IsIn e l.aux.imports → (name : List ℕ)
+neither_answer : {A : Type 0} (o later : Option A) → option_or o later ≡ None → (o ≡ None) × (later ≡ None)
+neither_answer None later h = (refl, h)
+neither_answer (Some x) later h = cc
+
+-- of those that it brings where imports are kept none is one that the glue file binds
+kept_apart : (s : Settings) (l : Lowered) → verdict s l ≡ None → (e : ℕ × AuxImport) → IsIn e l.aux.imports → (name : List ℕ)
     → IsIn name (brought false e.1) → IsAway name (fixed_names s l.«module»)
 unfolding answer
-brought_apart s l h e i name k =
+kept_apart s l h e i name k =
     let taken = fixed_names s l.«module» in
-    let none = option_map-none faults.GlobalTwice (first_of (naming.taken_brought taken) l.aux.imports) (none_of conditions.GlobalTwice s l (search rules) h) in
-    away name taken (find-none (is_one_of taken) (brought false e.1) name (first_of-none (naming.taken_brought taken) l.aux.imports e none i) k)
+    let given = omitted_names s.omit_imports l.aux.imports in
+    let twice = naming.taken_brought taken given in
+    let none = option_map-none faults.GlobalTwice (first_of twice l.aux.imports) (none_of conditions.GlobalTwice s l (search rules) h) in
+    let both = neither_answer (find (is_one_of taken) (brought false e.1)) (name_if (is_one_of given) (global_begun e.1)) (first_of-none twice l.aux.imports e none i) in
+    away name taken (find-none (is_one_of taken) (brought false e.1) name both.0 k)
+
+-- no name stands for two things
+no_clashes : (s : Settings) (l : Lowered) → verdict s l ≡ None → (naming.omitted_clash s l ≡ None) × (written_clash s l ≡ None)
+unfolding answer name_clash
+no_clashes s l h = neither_answer (naming.omitted_clash s l) (written_clash s l) (none_of conditions.NameClash s l (search rules) h)
+
+-- of the module that is written
+no_written : (s : Settings) (l : Lowered) → verdict s l ≡ None → (one : Option Fault)
+    → IsIn one (naming.import_clash (names_of s l) ∷ naming.wasm_clash l.«module».exports ∷ naming.start_clash l.«module» ∷ []) → one ≡ None
+unfolding written_clash
+no_written s l h one i =
+    some-none (naming.import_clash (names_of s l) ∷ naming.wasm_clash l.«module».exports ∷ naming.start_clash l.«module» ∷ []) one (no_clashes s l h).1 i
+
+-- and of names from modules, by which imports are used where they are left out, none is
+omitted_apart : (s : Settings) (l : Lowered) → verdict s l ≡ None → (name : List ℕ) → IsIn name (omitted_names s.omit_imports l.aux.imports)
+    → IsAway name (fixed_names s l.«module»)
+omitted_apart s l h name i =
+    let names = omitted_names s.omit_imports l.aux.imports in
+    let none = option_map-none faults.NameClash (first_clash_after bytes_eq (other_names s l) names) (no_clashes s l h).0 in
+    away name (fixed_names s l.«module») (none_fixed s l names name none i)
+
+-- so none that it brings is one that the glue file binds
+pub brought_apart : (s : Settings) (l : Lowered) → verdict s l ≡ None → (e : ℕ × AuxImport) → IsIn e l.aux.imports → (name : List ℕ)
+    → IsIn name (brought s.omit_imports e.1) → IsAway name (fixed_names s l.«module»)
+brought_apart s l h e i name k = elim (either_brought s.omit_imports l.aux.imports e i name k) [
+  | inl here ↦ kept_apart s l h e i name here
+  | inr named ↦ omitted_apart s l h name named
+]
 
 -- no import that the glue file defines is called `__proto__`
 pub import_named : (s : Settings) (l : Lowered) → verdict s l ≡ None → (name : List ℕ) → IsIn name (names_of s l) → naming.is_proto name ≡ false
 unfolding bad_text
 import_named s l h name i =
-    let none = some-none (first_of naming.bad_segment l.aux.exports ∷ first_of naming.bad_brought l.aux.imports ∷ find naming.is_proto (names_of s l) ∷ []) (find naming.is_proto (names_of s l)) (no_texts s l h) (inr (inr (inl refl))) in
+    let bad = first_of (naming.bad_brought s.omit_imports) l.aux.imports in
+    let none = some-none (first_of naming.bad_segment l.aux.exports ∷ bad ∷ find naming.is_proto (names_of s l) ∷ []) (find naming.is_proto (names_of s l)) (no_texts s l h) (inr (inr (inl refl))) in
     find-none naming.is_proto (names_of s l) name none i
 
 -- ---- things of one name
@@ -270,9 +310,8 @@ distinct_names (Some e ∷ exports) h =
 
 -- no two exports of the module have one name
 pub distinct_exports : (s : Settings) (l : Lowered) → verdict s l ≡ None → AreDistinct (export_names l.«module»)
-unfolding answer name_clash
 distinct_exports s l h =
-    let none = some-none (naming.import_clash (names_of s l) ∷ naming.wasm_clash l.«module».exports ∷ naming.start_clash l.«module» ∷ []) (naming.wasm_clash l.«module».exports) (none_of conditions.NameClash s l (search rules) h) (inr (inl refl)) in
+    let none = no_written s l h (naming.wasm_clash l.«module».exports) (inr (inl refl)) in
     distinct_names l.«module».exports (compatible naming.same_export l.«module».exports (option_map-none (λ e. faults.NameClash (naming.name_of e)) (first_clash naming.same_export l.«module».exports) none))
 
 distinct_texts : (names : List (List ℕ)) → AreCompatible bytes_eq names → AreDistinct names
@@ -281,16 +320,11 @@ distinct_texts (name ∷ names) h = (λ i. false≢true (sym (h.0 name i) ∙ (b
 
 -- no two imports that the glue file defines have one name
 pub distinct_own : (s : Settings) (l : Lowered) → verdict s l ≡ None → AreDistinct (names_of s l)
-unfolding answer name_clash
 distinct_own s l h =
-    let none = some-none (naming.import_clash (names_of s l) ∷ naming.wasm_clash l.«module».exports ∷ naming.start_clash l.«module» ∷ []) (naming.import_clash (names_of s l)) (none_of conditions.NameClash s l (search rules) h) (inl refl) in
+    let none = no_written s l h (naming.import_clash (names_of s l)) (inl refl) in
     distinct_texts (names_of s l) (compatible bytes_eq (names_of s l) (option_map-none faults.NameClash (first_clash bytes_eq (names_of s l)) none))
 
 -- ---- modules
-
-neither_answer : {A : Type 0} (o later : Option A) → option_or o later ≡ None → (o ≡ None) × (later ≡ None)
-neither_answer None later h = (refl, h)
-neither_answer (Some x) later h = cc
 
 no_clash : (s : Settings) (l : Lowered) → verdict s l ≡ None → (first_of modules.reserved_in (described_names l.aux) ≡ None) × (foreign_module s l ≡ None)
 unfolding answer clashing_module

@@ -7,7 +7,8 @@ use Rattle.wasm_core.specs.entries.Export.{Export}
 use Rattle.glue_shared.specs.declared.aux.AuxExport.{AuxExport}
 use Rattle.glue_faults.specs.Clash.{first_clash, first_told}
 use Rattle.glue_faults.proofs.Clashes.{ByWords, among, first_told_is}
-use Rattle.glue_check.specs.Naming.{same_export, export_words, one_word, name_where}
+use Rattle.glue_check.specs.Naming.{same_export, export_words, one_word}
+use Rattle.glue_check.specs.Omitted.{name_where}
 use Rattle.glue_check.specs.Publishing.{same_path, qualified_words, qualified}
 use Rattle.glue_check.specs.Unbuilt.{is_function_kind}
 

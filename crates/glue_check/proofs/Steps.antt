@@ -9,7 +9,6 @@ use Rattle.std.proofs.lemmas.Bool.Decides.{nat_tests}
 use Rattle.values.specs.Lists.{IsIn}
 use Rattle.wasm_core.specs.ids.ImportId.{ImportId}
 use Rattle.wasm_core.specs.entries.Export.{Export}
-use Rattle.glue_words.specs.Ident.{is_ident}
 use Rattle.glue_shared.specs.declared.adapter.Adapter.{Adapter}
 use Rattle.glue_shared.specs.declared.adapter.AdapterJsImportKind.{AdapterJsImportKind}
 use Rattle.glue_shared.specs.declared.adapter.Instruction.{Instruction}
@@ -19,11 +18,11 @@ use Rattle.glue_shared.specs.declared.import.AuxImport.{AuxImport}
 use Rattle.glue_shared.specs.declared.description.Lowered.{Lowered}
 use Rattle.glue_shared.specs.declared.name_map.NameMap.{NameMap}
 use Rattle.glue_shared.specs.declared.settings.Settings.{Settings}
-use Rattle.glue_shared.specs.Names.{entry_of, has_number, host_names, own_imports}
+use Rattle.glue_shared.specs.Names.{entry_of, has_number, own_imports}
 use Rattle.glue_shared.specs.Names as described_names
 use Rattle.glue_adapters.specs.step.Step.{Step}
 use Rattle.glue_adapters.specs.step.Step.TheVariants.{CallExport, CallImport, TakeIndex, IndexFromBorrow, UnwrapResult}
-use Rattle.glue_adapters.specs.Resolving.{entry_at, is_some_item, export_step, is_spread, import_step_of, import_step, step_of, steps_of, adapter_steps}
+use Rattle.glue_adapters.specs.Resolving.{entry_at, is_some_item, export_step, given_of, is_spread, import_step_of, import_step, step_of, steps_of, adapter_steps}
 use Rattle.glue_adapters.specs.Exported.{export_name, export_names}
 use Rattle.glue_adapters.specs.declared.kind.Kind.{Kind}
 use Rattle.glue_adapters.specs.Adapters.{adapter_at, code_of, has_code, is_import, is_import_call, is_described_call, fits_outward, fits_inward}
@@ -32,19 +31,19 @@ use Rattle.glue_adapters.specs.Stack.{js_kinds, export_type, call_effect, effect
 use Rattle.glue_check.specs.declared.files.FileFlags.{FileFlags}
 use Rattle.glue_imports.specs.declared.part.Expression.{Expression}
 use Rattle.glue_imports.specs.Expressions.{expression}
+use Rattle.glue_imports.specs.Given.{given_item, gives_item}
 use Rattle.glue_imports.proofs.Any.{any_call}
 use Rattle.glue_check.specs.Handed.{own_callees}
-use Rattle.glue_check.specs.Taken.{brought}
 use Rattle.glue_check.specs.Unbuilt.{is_unbuilt_instruction}
 use Rattle.glue_check.specs.Verdict.{unbuilt, verdict}
 use Rattle.glue_check.proofs.BuiltForm.{AreBuiltImports, imports_built, adapters_built}
 use Rattle.glue_check.proofs.Called.{called_own}
-use Rattle.glue_check.proofs.Globals.{brought_host, some_of}
-use Rattle.glue_check.proofs.Embedded.{expression_there}
-use Rattle.glue_check.proofs.Passed.{exports_fit, pairs_fit, looked_up, brought_ident}
+use Rattle.glue_check.proofs.Globals.{some_of}
+use Rattle.glue_check.proofs.Embedded.{expression_there, given_there}
+use Rattle.glue_check.proofs.Passed.{exports_fit, pairs_fit, looked_up}
 
--- the expression of a described import that an adapter of an own import calls, where these names are drawn; what it brings of the outside
--- are identifiers, and known names
+-- the expression of a described import that an adapter of an own import calls, where these names are drawn; the item of the module that it
+-- gives stands
 pub record IsDescribed (s : Settings) (l : Lowered) (names : NameMap) (text : Expression) : Type 0 where
   pub entry : ℕ × AuxImport
   pub among : IsIn entry l.aux.imports
@@ -53,9 +52,8 @@ pub record IsDescribed (s : Settings) (l : Lowered) (names : NameMap) (text : Ex
   pub call : AdapterJsImportKind
   pub spread : Bool
   pub bound : Bool
-  pub is : expression s names call spread bound entry.1 ≡ Some text
-  pub ident : (name : List ℕ) → IsIn name (brought false entry.1) → is_ident name ≡ true
-  pub host : (name : List ℕ) → IsIn name (brought false entry.1) → IsIn name (host_names s l.aux)
+  pub is : expression s names (given_of names l entry.1) call spread bound entry.1 ≡ Some text
+  pub given : gives_item entry.1 ≡ true → is_some (given_item l entry.1) ≡ true
 
 -- what a step names is there: an export of the module, or the expression of a described import
 abbrev pub IsThere : Settings → Lowered → NameMap → Step → Type 0
@@ -115,7 +113,8 @@ module _ (s : Settings) (l : Lowered) (names : NameMap) where
   entry_step built passed id e i own first a call =
       let spread = is_spread l id in
       let bound = is_some_item a.results in
-      let g = some_of (expression s names call spread bound e.1) (any_call s names call spread bound e.1 ∙ expression_there s l built passed e i) in
+      let given = given_of names l e.1 in
+      let g = some_of (expression s names given call spread bound e.1) (any_call s names given call spread bound e.1 ∙ expression_there s l built passed e i) in
       rw g.1 (record {
         entry = e;
         among = i;
@@ -125,8 +124,7 @@ module _ (s : Settings) (l : Lowered) (names : NameMap) where
         spread = spread;
         bound = bound;
         is = g.1;
-        ident = brought_ident s l passed e i;
-        host = brought_host s l e i;
+        given = given_there s l passed e i;
       })
 
   -- a call of such a described import adapter is a step

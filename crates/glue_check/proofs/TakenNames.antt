@@ -1,7 +1,7 @@
 -- Names that are put into a set one list after another, and what is asked of such a set.
 use Rattle.std.proofs.Common.{◌≡◌, ℕ, zero, suc, ◌+◌, ◌-◌, ◌<◌, List, [], ◌∷◌, ◌++◌, map, length, drop, get_or, codes, Bool, true, false, ◌&&◌, ◌||◌, not, Option, Some, None, refl, sym, ap, ◌∙◌, arith, add-one, drop-cons}
 use Rattle.std.specs.Fmt.{decimal}
-use Rattle.std.specs.Prelude.{cond, find}
+use Rattle.std.specs.Prelude.{cond, find, option_and_then}
 use Rattle.std.specs.List.{list_any, flat_map}
 use Rattle.std.specs.Option.{option_or}
 use Rattle.std.specs.Ordering.{nat_cmp}
@@ -19,10 +19,10 @@ use Rattle.glue_shared.specs.declared.import.JsImport.{JsImport}
 use Rattle.glue_shared.specs.declared.names.TheConstants.{HOSTS, HELPER_NAMES, MEMORY_NAMES, TABLE_NAMES, TARGET_NAMES}
 use Rattle.glue_shared.specs.declared.settings.Settings.{Settings}
 use Rattle.glue_shared.specs.Names.{is_one_of, names_of, js_import, described_names, described_hosts, target_hosts, inspect_names, host_names, placed_names, import_names, live_count, global_names, helper_names, fixed_names}
-use Rattle.glue_faults.specs.First.{first_of}
+use Rattle.glue_faults.specs.First.{first_of, where_true}
 use Rattle.glue_faults.proofs.Clashes.{told_more}
 use Rattle.glue_check.specs.Naming.{taken_brought}
-use Rattle.glue_check.specs.Taken.{brought, numbered_by, entry_names, brought_in}
+use Rattle.glue_check.specs.Taken.{brought, global_begun, global_of, name_if, numbered_by, entry_names, brought_in}
 
 -- ---- lists that are put in one after another
 
@@ -42,6 +42,13 @@ brought_some omitted what js h = ap (λ o. flat_map (described_hosts omitted) (n
 
 pub brought_none : (omitted : Bool) (what : AuxImport) → js_import what ≡ None → brought omitted what ≡ []
 brought_none omitted what h = ap (λ o. flat_map (described_hosts omitted) (names_of o)) h
+
+-- the global that an import begins with, where it begins with a name and where it begins with none
+pub global_some : (what : AuxImport) (js : JsImport) → js_import what ≡ Some js → global_begun what ≡ global_of js.name
+global_some what js h = ap (option_and_then (λ (js : JsImport). global_of js.name)) h
+
+pub global_none : (what : AuxImport) → js_import what ≡ None → global_begun what ≡ None
+global_none what h = ap (option_and_then (λ (js : JsImport). global_of js.name)) h
 
 flat_twice : {A B C : Type 0} (f : B → List C) (g : A → List B) (xs : List A) → flat_map f (flat_map g xs) ≡ flat_map (λ x. flat_map f (g x)) xs
 flat_twice f g [] = refl
@@ -144,10 +151,10 @@ placed_step taken stems i entries e within here =
 -- ---- what is asked
 
 -- a name is in the set of a list where it is in the list
-in_set : (names : List (List ℕ)) (name : List ℕ) → set.contains (with_texts set.empty names) name ≡ (is_one_of names name || false)
+pub in_set : (names : List (List ℕ)) (name : List ℕ) → set.contains (with_texts set.empty names) name ≡ (is_one_of names name || false)
 in_set names name = told_more set.empty names name ∙ ap (λ (b : Bool). is_one_of names name || b) (set.contains-empty (slice_cmp nat_cmp) name)
 
-or_false : (b : Bool) → (b || false) ≡ b
+pub or_false : (b : Bool) → (b || false) ≡ b
 or_false true = refl
 or_false false = refl
 
@@ -159,14 +166,23 @@ first_alike : {A B : Type 0} (f g : A → Option B) → ((x : A) → f x ≡ g x
 first_alike f g same [] = refl
 first_alike f g same (x ∷ xs) = ap (λ o. option_or o (first_of f xs)) (same x) ∙ ap (option_or (g x)) (first_alike f g same xs)
 
-brought_alike : (names : List (List ℕ)) (entry : ℕ × AuxImport) → brought_in (with_texts set.empty names) entry ≡ taken_brought names entry
-brought_alike names entry =
-    found_alike (set.contains (with_texts set.empty names)) (is_one_of names) (λ name. in_set names name ∙ or_false (is_one_of names name))
-    (brought false entry.1)
+named_alike : (f g : List ℕ → Bool) → ((x : List ℕ) → f x ≡ g x) → (o : Option (List ℕ)) → name_if f o ≡ name_if g o
+named_alike f g same None = refl
+named_alike f g same (Some x) = ap (λ (b : Bool). where_true b x) (same x)
 
--- the first name that is taken by the set is the first by the list
-pub brought_same : (taken : TextSet) (names : List (List ℕ)) (entries : List (ℕ × AuxImport)) → taken ≡ with_texts set.empty names
-    → first_of (brought_in taken) entries ≡ first_of (taken_brought names) entries
-brought_same taken names entries is =
-    ap (λ (t : TextSet). first_of (brought_in t) entries) is
-    ∙ first_alike (brought_in (with_texts set.empty names)) (taken_brought names) (brought_alike names) entries
+brought_alike : (names others : List (List ℕ)) (entry : ℕ × AuxImport)
+    → brought_in (with_texts set.empty names) (with_texts set.empty others) entry ≡ taken_brought names others entry
+brought_alike names others entry =
+    let test : List (List ℕ) → List ℕ → Bool = λ list. set.contains (with_texts set.empty list) in
+    let same : (list : List (List ℕ)) (name : List ℕ) → test list name ≡ is_one_of list name = λ list name. in_set list name ∙ or_false (is_one_of list name) in
+    ap (λ o. option_or o (name_if (test others) (global_begun entry.1))) (found_alike (test names) (is_one_of names) (same names) (brought false entry.1))
+    ∙ ap (option_or (find (is_one_of names) (brought false entry.1))) (named_alike (test others) (is_one_of others) (same others) (global_begun entry.1))
+
+-- the first name that is taken or given by the sets is the first by the lists
+pub brought_same : (taken given : TextSet) (names others : List (List ℕ)) (entries : List (ℕ × AuxImport))
+    → taken ≡ with_texts set.empty names → given ≡ with_texts set.empty others
+    → first_of (brought_in taken given) entries ≡ first_of (taken_brought names others) entries
+brought_same taken given names others entries is are =
+    ap (λ (t : TextSet). first_of (brought_in t given) entries) is
+    ∙ ap (λ (t : TextSet). first_of (brought_in (with_texts set.empty names) t) entries) are
+    ∙ first_alike (brought_in (with_texts set.empty names) (with_texts set.empty others)) (taken_brought names others) (brought_alike names others) entries

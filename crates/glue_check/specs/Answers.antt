@@ -9,6 +9,7 @@ use Rattle.glue_check.specs.declared.files.FileFlags.{FileFlags}
 use Rattle.glue_check.specs.declared.verdict.Condition.{Condition}
 use Rattle.glue_check.specs.declared.verdict.Condition.TheVariants as conditions
 use Rattle.glue_check.specs.Links.{link_not_embedded}
+use Rattle.glue_check.specs.Missing.{missing_part}
 use Rattle.glue_check.specs.Modules.{module_clash}
 use Rattle.glue_check.specs.Naming.{bad_name, global_twice, name_clash}
 use Rattle.glue_check.specs.Publishing.{export_clash, fixed_export}
@@ -39,3 +40,4 @@ answer files settings l conditions.ExportClash = export_clash l.aux
 answer files settings l conditions.FixedExport = fixed_export settings l
 answer files settings l conditions.IntrinsicTarget = intrinsic_target settings l
 answer files settings l conditions.LinkNotEmbedded = link_not_embedded settings l
+answer files settings l conditions.MissingPart = missing_part settings l

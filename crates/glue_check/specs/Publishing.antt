@@ -14,7 +14,7 @@ use Rattle.glue_shared.specs.Paths.{qualified_name}
 use Rattle.glue_faults.specs.declared.fault.Fault.{Fault}
 use Rattle.glue_faults.specs.declared.fault.Fault.TheVariants as faults
 use Rattle.glue_faults.specs.Clash.{first_clash}
-use Rattle.glue_check.specs.Naming.{name_where}
+use Rattle.glue_check.specs.Omitted.{name_where}
 use Rattle.glue_check.specs.Unbuilt.{is_function_kind}
 
 -- the qualified name of an export

@@ -11,7 +11,7 @@ use Rattle.glue_faults.specs.declared.fault.Fault.{Fault}
 use Rattle.glue_faults.specs.declared.fault.Fault.TheVariants as faults
 use Rattle.glue_faults.specs.First.{where_true}
 
--- an intrinsic that answers the module's own object or its instance, on a target whose loading declares no name for it
+-- an intrinsic that answers the module's own object or its instance, on a target where the glue file has no name for it
 abbrev pub lacks : Target → AuxImport → Bool
 lacks target (what.Intrinsic name) = lacks_value target name
 lacks target other = false

@@ -29,6 +29,7 @@ use Rattle.glue_faults.specs.First.{where_true}
 use Rattle.glue_adapters.specs.Adapters.{code_of}
 use Rattle.glue_check.specs.declared.files.FileFlags.{FileFlags}
 use Rattle.glue_check.specs.Links.{unembedded}
+use Rattle.glue_check.specs.Missing.{excludes}
 use Rattle.glue_check.specs.TargetValues.{is_absent}
 
 -- ---- targets
@@ -75,20 +76,20 @@ is_defined_kind m (Some i) = is_function i.kind || is_plain_memory (memory_of m 
 abbrev pub is_other_own : Contents → ℕ → Bool
 is_other_own m place = not (is_defined_kind m (entry_at m.imports place))
 
--- Conditions tell of an import without an expression: a link without content, where linked modules aren't split off, or an intrinsic
--- that the target has no value for.
+-- Conditions tell of an import without an expression: a link without content, where linked modules aren't split off, an intrinsic
+-- that the target has no value for, or one that goes by another way of keeping references.
 abbrev pub is_told : Settings → ℕ × AuxImport → Bool
-is_told settings entry = is_some (unembedded settings.split_linked_modules entry) || is_absent settings.target entry
+is_told settings entry =
+    is_some (unembedded settings.split_linked_modules entry) || (is_absent settings.target entry || excludes settings.externref entry.1)
 
 -- any other import without an expression
 unfoldable pub is_unbuilt_entry : Settings → ℕ × AuxImport → Bool
 is_unbuilt_entry settings entry = not (has_expression settings entry.1 || is_told settings entry)
 
--- imports that the glue file defines and that bring in another thing, imports of another form, or a setting that changes imports
+-- imports that the glue file defines and that bring in another thing, or imports of another form
 abbrev pub unbuilt_imports : Settings → Lowered → Option Fault
 unbuilt_imports settings l = where_true (
-    (list_any (is_other_own l.«module») (own_imports settings l.«module» l.wit l.aux) || list_any (is_unbuilt_entry settings) l.aux.imports)
-    || (is_some_item l.aux.static_slots || settings.omit_imports)
+    list_any (is_other_own l.«module») (own_imports settings l.«module» l.wit l.aux) || list_any (is_unbuilt_entry settings) l.aux.imports
     ) (faults.NotBuilt (codes "imports"))
 
 -- ---- exports

@@ -14,6 +14,7 @@ use Rattle.glue_adapters.specs.Adapters.{unsupported}
 use Rattle.glue_adapters.specs.Pairs.{bad_adapter, unbound_import}
 use Rattle.glue_check.specs.declared.files.FileFlags.{FileFlags}
 use Rattle.glue_check.specs.Links.{link_not_embedded}
+use Rattle.glue_check.specs.Missing.{missing_part}
 use Rattle.glue_check.specs.Modules.{module_clash}
 use Rattle.glue_check.specs.Naming.{bad_name, global_twice, name_clash}
 use Rattle.glue_check.specs.Publishing.{export_clash, fixed_export}
@@ -49,6 +50,7 @@ verdict settings l = first_some (
     ∷ fixed_export settings l
     ∷ intrinsic_target settings l
     ∷ link_not_embedded settings l
+    ∷ missing_part settings l
     ∷ [])
 
 -- the first kind of what is asked for and isn't built

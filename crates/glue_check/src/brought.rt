@@ -1,9 +1,10 @@
 //! The names of the outside that described imports bring, as a list.
-ghost use Rattle.std.specs.Prelude.{◌≡◌, ◌++◌, IfOk, OnOk, false, map};
+ghost use Rattle.std.specs.Prelude.{◌≡◌, ◌++◌, IfOk, OnOk, map};
 ghost use Rattle.std.specs.Option.{option_copied};
 ghost use Rattle.glue_shared.specs.Names as names;
 ghost use Rattle.glue_check.specs.Taken as spec;
 
+use crate::omitted::push_where;
 use glue_shared::{AuxImport, JsImportName, js_import};
 use std::alloc::{AllocError, Global};
 use values::{Duplicate, Seq, Text};
@@ -42,9 +43,13 @@ fn push_prefixed(
     Ok(())
 }
 
-// The names of the outside that a described name brings where imports are kept.
-fn described_hosts(alloc: Global, described: &JsImportName) -> Result<Seq<Text>, AllocError>
-    ensures hosts { IfOk result (λ hosts. hosts ≡ names.described_hosts false described.now) }
+// The names of the outside that a described name brings, where imports are left out or kept.
+fn described_hosts(
+    alloc: Global,
+    omitted: bool,
+    described: &JsImportName,
+) -> Result<Seq<Text>, AllocError>
+    ensures hosts { IfOk result (λ hosts. hosts ≡ names.described_hosts omitted described.now) }
 {
     let mut hosts = Seq::new(alloc);
     match described {
@@ -53,20 +58,45 @@ fn described_hosts(alloc: Global, described: &JsImportName) -> Result<Seq<Text>,
             hosts.push(name.copy(alloc)?)?;
             push_prefixed(alloc, prefixes.as_slice(), name, &mut hosts)?;
         }
-        JsImportName::Module { .. }
-        | JsImportName::LocalModule { .. }
-        | JsImportName::InlineJs { .. } => {}
+        JsImportName::Module { name, .. }
+        | JsImportName::LocalModule { name, .. }
+        | JsImportName::InlineJs { name, .. } => push_where(alloc, omitted, name, &mut hosts)?,
     }
     Ok(hosts)
 }
 
-/// The names of the outside that what an import evaluates brings where imports are kept. Want of memory is the only error.
+/// The names of the outside that what an import evaluates brings, where imports are left out or kept. Want of memory is the only error.
 #[tactic(auto, using(crate::proofs::TakenNames::brought_none, crate::proofs::TakenNames::brought_some))]
-pub(crate) fn brought(alloc: Global, what: &AuxImport) -> Result<Seq<Text>, AllocError>
-    ensures names { IfOk result (λ names. names ≡ spec.brought false what.now) }
+pub(crate) fn brought(
+    alloc: Global,
+    omitted: bool,
+    what: &AuxImport,
+) -> Result<Seq<Text>, AllocError>
+    ensures names { IfOk result (λ names. names ≡ spec.brought omitted what.now) }
 {
     match js_import(what) {
         None => Ok(Seq::new(alloc)),
-        Some(js) => described_hosts(alloc, &js.name),
+        Some(js) => described_hosts(alloc, omitted, &js.name),
+    }
+}
+
+// The name of a global.
+fn global_of(name: &JsImportName) -> Option<&Text>
+    ensures global { option_copied result ≡ spec.global_of name.now }
+{
+    match name {
+        JsImportName::Global { name } => Some(name),
+        _ => None,
+    }
+}
+
+/// The global that an import begins with, where it begins with one.
+#[tactic(auto, using(crate::proofs::TakenNames::global_none, crate::proofs::TakenNames::global_some))]
+pub(crate) fn global_begun(what: &AuxImport) -> Option<&Text>
+    ensures global { option_copied result ≡ spec.global_begun what.now }
+{
+    match js_import(what) {
+        None => None,
+        Some(js) => global_of(&js.name),
     }
 }

@@ -25,8 +25,8 @@ pub(crate) trait Claim {
         ensures told { OnOk result (N.bound told.new ≡ with_texts (N.bound told.old) (tells self.now)) };
 }
 
-// The first entry that asks for a word that was told.
-fn first_met<'a, E: Claim, N: Names>(
+/// The first entry that asks for a word that was told, by an earlier one or before. Want of memory is the only error.
+pub(crate) fn first_met<'a, E: Claim, N: Names>(
     alloc: Global,
     told: N,
     entries: &'a [E],

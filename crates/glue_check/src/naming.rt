@@ -9,12 +9,14 @@ ghost use Rattle.glue_faults.specs.First as first;
 ghost use Rattle.glue_words.specs.Ident.{is_ident};
 ghost use Rattle.glue_shared.specs.Names.{fixed_names};
 ghost use Rattle.glue_check.specs.Naming as spec;
-ghost use Rattle.glue_check.specs.Taken.{brought_in};
+ghost use Rattle.glue_check.specs.Omitted.{omitted_names, other_names};
+ghost use Rattle.glue_check.specs.Taken.{brought_in, global_begun, name_if};
 
-use crate::brought::{brought, copied};
-use crate::clash::{Claim, first_clash};
+use crate::brought::{brought, copied, global_begun};
+use crate::clash::{Claim, first_clash, first_met};
+use crate::omitted::{kept, omitted_names};
 use crate::own::own_names;
-use crate::taken::with_fixed;
+use crate::taken::{taken_names, with_each, with_fixed};
 use glue_faults::Fault;
 use glue_scope::{IdentScope, Names};
 use glue_shared::{AdapterId, AuxExport, AuxImport, Lowered, Settings, WasmBindgenAux};
@@ -76,22 +78,27 @@ fn first_not_ident(names: &[Text]) -> Option<&Text>
 }
 
 // The first name of the outside that an import brings and that is no identifier.
-fn bad_brought(alloc: Global, entry: &(AdapterId, AuxImport)) -> Result<Option<Text>, AllocError>
-    ensures bad { IfOk result (λ bad. bad ≡ spec.bad_brought entry.now) }
+fn bad_brought(
+    alloc: Global,
+    omitted: bool,
+    entry: &(AdapterId, AuxImport),
+) -> Result<Option<Text>, AllocError>
+    ensures bad { IfOk result (λ bad. bad ≡ spec.bad_brought omitted entry.now) }
 {
-    let names = brought(alloc, &entry.1)?;
+    let names = brought(alloc, omitted, &entry.1)?;
     copied(alloc, first_not_ident(names.as_slice()))
 }
 
 // The first such of these imports.
 fn first_bad_brought(
     alloc: Global,
+    omitted: bool,
     entries: &[(AdapterId, AuxImport)],
 ) -> Result<Option<Text>, AllocError>
-    ensures first { IfOk result (λ found. found ≡ first.first_of spec.bad_brought entries.now) }
+    ensures first { IfOk result (λ found. found ≡ first.first_of (spec.bad_brought omitted) entries.now) }
 {
     for entry in entries {
-        let name = bad_brought(alloc, entry)?;
+        let name = bad_brought(alloc, omitted, entry)?;
         if name.is_some() {
             return Ok(name);
         }
@@ -101,22 +108,28 @@ fn first_bad_brought(
 
 // The first bad name, in the description's order.
 #[tactic(auto, unfolding(crate::specs::Naming::bad_text))]
-fn bad_text(alloc: Global, own: &[Text], aux: &WasmBindgenAux) -> Result<Option<Text>, AllocError>
-    ensures bad { IfOk result (λ bad. bad ≡ spec.bad_text own.now aux.now) }
+fn bad_text(
+    alloc: Global,
+    omitted: bool,
+    own: &[Text],
+    aux: &WasmBindgenAux,
+) -> Result<Option<Text>, AllocError>
+    ensures bad { IfOk result (λ bad. bad ≡ spec.bad_text omitted own.now aux.now) }
 {
     let exported = first_bad_segment(aux.exports.as_slice());
     if exported.is_some() {
         return copied(alloc, exported);
     }
-    let imported = first_bad_brought(alloc, aux.imports.as_slice())?;
+    let imported = first_bad_brought(alloc, omitted, aux.imports.as_slice())?;
     if imported.is_some() {
         return Ok(imported);
     }
     copied(alloc, first_proto(own))
 }
 
-/// The first bad name: a segment or name of an export that is `__proto__`, a described global, or a vendor's name with or without one of its
-/// prefixes, that is no identifier, or an import of the name `__proto__` that the glue file defines. Want of memory is the only error.
+/// The first bad name: a segment or name of an export that is `__proto__`, a described global, a vendor's name with or without one of its
+/// prefixes, or where imports are left out a name from a module, that is no identifier, or an import of the name `__proto__` that the glue file
+/// defines. Want of memory is the only error.
 pub fn bad_name(
     alloc: Global,
     settings: &Settings,
@@ -125,7 +138,7 @@ pub fn bad_name(
     ensures fault { IfOk result (λ fault. fault ≡ spec.bad_name settings.now lowered.now) }
 {
     let own = own_names(alloc, settings, lowered)?;
-    match bad_text(alloc, own.as_slice(), &lowered.aux)? {
+    match bad_text(alloc, settings.omit_imports, own.as_slice(), &lowered.aux)? {
         None => Ok(None),
         Some(name) => Ok(Some(Fault::BadName { name })),
     }
@@ -138,28 +151,42 @@ fn first_bound<'a, N: Names>(taken: &N, names: &'a [Text]) -> Option<&'a Text>
     names.iter().find(|name| taken.is_bound(name.as_str()))
 }
 
-// The first name of the outside that an import brings and that the glue file may bind.
+// The global that an import begins with, where that is given to another import.
+fn given_global<'a, N: Names>(given: &N, what: &'a AuxImport) -> Option<&'a Text>
+    ensures name { option_copied result ≡ name_if (set.contains (N.bound given.now)) (global_begun what.now) }
+{
+    let name = global_begun(what)?;
+    where_true(given.is_bound(name.as_str()), name)
+}
+
+// The first name of the outside that an import brings and that the glue file may bind, or the global, where that is given to another import.
 fn taken_brought<N: Names>(
     alloc: Global,
     taken: &N,
+    given: &N,
     entry: &(AdapterId, AuxImport),
 ) -> Result<Option<Text>, AllocError>
-    ensures name { IfOk result (λ name. name ≡ brought_in (N.bound taken.now) entry.now) }
+    ensures name { IfOk result (λ name. name ≡ brought_in (N.bound taken.now) (N.bound given.now) entry.now) }
 {
-    let names = brought(alloc, &entry.1)?;
-    copied(alloc, first_bound(taken, names.as_slice()))
+    let names = brought(alloc, false, &entry.1)?;
+    let found = first_bound(taken, names.as_slice());
+    if found.is_some() {
+        return copied(alloc, found);
+    }
+    copied(alloc, given_global(given, &entry.1))
 }
 
 // The first such of these imports.
 fn first_taken<N: Names>(
     alloc: Global,
     taken: &N,
+    given: &N,
     entries: &[(AdapterId, AuxImport)],
 ) -> Result<Option<Text>, AllocError>
-    ensures name { IfOk result (λ found. found ≡ first.first_of (brought_in (N.bound taken.now)) entries.now) }
+    ensures name { IfOk result (λ found. found ≡ first.first_of (brought_in (N.bound taken.now) (N.bound given.now)) entries.now) }
 {
     for entry in entries {
-        let name = taken_brought(alloc, taken, entry)?;
+        let name = taken_brought(alloc, taken, given, entry)?;
         if name.is_some() {
             return Ok(name);
         }
@@ -179,7 +206,21 @@ fn fixed_scope<N: Names>(
     with_fixed(alloc, none, settings, module)
 }
 
-/// The first name of the outside, a described global or a vendor's name with or without one of its prefixes, that the glue file may bind itself. Want of memory is the only error.
+// The names from modules by which imports are used, where they are left out.
+fn omitted_scope<N: Names>(
+    alloc: Global,
+    settings: &Settings,
+    aux: &WasmBindgenAux,
+) -> Result<N, AllocError>
+    ensures bound { IfOk result (λ given. N.bound given ≡ with_texts set.empty (omitted_names settings.now.omit_imports aux.now.imports)) }
+{
+    let names = omitted_names(alloc, settings.omit_imports, aux.imports.as_slice())?;
+    let none: N = Names::new(alloc);
+    with_each(none, names.as_slice())
+}
+
+/// The first name of the outside, a described global or a vendor's name with or without one of its prefixes, that the glue file may bind itself,
+/// or that is a global and, where imports are left out, a name from a module too. Want of memory is the only error.
 #[tactic(auto, using(crate::proofs::TakenNames::brought_same))]
 pub fn global_twice(
     alloc: Global,
@@ -189,7 +230,8 @@ pub fn global_twice(
     ensures fault { IfOk result (λ fault. fault ≡ spec.global_twice settings.now lowered.now) }
 {
     let taken: IdentScope = fixed_scope(alloc, settings, &lowered.module)?;
-    match first_taken(alloc, &taken, lowered.aux.imports.as_slice())? {
+    let given: IdentScope = omitted_scope(alloc, settings, &lowered.aux)?;
+    match first_taken(alloc, &taken, &given, lowered.aux.imports.as_slice())? {
         None => Ok(None),
         Some(name) => Ok(Some(Fault::GlobalTwice { name })),
     }
@@ -239,6 +281,54 @@ fn name_of(alloc: Global, export: &Option<Export>) -> Result<Text, AllocError>
     match export {
         None => Text::from_str(alloc, ""),
         Some(export) => export.name.copy(alloc),
+    }
+}
+
+// The names that none of the names from modules may be, by which imports are used where they are left out.
+#[tactic(auto, using(crate::proofs::OmittedNames::taken_are))]
+fn other_scope<N: Names>(
+    alloc: Global,
+    settings: &Settings,
+    lowered: &Lowered,
+) -> Result<N, AllocError>
+    ensures bound { IfOk result (λ taken. N.bound taken ≡ with_texts set.empty (other_names settings.now lowered.now)) }
+{
+    let kept = kept(alloc, settings)?;
+    taken_names(alloc, &kept, lowered)
+}
+
+// The first of the names from modules, by which imports are used where they are left out, that is of the outside for another reason, that the
+// glue file may bind, or that an earlier one is.
+#[tactic(auto, using(crate::proofs::OmittedNames::first_omitted))]
+fn first_omitted(
+    alloc: Global,
+    settings: &Settings,
+    lowered: &Lowered,
+) -> Result<Option<Fault>, AllocError>
+    ensures fault { IfOk result (λ fault. fault ≡ spec.omitted_clash settings.now lowered.now) }
+{
+    let names = omitted_names(alloc, settings.omit_imports, lowered.aux.imports.as_slice())?;
+    let taken: IdentScope = other_scope(alloc, settings, lowered)?;
+    match first_met(alloc, taken, names.as_slice())? {
+        None => Ok(None),
+        Some(name) => Ok(Some(Fault::NameClash {
+            name: name.copy(alloc)?,
+        })),
+    }
+}
+
+// The same, without a look at names where there is none.
+fn omitted_clash(
+    alloc: Global,
+    settings: &Settings,
+    lowered: &Lowered,
+) -> Result<Option<Fault>, AllocError>
+    ensures fault { IfOk result (λ fault. fault ≡ spec.omitted_clash settings.now lowered.now) }
+{
+    if settings.omit_imports {
+        first_omitted(alloc, settings, lowered)
+    } else {
+        Ok(None)
     }
 }
 
@@ -313,15 +403,14 @@ fn start_clash(alloc: Global, module: &Module) -> Result<Option<Fault>, AllocErr
     start_fault(alloc, asked)
 }
 
-/// The first name of two imports that the glue file defines, of two exports of the module, or of an export and that of the start
-/// function. Want of memory is the only error.
-#[tactic(auto, unfolding(crate::specs::Naming::name_clash))]
-pub fn name_clash(
+// The first name of two imports that the glue file defines, of two exports of the module, or of an export and that of the start function.
+#[tactic(auto, unfolding(crate::specs::Naming::written_clash))]
+fn written_clash(
     alloc: Global,
     settings: &Settings,
     lowered: &Lowered,
 ) -> Result<Option<Fault>, AllocError>
-    ensures fault { IfOk result (λ fault. fault ≡ spec.name_clash settings.now lowered.now) }
+    ensures fault { IfOk result (λ fault. fault ≡ spec.written_clash settings.now lowered.now) }
 {
     let own = own_names(alloc, settings, lowered)?;
     let imported = import_clash(alloc, own.as_slice())?;
@@ -333,4 +422,21 @@ pub fn name_clash(
         return Ok(exported);
     }
     start_clash(alloc, &lowered.module)
+}
+
+/// The first name that two different imports from modules have, or one of them and something else, where imports are left out; that two imports
+/// have that the glue file defines, that two exports of the module have, or an export and the start function. Want of memory is the only error.
+#[tactic(auto, unfolding(crate::specs::Naming::name_clash))]
+pub fn name_clash(
+    alloc: Global,
+    settings: &Settings,
+    lowered: &Lowered,
+) -> Result<Option<Fault>, AllocError>
+    ensures fault { IfOk result (λ fault. fault ≡ spec.name_clash settings.now lowered.now) }
+{
+    let omitted = omitted_clash(alloc, settings, lowered)?;
+    if omitted.is_some() {
+        return Ok(omitted);
+    }
+    written_clash(alloc, settings, lowered)
 }

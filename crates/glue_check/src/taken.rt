@@ -5,7 +5,7 @@ ghost use Rattle.std.specs.List.{flat_map, list_any};
 ghost use Rattle.std.specs.FinSet as set;
 ghost use Rattle.values.specs.TextSet.{with_texts};
 ghost use Rattle.glue_shared.specs.Names as names;
-ghost use Rattle.glue_check.specs.Naming.{name_where};
+ghost use Rattle.glue_check.specs.Omitted.{name_where};
 ghost use Rattle.glue_check.specs.Taken as spec;
 
 use glue_scope::Names;
@@ -34,6 +34,17 @@ fn with_names<N: Names>(scope: N, words: &[&str]) -> Result<N, AllocError>
     let mut more = scope;
     for word in words {
         more = with_name(more, word)?;
+    }
+    Ok(more)
+}
+
+/// With each of these texts. Want of memory is the only error.
+pub(crate) fn with_each<N: Names>(scope: N, texts: &[Text]) -> Result<N, AllocError>
+    ensures bound { IfOk result (λ more. N.bound more ≡ with_texts (N.bound scope) texts.now) }
+{
+    let mut more = scope;
+    for text in texts {
+        more = with_name(more, text.as_str())?;
     }
     Ok(more)
 }

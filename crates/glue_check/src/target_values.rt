@@ -30,7 +30,7 @@ fn has_absent(target: &Target, entries: &[(AdapterId, AuxImport)]) -> bool
     entries.iter().any(|entry| is_absent(target, entry))
 }
 
-/// That an intrinsic is described whose value loading declares on other targets, and not on this one.
+/// That an intrinsic is described for whose value the glue file has a name on other targets, and not on this one.
 pub fn intrinsic_target(settings: &Settings, lowered: &Lowered) -> Option<Fault>
     ensures fault { result ≡ spec.intrinsic_target settings.now lowered.now }
 {

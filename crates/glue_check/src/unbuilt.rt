@@ -10,6 +10,7 @@ ghost use Rattle.glue_check.specs.Unbuilt as spec;
 
 use crate::files::FileFlags;
 use crate::links::unembedded;
+use crate::missing::excludes;
 use crate::own::{import_at, own_ids};
 use crate::target_values::is_absent;
 use glue_faults::{Fault, not_built};
@@ -104,7 +105,9 @@ fn is_other_own(module: &Module, place: ImportId) -> bool
 fn is_told(settings: &Settings, entry: &(AdapterId, AuxImport)) -> bool
     ensures test { result ≡ spec.is_told settings.now entry.now }
 {
-    unembedded(settings.split_linked_modules, entry).is_some() || is_absent(&settings.target, entry)
+    unembedded(settings.split_linked_modules, entry).is_some()
+        || is_absent(&settings.target, entry)
+        || excludes(settings.externref, &entry.1)
 }
 
 // Whether an import has no expression that is built, and no condition tells of it.
@@ -147,10 +150,7 @@ pub(crate) fn unbuilt_imports(
     ensures fault { IfOk result (λ fault. fault ≡ spec.unbuilt_imports settings.now lowered.now) }
 {
     let others = has_other_own(alloc, settings, lowered)?;
-    let asked = others
-        || has_unbuilt_entry(settings, lowered.aux.imports.as_slice())
-        || !lowered.aux.static_slots.is_empty()
-        || settings.omit_imports;
+    let asked = others || has_unbuilt_entry(settings, lowered.aux.imports.as_slice());
     not_built(alloc, asked, "imports")
 }
 

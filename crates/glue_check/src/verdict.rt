@@ -8,6 +8,7 @@ ghost use Rattle.glue_check.specs.Verdict as spec;
 
 use crate::files::FileFlags;
 use crate::links::link_not_embedded;
+use crate::missing::missing_part;
 use crate::modules::module_clash;
 use crate::naming::{bad_name, global_twice, name_clash};
 use crate::publishing::{export_clash, fixed_export};
@@ -47,6 +48,7 @@ enum Condition {
     FixedExport,
     IntrinsicTarget,
     LinkNotEmbedded,
+    MissingPart,
 }
 
 /// What isn't built yet, in its order.
@@ -62,7 +64,7 @@ const UNBUILT: [Condition; 8] = [
 ];
 
 /// The conditions in their order: the first that gives a fault decides.
-const CONDITIONS: [Condition; 13] = [
+const CONDITIONS: [Condition; 14] = [
     Condition::Threads,
     Condition::PackageJson,
     Condition::UnsupportedInstr,
@@ -76,6 +78,7 @@ const CONDITIONS: [Condition; 13] = [
     Condition::FixedExport,
     Condition::IntrinsicTarget,
     Condition::LinkNotEmbedded,
+    Condition::MissingPart,
 ];
 
 fn is_shared(memory: &Option<Memory>) -> bool
@@ -146,6 +149,7 @@ fn answer(
         Condition::FixedExport => fixed_export(alloc, settings, lowered),
         Condition::IntrinsicTarget => Ok(intrinsic_target(settings, lowered)),
         Condition::LinkNotEmbedded => link_not_embedded(alloc, settings, lowered),
+        Condition::MissingPart => missing_part(alloc, settings, lowered),
     }
 }
 

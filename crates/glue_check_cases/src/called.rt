@@ -1,6 +1,7 @@
 //! How an import is called: in which way, with a spread argument, and with a result.
 use crate::checking::{Case, assert_cases};
 use crate::described::Edit;
+use crate::edits::{AS_CONSTRUCTOR, AS_METHOD, SPREAD};
 use crate::modules::ADD;
 use std::alloc::AllocError;
 
@@ -31,14 +32,7 @@ const CLASS_ACCESSOR: Edit = (
     r#"["ClassSetter",{"module":"m","name":"g"},"x"]"#,
 );
 
-/// How it is called.
-const AS_METHOD: Edit = ("normal", "method");
-
-const AS_CONSTRUCTOR: Edit = ("normal", "constructor");
-
-/// The last argument of the import adapter is spread, or of the one that stands for the import.
-const SPREAD: Edit = (r#""version":1"#, r#""version":1,"variadic":[2]"#);
-
+/// That of the one that stands for the import.
 const SPREAD_CODE: Edit = (r#""version":1"#, r#""version":1,"variadic":[1]"#);
 
 /// An import adapter more, with nothing to spread.

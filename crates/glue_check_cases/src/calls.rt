@@ -1,9 +1,11 @@
 //! Conditions by their own calls: those that stand behind what isn't built are met there alone. Each with what its fault names, and
 //! near misses.
-use crate::checking::{Asked, asked_settings, fault_text};
+use crate::checking::{Asked, Case, asked_settings, fault_text};
 use crate::compare::assert_case;
 use crate::described::{Edit, edited_lowered};
-use crate::edits::{CALL_MORE, INSTANCE, LOGGING, MODULE, NO_CODE, NO_PAIR, SECOND_PAIR};
+use crate::edits::{
+    CALL_MORE, GLUE_LOG, INSTANCE, LOGGING, MODULE, NO_CODE, NO_PAIR, SECOND_PAIR, UNSIGNED_LOG,
+};
 use crate::modules::{
     ADD, FOREIGN_AND_OWN, FOREIGN_MEMORY, FOREIGN_PROTO, FROM_GLUE_FILE, FROM_PROTO, FROM_STRINGS,
     TWO_IMPORTS, WITH_FOREIGN, WITH_MANY_EXPORTS, WITH_MEMORY_IMPORT, WITH_OTHER_TAG,
@@ -28,16 +30,8 @@ enum Call {
     IntrinsicTarget,
 }
 
-/// What is asked for, a module, what is replaced in the description of `add` and `log`, and the fault: nothing without one.
-type Case = (
-    &'static [Asked],
-    &'static [u8],
-    &'static [Edit],
-    &'static str,
-);
-
-/// A condition and its cases.
-type Condition = (Call, &'static [Case]);
+/// A condition, what is asked for, and cases.
+type Condition = (Call, &'static [Asked], &'static [Case]);
 
 /// A condition, a module, a part of the description, and what stands in its place, each with its fault, for one target.
 type Row = (
@@ -119,35 +113,26 @@ const AS_METHOD: Edit = (r#""kind":"function""#, r#""kind":"method","class":"C""
 const REST: Edit = (r#""name":"add""#, r#""name":"add","variadic":true"#);
 
 const ACCESSORS: &[Case] = &[
-    (&[], WITH_MANY_EXPORTS, &[GETTER, UNNAMED, AS_GETTER], ""),
+    (WITH_MANY_EXPORTS, &[GETTER, UNNAMED, AS_GETTER], ""),
     (
-        &[],
         WITH_MANY_EXPORTS,
         &[GETTER, UNNAMED, AS_GETTER, REST],
         "BadAdapter 0",
     ),
-    (&[], WITH_MANY_EXPORTS, &[SETTER, UNNAMED, AS_SETTER], ""),
+    (WITH_MANY_EXPORTS, &[SETTER, UNNAMED, AS_SETTER], ""),
     (
-        &[],
         WITH_MANY_EXPORTS,
         &[SETTER, UNNAMED, AS_SETTER, REST],
         "BadAdapter 0",
     ),
     // A method may have one; a getter takes nothing, and a setter gives nothing.
+    (WITH_MANY_EXPORTS, &[SETTER, UNNAMED, AS_METHOD, REST], ""),
     (
-        &[],
-        WITH_MANY_EXPORTS,
-        &[SETTER, UNNAMED, AS_METHOD, REST],
-        "",
-    ),
-    (
-        &[],
         WITH_MANY_EXPORTS,
         &[SETTER, UNNAMED, AS_GETTER],
         "BadAdapter 0",
     ),
     (
-        &[],
         WITH_MANY_EXPORTS,
         &[GETTER, UNNAMED, AS_SETTER],
         "BadAdapter 0",
@@ -174,42 +159,32 @@ const RETHROWING_ADD: Edit = (
 const PAIR_OF_SECOND: Edit = (r#""implements":[[0,1]]"#, r#""implements":[[1,1]]"#);
 
 const UNBOUND: &[Case] = &[
-    (&[], ADD, &[NO_PAIR], "UnboundImport 0"),
-    (&[], TWO_IMPORTS, &[PAIR_OF_SECOND], "UnboundImport 0"),
+    (ADD, &[NO_PAIR], "UnboundImport 0"),
+    (TWO_IMPORTS, &[PAIR_OF_SECOND], "UnboundImport 0"),
     // The glue file defines the first memory, tags of exceptions, and the function that throws again.
-    (&[], WITH_MEMORY_IMPORT, &[], ""),
-    (&[], WITH_TABLE_IMPORT, &[], "UnboundImport 1"),
-    (&[], WITH_TAG_IMPORT, &[], ""),
-    (&[], WITH_OTHER_TAG, &[], "UnboundImport 1"),
-    (&[], WITH_OTHER_TAG, &[WRAPPING_TAG], ""),
-    (&[], ADD, &[NO_PAIR, RETHROWING], ""),
-    (&[], ADD, &[NO_PAIR, RETHROWING_ADD], "UnboundImport 0"),
+    (WITH_MEMORY_IMPORT, &[], ""),
+    (WITH_TABLE_IMPORT, &[], "UnboundImport 1"),
+    (WITH_TAG_IMPORT, &[], ""),
+    (WITH_OTHER_TAG, &[], "UnboundImport 1"),
+    (WITH_OTHER_TAG, &[WRAPPING_TAG], ""),
+    (ADD, &[NO_PAIR, RETHROWING], ""),
+    (ADD, &[NO_PAIR, RETHROWING_ADD], "UnboundImport 0"),
     // What comes from elsewhere isn't the glue file's to define.
-    (&[], WITH_FOREIGN, &[NO_PAIR], ""),
-    (&[], FOREIGN_MEMORY, &[], ""),
+    (WITH_FOREIGN, &[NO_PAIR], ""),
+    (FOREIGN_MEMORY, &[], ""),
 ];
 
 const OWN_PROTO: &[Case] = &[
-    (&[], FOREIGN_PROTO, &[], "BadName __proto__"),
-    (&[], FOREIGN_PROTO, &[NO_PAIR], ""),
+    (FOREIGN_PROTO, &[], "BadName __proto__"),
+    (FOREIGN_PROTO, &[NO_PAIR], ""),
 ];
 
 const OWN_NAMES: &[Case] = &[
-    (
-        &[],
-        FOREIGN_AND_OWN,
-        &[LOGGING, SECOND_PAIR],
-        "NameClash log",
-    ),
-    (&[], FOREIGN_AND_OWN, &[PAIR_OF_SECOND], ""),
+    (FOREIGN_AND_OWN, &[LOGGING, SECOND_PAIR], "NameClash log"),
+    (FOREIGN_AND_OWN, &[PAIR_OF_SECOND], ""),
 ];
 
 /// What the call of the import is described as.
-const GLUE_FILE: Edit = (
-    r#"{"global":"console","fields":["log"]}"#,
-    r#"{"module":"./out_bg.js","name":"log"}"#,
-);
-
 const FIELD_OF_GLUE_FILE: Edit = (
     r#"{"global":"console","fields":["log"]}"#,
     r#"{"module":"./out_bg.js","name":"log","fields":["x"]}"#,
@@ -250,12 +225,6 @@ const GLOBAL_PLACEHOLDER: Edit = (
     r#"{"global":"__wbindgen_placeholder__"}"#,
 );
 
-/// The value is changed on the way, so that the described name can't be the import itself.
-const UNSIGNED: Edit = (
-    r#"["WasmToInt32",false],["CallAdapter",2]"#,
-    r#"["WasmToInt32",true],["CallAdapter",2]"#,
-);
-
 /// A re-export of a name of the string constants' module.
 const REEXPORTED: Edit = (
     r#""version":1"#,
@@ -264,100 +233,62 @@ const REEXPORTED: Edit = (
 
 const MODULES: &[Case] = &[
     // Imports that the glue file doesn't define, by their module.
-    (&[], FROM_GLUE_FILE, &[NO_PAIR], "ModuleClash ./out_bg.js"),
-    (&[], FROM_PROTO, &[NO_PAIR], "ModuleClash __proto__"),
-    (&[], FROM_STRINGS, &[NO_PAIR], ""),
-    (&[], WITH_FOREIGN, &[NO_PAIR], ""),
-    (&[], ADD, &[NO_PAIR], ""),
-    (&[], FROM_GLUE_FILE, &[], ""),
-    (&[], FROM_PROTO, &[], ""),
+    (FROM_GLUE_FILE, &[NO_PAIR], "ModuleClash ./out_bg.js"),
+    (FROM_PROTO, &[NO_PAIR], "ModuleClash __proto__"),
+    (FROM_STRINGS, &[NO_PAIR], ""),
+    (WITH_FOREIGN, &[NO_PAIR], ""),
+    (ADD, &[NO_PAIR], ""),
+    (FROM_GLUE_FILE, &[], ""),
+    (FROM_PROTO, &[], ""),
     // The described name is the import itself, and has its module.
-    (&[], ADD, &[GLUE_FILE], "ModuleClash ./out_bg.js"),
-    (&[], ADD, &[PROTO], "ModuleClash __proto__"),
-    (&[], ADD, &[OTHER_FILE], ""),
-    (&[], ADD, &[LOCAL_PROTO], ""),
-    (&[], FROM_PROTO, &[OTHER_FILE], ""),
-    (&[], ADD, &[FIELD_OF_GLUE_FILE], ""),
-    (&[], ADD, &[GLUE_FILE, UNSIGNED], ""),
-    (&[Asked::Emscripten], ADD, &[GLUE_FILE], ""),
+    (ADD, &[GLUE_LOG], "ModuleClash ./out_bg.js"),
+    (ADD, &[PROTO], "ModuleClash __proto__"),
+    (ADD, &[OTHER_FILE], ""),
+    (ADD, &[LOCAL_PROTO], ""),
+    (FROM_PROTO, &[OTHER_FILE], ""),
+    (ADD, &[FIELD_OF_GLUE_FILE], ""),
+    (ADD, &[GLUE_LOG, UNSIGNED_LOG], ""),
     // What is described, used or not.
-    (
-        &[],
-        ADD,
-        &[PLACEHOLDER],
-        "ModuleClash __wbindgen_placeholder__",
-    ),
-    (&[], ADD, &[STRINGS], "ModuleClash wasm:js/string-constants"),
-    (
-        &[],
-        ADD,
-        &[REEXPORTED],
-        "ModuleClash wasm:js/string-constants",
-    ),
-    (&[], ADD, &[LOCAL_STRINGS], ""),
-    (&[], ADD, &[GLOBAL_PLACEHOLDER], ""),
+    (ADD, &[PLACEHOLDER], "ModuleClash __wbindgen_placeholder__"),
+    (ADD, &[STRINGS], "ModuleClash wasm:js/string-constants"),
+    (ADD, &[REEXPORTED], "ModuleClash wasm:js/string-constants"),
+    (ADD, &[LOCAL_STRINGS], ""),
+    (ADD, &[GLOBAL_PLACEHOLDER], ""),
     // Imports are described before re-exports, and both before the module's imports.
     (
-        &[],
         ADD,
         &[REEXPORTED, PLACEHOLDER],
         "ModuleClash __wbindgen_placeholder__",
     ),
     (
-        &[],
         FROM_GLUE_FILE,
         &[REEXPORTED, NO_PAIR],
         "ModuleClash wasm:js/string-constants",
     ),
 ];
 
-/// The module and its instance, on each target.
-const TARGET_VALUES: &[Case] = &[
-    (&[], ADD, &[], ""),
-    (
-        &[Asked::Bundler],
-        ADD,
-        &[CALL_MORE, MODULE],
-        "IntrinsicTarget",
-    ),
-    (
-        &[Asked::Bundler],
-        ADD,
-        &[CALL_MORE, INSTANCE],
-        "IntrinsicTarget",
-    ),
-    (&[Asked::Web], ADD, &[CALL_MORE, MODULE], ""),
-    (&[Asked::Web], ADD, &[CALL_MORE, INSTANCE], ""),
-    (&[Asked::NoModules], ADD, &[CALL_MORE, MODULE], ""),
-    (&[Asked::NoModules], ADD, &[CALL_MORE, INSTANCE], ""),
-    (&[Asked::Node], ADD, &[CALL_MORE, MODULE], ""),
-    (&[Asked::Node], ADD, &[CALL_MORE, INSTANCE], ""),
-    (&[Asked::NodeModule], ADD, &[CALL_MORE, MODULE], ""),
-    (&[Asked::NodeModule], ADD, &[CALL_MORE, INSTANCE], ""),
-    (&[], ADD, &[CALL_MORE, MODULE], "IntrinsicTarget"),
-    (&[], ADD, &[CALL_MORE, INSTANCE], ""),
-    (&[Asked::Module], ADD, &[CALL_MORE, MODULE], ""),
-    (&[Asked::Module], ADD, &[CALL_MORE, INSTANCE], ""),
-    (
-        &[Asked::Emscripten],
-        ADD,
-        &[CALL_MORE, MODULE],
-        "IntrinsicTarget",
-    ),
-    (
-        &[Asked::Emscripten],
-        ADD,
-        &[CALL_MORE, INSTANCE],
-        "IntrinsicTarget",
-    ),
+/// On a target whose file doesn't hand modules on.
+const ON_EMSCRIPTEN: &[Case] = &[(ADD, &[GLUE_LOG], "")];
+
+/// A target, and the fault of a description that asks for the module, and of one that asks for its instance.
+const TARGET_VALUES: &[(&[Asked], &str, &str)] = &[
+    (&[Asked::Bundler], "IntrinsicTarget", "IntrinsicTarget"),
+    (&[Asked::Web], "", ""),
+    (&[Asked::NoModules], "", ""),
+    (&[Asked::Node], "", ""),
+    (&[Asked::NodeModule], "", ""),
+    (&[], "IntrinsicTarget", ""),
+    (&[Asked::Module], "", ""),
+    (&[Asked::Emscripten], "IntrinsicTarget", "IntrinsicTarget"),
 ];
 
 const CONDITIONS: &[Condition] = &[
-    (Call::BadAdapter, ACCESSORS),
-    (Call::UnboundImport, UNBOUND),
-    (Call::BadName, OWN_PROTO),
-    (Call::NameClash, OWN_NAMES),
-    (Call::ModuleClash, MODULES),
+    (Call::BadAdapter, &[], ACCESSORS),
+    (Call::UnboundImport, &[], UNBOUND),
+    (Call::BadName, &[], OWN_PROTO),
+    (Call::NameClash, &[], OWN_NAMES),
+    (Call::ModuleClash, &[], MODULES),
+    (Call::ModuleClash, &[Asked::Emscripten], ON_EMSCRIPTEN),
 ];
 
 fn assert_condition<H: Abort>(
@@ -365,8 +296,8 @@ fn assert_condition<H: Abort>(
     alloc: Global,
     condition: &Condition,
 ) -> Result<(), LowerFault> {
-    let (call, cases) = condition;
-    for (asked, module, edits, want) in *cases {
+    let (call, asked, cases) = condition;
+    for (module, edits, want) in *cases {
         assert_call(rt, alloc, *call, asked, module, edits, want)?;
     }
     Ok(())
@@ -380,20 +311,25 @@ fn each_call_gives_its_fault(rt: HostRuntime) -> Result<(), LowerFault> {
     Ok(())
 }
 
+/// The module is asked for, or its instance, on this target.
+fn assert_value<H: Abort>(
+    rt: &H,
+    alloc: Global,
+    asked: &[Asked],
+    value: Edit,
+    want: &str,
+) -> Result<(), LowerFault> {
+    let edits = &[CALL_MORE, value];
+    assert_call(rt, alloc, Call::IntrinsicTarget, asked, ADD, edits, want)
+}
+
 #[test]
 fn each_target_has_its_values(rt: HostRuntime) -> Result<(), LowerFault> {
-    for (asked, module, edits, want) in TARGET_VALUES {
-        assert_call(
-            &rt,
-            rt.alloc(),
-            Call::IntrinsicTarget,
-            asked,
-            module,
-            edits,
-            want,
-        )?;
+    for (asked, module, instance) in TARGET_VALUES {
+        assert_value(&rt, rt.alloc(), asked, MODULE, module)?;
+        assert_value(&rt, rt.alloc(), asked, INSTANCE, instance)?;
     }
-    Ok(())
+    assert_call(&rt, rt.alloc(), Call::IntrinsicTarget, &[], ADD, &[], "")
 }
 
 const NAME: &str = r#""name":"add""#;

@@ -124,7 +124,8 @@ pub fn fault_text(alloc: Global, fault: &Fault) -> Result<String, AllocError> {
         | Fault::ModuleClash { module: name }
         | Fault::ExportClash { name }
         | Fault::FixedExport { name }
-        | Fault::LinkNotEmbedded { path: name } => {
+        | Fault::LinkNotEmbedded { path: name }
+        | Fault::MissingPart { part: name } => {
             let name = name.as_str();
             format!(in alloc; "{variant} {name}")
         }

@@ -120,3 +120,23 @@ pub const PACKAGE: Edit = (r#""version":1"#, r#""version":1,"package_jsons":["{}
 pub const SAME_PAIR: Edit = (r#""implements":[[0,1]]"#, r#""implements":[[0,1],[0,1]]"#);
 
 pub const SECOND_LAST: Edit = (r#""implements":[[0,1]]"#, r#""implements":[[0,1],[0,4]]"#);
+
+/// The import is called as a method, or as a constructor.
+pub const AS_METHOD: Edit = ("normal", "method");
+
+pub const AS_CONSTRUCTOR: Edit = ("normal", "constructor");
+
+/// The last argument of the import adapter is spread.
+pub const SPREAD: Edit = (r#""version":1"#, r#""version":1,"variadic":[2]"#);
+
+/// The import is a name of the file's own module.
+pub const GLUE_LOG: Edit = (
+    r#"{"global":"console","fields":["log"]}"#,
+    r#"{"module":"./out_bg.js","name":"log"}"#,
+);
+
+/// The adapter of the import changes the value, so that what is described can't be the import itself.
+pub const UNSIGNED_LOG: Edit = (
+    r#"["WasmToInt32",false],["CallAdapter",2]"#,
+    r#"["WasmToInt32",true],["CallAdapter",2]"#,
+);

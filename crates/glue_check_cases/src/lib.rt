@@ -20,6 +20,10 @@ mod edits;
 #[cfg(test)]
 mod modules;
 #[cfg(test)]
+mod omitted;
+#[cfg(test)]
 mod order;
+#[cfg(test)]
+mod parts;
 #[cfg(test)]
 mod unbuilt;

@@ -3,7 +3,10 @@ use crate::checking::{
     Asked, AskedCase, Case, Group, Place, assert_asked, assert_cases, assert_fault, assert_groups,
 };
 use crate::described::Edit;
-use crate::edits::{BARE_LINK, CALL_MORE, NO_CODE, NO_PAIR};
+use crate::edits::{
+    AS_CONSTRUCTOR, AS_METHOD, BARE_LINK, CALL_MORE, GLUE_LOG, NO_CODE, NO_PAIR, SPREAD,
+    UNSIGNED_LOG,
+};
 use crate::modules::{
     ADD, FOREIGN_MEMORIES, FOREIGN_MEMORY, FOREIGN_TABLE, FOREIGN_TAG, FOREIGN_WIDE, FROM_STRINGS,
     LONG_MEMORY, STRING_CONSTANT, TWO_MEMORIES, WITH_FOREIGN, WITH_GLOBAL_IMPORT,
@@ -56,13 +59,8 @@ const GROUPS: &[Group] = &[
             r#""parts":{"externref_alloc":0,"externref_drop":0,"externref_drop_slice":0}"#,
             r#""parts":{"externref_table":0}"#,
             r#""variadic":[2]"#,
+            r#""static_slots":[null,"a"]"#,
         ],
-    ),
-    (
-        WITH_PARTS,
-        KEY,
-        "NotBuilt imports",
-        &[r#""static_slots":[null]"#],
     ),
     (
         WITH_PARTS,
@@ -264,8 +262,10 @@ const GROUPS: &[Group] = &[
             r#"["Intrinsic","Add"]"#,
             r#"["Intrinsic","Exports"]"#,
             r#"["Intrinsic","Instance"]"#,
-            // It comes before the condition on targets too.
+            // It comes before the condition on targets too, and before that on parts.
             r#"["Intrinsic","Module"]"#,
+            r#"["Intrinsic","FunctionTable"]"#,
+            r#"["Intrinsic","Memory"]"#,
         ],
     ),
     // The export is called like a name that the description takes from outside.
@@ -285,10 +285,6 @@ const GROUPS: &[Group] = &[
         &[
             r#"["WrapInExportedClass","C"]"#,
             r#"["UnwrapExportedClass","C"]"#,
-            r#"["Intrinsic","FunctionTable"]"#,
-            r#"["Intrinsic","InitExternrefTable"]"#,
-            r#"["Intrinsic","Memory"]"#,
-            r#"["Intrinsic","StringFromUtf8Lossy"]"#,
         ],
     ),
     // Properties may have any names.
@@ -325,14 +321,14 @@ const ASKED: &[AskedCase] = &[
     (&[Asked::Node], (ADD, &[], "NotBuilt target")),
     (&[Asked::Module], (ADD, &[], "NotBuilt target")),
     (&[Asked::Emscripten], (ADD, &[], "NotBuilt target")),
-    (&[Asked::NoImports], (ADD, &[], "NotBuilt imports")),
+    (&[Asked::NoImports], (ADD, &[], "")),
     (&[Asked::SplitModules], (ADD, &[], "")),
     (&[Asked::SplitModules], (ADD, &[CALL_MORE, BARE_LINK], "")),
     // The object table holds no objects where references stand in a table of the module.
     (&[], (ADD, &[CALL_MORE, LIVE_COUNT], "")),
     (
         &[Asked::Others],
-        (ADD, &[CALL_MORE, LIVE_COUNT], "NotBuilt imports"),
+        (ADD, &[CALL_MORE, LIVE_COUNT], "MissingPart externref"),
     ),
     (&[Asked::Debug], (ADD, &[], "NotBuilt settings")),
     (&[Asked::Typescript], (ADD, &[], "NotBuilt settings")),
@@ -382,17 +378,6 @@ const INLINE_LOG: Edit = (
     r#"{"inline":"c","index":0,"name":"log"}"#,
 );
 
-const GLUE_LOG: Edit = (
-    r#"{"global":"console","fields":["log"]}"#,
-    r#"{"module":"./out_bg.js","name":"log"}"#,
-);
-
-/// The adapter of the import changes the value.
-const UNSIGNED_LOG: Edit = (
-    r#"["WasmToInt32",false],["CallAdapter",2]"#,
-    r#"["WasmToInt32",true],["CallAdapter",2]"#,
-);
-
 /// It calls another import.
 const CALLING_MORE: Edit = (r#"["CallAdapter",2]"#, r#"["CallAdapter",3]"#);
 
@@ -416,12 +401,6 @@ const LOCAL_FIELD: Edit = (
     r#"{"global":"console","fields":["log"]}"#,
     r#"{"local":"a.js","name":"log","fields":["x"]}"#,
 );
-
-const AS_METHOD: Edit = ("normal", "method");
-
-const AS_CONSTRUCTOR: Edit = ("normal", "constructor");
-
-const SPREAD: Edit = (r#""version":1"#, r#""version":1,"variadic":[2]"#);
 
 /// Names of modules: the import itself, behind an adapter that changes the value, called by none, and of a module that clashes where it is
 /// handed on. Then properties of them: of an adapter that only hands on, of one that changes the value or calls it in another way, and

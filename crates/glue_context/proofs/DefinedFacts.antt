@@ -21,31 +21,28 @@ use Rattle.glue_tree.specs.FixedWords.{comma}
 use Rattle.glue_tree.proofs.Fit.{is_good, is_right, is_inner, spaced}
 use Rattle.glue_tree.proofs.Functions.{words_alone, words_named, bound_kind, used_kind, hosted_kind, local_kind, local_bound_kind, wasm_kind, spliced_kind}
 use Rattle.glue_tree.proofs.Names.{IsKind}
+use Rattle.glue_imports.specs.Given.{nothing_given}
 use Rattle.glue_imports.specs.declared.part.Part.{Part}
 use Rattle.glue_imports.specs.declared.part.Part.TheVariants as part
 use Rattle.glue_imports.specs.Definitions.{function_or_throw, typeof_front, if_function, else_not_defined}
-use Rattle.glue_imports.specs.Roots.{drawn_name, root, root_of}
-use Rattle.glue_binding.proofs.Free.{is_free, free_found}
-use Rattle.glue_binding.proofs.Parts.{outer_parts, parts_declare, parts_bind, parts_use, parts_take}
+use Rattle.glue_imports.specs.Roots.{begins_with, drawn_name, plain_name, root}
+use Rattle.glue_binding.proofs.Free.{is_free, free_found, free_take}
+use Rattle.glue_binding.proofs.Parts.{outer_parts, parts_declare, parts_bind, parts_use}
 use Rattle.glue_binding.proofs.Standing.{free_stand}
 use Rattle.glue_shared.specs.declared.import.AuxImport.TheVariants as what
 use Rattle.glue_shared.specs.declared.import.AuxValue.TheVariants as value
 use Rattle.glue_shared.specs.declared.import.JsImport.{JsImport}
-use Rattle.glue_shared.specs.declared.import.JsImportName.{JsImportName}
-use Rattle.glue_shared.specs.declared.import.JsImportName.TheVariants as js
-use Rattle.glue_shared.specs.Names.{adapter_for, handed_part, has_number, is_from_module}
+use Rattle.glue_shared.specs.Names.{adapter_for, handed_part, has_number}
 use Rattle.glue_check.specs.Handed.{own_callees}
 use Rattle.glue_check.proofs.Called.{called_own}
-use Rattle.glue_check.proofs.Globals.{brought_host}
 use Rattle.glue_check.proofs.OwnPairs.{IsDefinableBy, IsDefinedImport, number_there}
-use Rattle.glue_naming.specs.Listed.{is_global_name}
 use Rattle.glue_context.specs.Defined.{HoldsAdapter, HoldsDefinition, HoldsFunction, defined_by}
 use Rattle.glue_context.specs.DefinedItems.{IsAdapterItem, IsDefinedBy, IsFunctionItem, IsMemoryItem, IsPartItem, define_item, definition_back, definition_front, is_unpaired, address_words, limit_words, maximum_words, memory_back, memory_front, memory_words, part_words, spelled, takes_memory, value_front, value_item, value_text, words_text}
 use Rattle.glue_context.specs.Rewritten.{rewritten}
 use Rattle.glue_context.proofs.Declared.{all_found}
 use Rattle.glue_context.proofs.Edited.{moved_keeps}
 use Rattle.glue_context.proofs.Entries.{any_there}
-use Rattle.glue_context.proofs.ExpressionFits.{IsWell, function_fit}
+use Rattle.glue_context.proofs.ExpressionFits.{function_fit}
 use Rattle.glue_context.proofs.ExpressionNames.{HasImport, function_has}
 use Rattle.glue_context.proofs.Fits.{AreWell, HasBasis, HasNames, fixed_hosts, function_binds, function_fits, function_inner, has_parts, inner_words, keys_described, names_with}
 use Rattle.glue_context.proofs.HandedParts.{IsHanded, entry_there, handed_is}
@@ -193,11 +190,11 @@ fields_free [] behind h = h
 fields_free (field ∷ fields) behind h = fields_free fields behind h
 
 root_free : (m : NameMap) (j : JsImport) (behind : List Part) → list_all is_free behind ≡ true → list_all is_free (root m j ++ behind) ≡ true
-root_free m j behind h = by j.name
+root_free m j behind h = by (drawn_name m j.name)
   where
-    by : (n : JsImportName) → list_all is_free (root_of m j.fields n ++ behind) ≡ true
-    by (js.Global name) = h
-    by other = fields_free j.fields behind h
+    by : (drawn : Option (List ℕ)) → list_all is_free (begins_with j.fields drawn (plain_name j.name) ++ behind) ≡ true
+    by None = h
+    by (Some drawn) = fields_free j.fields behind h
 
 -- no part of its definition goes by a local or an operand
 function_free : (m : NameMap) (j : JsImport) (text : List ℕ) → list_all is_free (function_or_throw m j text) ≡ true
@@ -294,13 +291,6 @@ module _ (s : Settings) (m : NameMap) (l : Lowered) where
       in_hosts name (x ∷ xs) ys (inl same) = inl same
       in_hosts name (x ∷ xs) ys (inr i) = inr (in_hosts name xs ys i)
 
-  -- what a name of a module is given is an identifier, and not `wasm`
-  well_named : (first : JsImportName) → is_from_module first ≡ true → (n : JsImportName) → IsIn n (first ∷ [])
-      → (is_global_name n ≡ false → (is_ident (drawn_name m n) ≡ true) × (is_wasm (drawn_name m n) ≡ false)) → IsWell m n
-  well_named first from (js.Global name) (inl same) h = absurd (true≢false (sym (ap is_from_module same ∙ from)))
-  well_named first from (js.Global name) (inr none) h = absurd none
-  well_named first from other i h = h refl
-
   module _ (well : AreWell s l m) (declared : List (List ℕ)) (basis : HasBasis s l m declared) where
     abbrev c : Context
     c = names_with s l declared
@@ -311,20 +301,19 @@ module _ (s : Settings) (m : NameMap) (l : Lowered) where
         let w = what.Value (value.Bare j) in
         let called = called_own s l pair at mine h.id h.called in
         let there = entry_there h.id l.aux.imports w h.described in
-        let named = λ (n : JsImportName) (i : IsIn n (j.name ∷ [])) (other : is_global_name n ≡ false). well h.id w called h.described n i other in
         let parts = function_or_throw m j (value_text m j) in
         let free = function_free m j (value_text m j) in
-        let stands = free_stand (Some comma) parts (function_fit m j (value_text m j) (λ n i. well_named j.name h.from_module n i (named n i))) in
-        let has : HasImport c m w = record {
-          host = brought_host s l (h.id, w) there;
-          drawn = basis.drawn h.id w called h.described;
+        let stands = free_stand (Some comma) parts (function_fit m j (value_text m j) (λ n i. well h.id w called h.described n i)) in
+        let has : HasImport c m nothing_given w = record {
+          given = λ none. absurd (true≢false (sym none));
+          begun = basis.begun h.id w called h.described;
           keys = keys_described s l (h.id, w) there;
           used = fixed_hosts s l;
           helpers = basis.helpers;
           exports = basis.wasm;
         } in
         let outer : HasNames c (outer_parts parts) =
-        subst (HasNames c) (append-nil (outer_parts parts)) (has_parts c parts [] (function_has c m j (value_text m j) has) (tt, tt, tt, tt, refl)) in record {
+        subst (HasNames c) (append-nil (outer_parts parts)) (has_parts c parts [] (function_has c m nothing_given j (value_text m j) has) (tt, tt, tt, tt, refl)) in record {
           good = stands.good;
           front = refl;
           each = stands.each;
@@ -332,7 +321,7 @@ module _ (s : Settings) (m : NameMap) (l : Lowered) where
           binds = part_binds m j;
           locals = free_found local_name local_kind parts free ∙ parts_use parts;
           declares = free_found local_bound_name local_bound_kind parts free ∙ parts_bind parts;
-          takes = free_found wasm_name wasm_kind parts free ∙ parts_take parts;
+          takes = free_found wasm_name wasm_kind parts free ∙ free_take parts free;
         }
 
     memory_there : (place : ℕ) → IsIn place own → adapter_for l.wit.implements place ≡ None → (limits : Limits) → IsValue c (memory_words limits)

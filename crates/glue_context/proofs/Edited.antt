@@ -1,23 +1,33 @@
 -- The module that is written: what is changed names its entries, its exports stay and a start function is one more, and an import
 -- that moves keeps its name.
-use Rattle.glue_context.proofs.Common.{◌≡◌, ℕ, List, [], ◌∷◌, ◌++◌, map, Bool, true, false, true≢false, refl, sym, ap, ◌∙◌, fold, flat_map, All, Option, Some, None, is_some, option_map, filter_map, filter_map-append, append-nil, All-nil, All-head, All-tail, export_name, arith, common_steps, Contents, Import, ImportId, Settings, Lowered, own_imports, entry_at, export_names, with_moved, AreFit, move_of, edits_of, rewritten, with_import, some_of}
+use Rattle.glue_context.proofs.Common.{◌≡◌, ℕ, List, [], ◌∷◌, ◌++◌, map, Bool, true, false, true≢false, refl, sym, ap, ◌∙◌, fold, flat_map, All, Option, Some, None, is_some, option_map, filter_map, filter_map-append, append-nil, All-nil, All-head, All-tail, export_name, arith, common_steps, Contents, Import, ImportId, Settings, Lowered, own_imports, entry_at, export_names, with_moved, AreFit, move_of, edits_of, rewritten, with_import, some_of, with_added, NameMap, IsIn, in_left, in_right, subst, inl, inr}
+use Rattle.std.proofs.Common.{append_assoc}
 use Rattle.std.specs.Prelude.{◌≢◌, cond, slice_get, option_and_then}
 use Rattle.std.specs.List.{cons_option}
 use Rattle.std.proofs.lemmas.List.Elements.{All-append, All-cons, All-weaker}
 use Rattle.std.proofs.lemmas.List.Sums.{fold-append}
 use Rattle.std.proofs.lemmas.Option.{same_Some, slice_get_cases}
-use Rattle.wasm_core.specs.Contents.{IsLive}
+use Rattle.wasm_core.specs.Contents.{IsEntry, IsLive}
 use Rattle.wasm_core.specs.Edits.{with_export, without_start, IsLiveItem}
+use Rattle.wasm_core.specs.entries.Export.{Export}
+use Rattle.wasm_core.specs.ids.FuncId.{FuncId}
+use Rattle.wasm_core.specs.entries.ExportItem.{ExportItem}
+use Rattle.wasm_core.specs.entries.ExportItem.TheVariants as items
 use Rattle.wasm_core.specs.entries.ExportItem.TheVariants.{Func}
 use Rattle.glue_shared.specs.declared.import.JsImportName.{JsImportName}
 use Rattle.glue_shared.specs.Names.{has_number}
-use Rattle.glue_steps.specs.Resolving.{live}
+use Rattle.glue_shared.specs.Roots.{is_entry, is_live_item}
+use Rattle.values.specs.Map.{look_up}
+use Rattle.glue_steps.specs.Resolving.{export_named, item_order, live, or_empty}
 use Rattle.glue_lines.specs.Grouped.{source_of}
 use Rattle.glue_naming.specs.Imported.{called_names}
 use Rattle.glue_naming.specs.Handed.{handed_pair, handed_imports}
+use Rattle.glue_naming.specs.ItemNames.{added_exports, asked_items, item_map, item_names}
+use Rattle.glue_naming.proofs.ItemNames.{IsGivenAs, added_live, item_named, names_with_added}
 use Rattle.glue_targets.proofs.FixedTexts.{call_takes}
 use Rattle.glue_context.specs.declared.edits.TheConstants.{START}
-use Rattle.glue_context.specs.Edits.{has_start, HasStart, with_start_moved}
+use Rattle.glue_context.specs.Defined.{IsExportOf}
+use Rattle.glue_context.specs.Edits.{has_start, HasStart, with_start_exported, with_start_moved}
 use Rattle.glue_context.specs.Rewritten.{handed_move}
 
 -- what no change of a list takes away, all of them leave
@@ -95,6 +105,69 @@ module _ (own : List ℕ) (l : Lowered) (k : ℕ) (mine : has_number k own ≡ t
   pairs_away [] = All-nil NotMine
   pairs_away (pair ∷ pairs) = All-append NotMine (handed_pair own l pair) (flat_map (handed_pair own l) pairs) (pair_away pair) (pairs_away pairs)
 
+-- ---- exports that are added
+
+entry_from : {A : Type 0} (o : Option (Option A)) → is_entry o ≡ true → IsEntry o
+entry_from (Some (Some x)) h = tt
+entry_from (Some None) h = absurd (true≢false (sym h))
+entry_from None h = absurd (true≢false (sym h))
+
+-- an item that passes the test is an entry
+pub item_from : (m : Contents) (item : ExportItem) → is_live_item m item ≡ true → IsLiveItem m item
+item_from m (items.Func id) h = entry_from (slice_get m.funcs id.0) h
+item_from m (items.Table id) h = entry_from (slice_get m.tables id.0) h
+item_from m (items.Memory id) h = entry_from (slice_get m.memories id.0) h
+item_from m (items.Global id) h = entry_from (slice_get m.globals id.0) h
+item_from m (items.Tag id) h = entry_from (slice_get m.tags id.0) h
+
+all_by : {A : Type 0} (P : A → Type 0) (xs : List A) → ((x : A) → IsIn x xs → P x) → All P xs
+all_by P [] h = All-nil P
+all_by P (x ∷ xs) h = All-cons P x xs (h x (inl refl)) (all_by P xs (λ y at. h y (inr at)))
+
+-- they are the last ones, and nothing else changes
+pub added_alone : (m : Contents) (added : List (List ℕ × ExportItem)) → ((fold with_added m added).imports ≡ m.imports) × ((fold with_added m added).start ≡ m.start)
+    × ((fold with_added m added).memories ≡ m.memories) × ((fold with_added m added).funcs ≡ m.funcs)
+unfolding with_export
+added_alone m [] = (refl, refl, refl, refl)
+added_alone m (e ∷ added) = added_alone (with_added m e) added
+
+added_names : (m : Contents) (added : List (List ℕ × ExportItem))
+    → export_names m ++ map (λ (e : List ℕ × ExportItem). e.0) added ≡ export_names (fold with_added m added)
+unfolding with_export
+added_names m [] = append-nil (export_names m)
+added_names m (e ∷ added) =
+    sym (append_assoc (export_names m) (e.0 ∷ []) (map (λ (x : List ℕ × ExportItem). x.0) added))
+    ∙ ap (λ (ns : List (List ℕ)). ns ++ map (λ (x : List ℕ × ExportItem). x.0) added)
+    (sym (filter_map-append export_name m.exports (Some (record { name = e.0; item = e.1 }) ∷ [])))
+    ∙ added_names (with_added m e) added
+
+-- and each stands
+added_stands : (m : Contents) (added : List (List ℕ × ExportItem)) (x : Option Export) → IsIn x m.exports → IsIn x (fold with_added m added).exports
+unfolding with_export
+added_stands m [] x at = at
+added_stands m (e ∷ added) x at =
+    added_stands (with_added m e) added x (in_left x m.exports (Some (record { name = e.0; item = e.1 }) ∷ []) at)
+
+added_there : (m : Contents) (added : List (List ℕ × ExportItem)) (e : List ℕ × ExportItem) → IsIn e added
+    → IsIn (Some (record { name = e.0; item = e.1 })) (fold with_added m added).exports
+unfolding with_export
+added_there m [] e at = absurd at
+added_there m (x ∷ added) e (inl same) =
+    added_stands (with_added m x) added (Some (record { name = e.0; item = e.1 }))
+    (in_right (Some (record { name = e.0; item = e.1 })) m.exports (Some (record { name = x.0; item = x.1 }) ∷ [])
+    (inl (ap (λ (y : List ℕ × ExportItem). Some (record { name = y.0; item = y.1 })) same)))
+added_there m (x ∷ added) e (inr at) = added_there (with_added m x) added e at
+
+-- a start function that becomes an export leaves the others
+start_stands : (b : Bool) (m : Contents) (x : Option Export) → IsIn x m.exports → IsIn x (with_start_moved b m).exports
+unfolding with_export without_start
+start_stands false m x at = at
+start_stands true m x at = by m.start
+  where
+    by : (o : Option FuncId) → IsIn x (with_start_exported o m).exports
+    by None = at
+    by (Some f) = in_left x m.exports (Some (record { name = START.now; item = Func f }) ∷ []) at
+
 -- what is changed names entries
 pub edits_fit : (s : Settings) (l : Lowered) → AreFit (edits_of s l) l.«module»
 edits_fit s l =
@@ -105,7 +178,7 @@ edits_fit s l =
     (λ e q. grind (arith, q)) own moves in
     let start : HasStart (has_start l.«module») l.«module» = grind arith in record {
       imports = All-append (λ e. IsLive imports e.0.0) own (filter_map (handed_move imports) (handed_imports s l)) live (handed_live imports (handed_imports s l));
-      exports = All-nil (λ e. IsLiveItem l.«module» e.1);
+      exports = all_by (λ e. IsLiveItem l.«module» e.1) (added_exports s l) (λ e at. item_from l.«module» e.1 (added_live s l e at));
       start = start;
     }
 
@@ -135,11 +208,54 @@ module _ (s : Settings) (l : Lowered) where
   abbrev moved : Contents
   moved = fold with_moved l.«module» (edits_of s l).imports
 
-  -- its exports are those that the collected module has, and behind them the one that the call of the start function takes
-  pub rewritten_exports : export_names l.«module» ++ call_takes (has_start l.«module») ≡ export_names (rewritten s l)
+  -- and with the exports that are added
+  abbrev extended : Contents
+  extended = fold with_added moved (added_exports s l)
+
+  -- its imports are those of the written one
+  pub written_imports : moved.imports ≡ (rewritten s l).imports
+  written_imports = sym (added_alone moved (added_exports s l)).0 ∙ start_imports (has_start l.«module») extended
+
+  extended_start : has_start extended ≡ has_start l.«module»
+  extended_start =
+      let added = added_alone moved (added_exports s l) in
+      let imports = moved_alone l.«module» (edits_of s l).imports in
+      rw (added.1, added.3, imports.1, imports.2) refl
+
+  -- its exports are those that the collected module has, those that are added, and behind them the one that the call of the start function
+  -- takes
+  pub rewritten_exports : names_with_added s l ++ call_takes (has_start l.«module») ≡ export_names (rewritten s l)
   rewritten_exports =
-      let alone = moved_alone l.«module» (edits_of s l).imports in
-      let there = start_exports (has_start l.«module») moved (rw (alone.1, alone.2) refl) in rw alone.0 at there
+      let same : export_names moved ≡ export_names l.«module» = ap (filter_map export_name) (moved_alone l.«module» (edits_of s l).imports).0 in
+      let added = map (λ (e : List ℕ × ExportItem). e.0) (added_exports s l) in
+      ap (λ (ns : List (List ℕ)). (ns ++ added) ++ call_takes (has_start l.«module»)) (sym same)
+      ∙ ap (λ (ns : List (List ℕ)). ns ++ call_takes (has_start l.«module»)) (added_names moved (added_exports s l))
+      ∙ start_exports (has_start l.«module») extended extended_start
+
+  -- an item that is asked for is exported under the name that it goes by
+  pub item_exported : (m : NameMap) → m.wasm ≡ item_map (item_names s l) → (item : ExportItem) → IsIn item (asked_items s l)
+      → IsExportOf (rewritten s l) (export_named m (Some item)) item
+  item_exported m names item at =
+      let n = item_named s l item at in
+      by n.0 (ap or_empty (ap (λ (es : List (ExportItem × List ℕ)). look_up item_order es item) names ∙ n.1.0)) n.1.1
+    where
+      same_exports : moved.exports ≡ l.«module».exports
+      same_exports = (moved_alone l.«module» (edits_of s l).imports).0
+
+      by : (name : List ℕ) → export_named m (Some item) ≡ name → IsGivenAs s l item name → IsExportOf (rewritten s l) (export_named m (Some item)) item
+      by name q (inl h) = record {
+        «export» = h.«export»;
+        stands = start_stands (has_start l.«module») extended (Some h.«export»)
+            (added_stands moved (added_exports s l) (Some h.«export») (subst (IsIn (Some h.«export»)) (sym same_exports) h.among));
+        named = h.named ∙ sym q;
+        gives = h.gives;
+      }
+      by name q (inr there) = record {
+        «export» = record { name = name; item = item };
+        stands = start_stands (has_start l.«module») extended (Some (record { name = name; item = item })) (added_there moved (added_exports s l) (name, item) there);
+        named = sym q;
+        gives = refl;
+      }
 
   -- an import that the glue file defines keeps its name
   pub moved_keeps : (k : ℕ) (i : Import) → has_number k (own_imports s l.«module» l.wit l.aux) ≡ true → entry_at l.«module».imports k ≡ Some i
@@ -158,5 +274,5 @@ module _ (s : Settings) (l : Lowered) where
       (λ n e q h. grind (arith, common_steps, slice_get_cases)) handed (fold with_moved l.«module» own)
       (handed_away imports k (handed_imports s l) (pairs_away places l k mine l.wit.implements)) first in
       named (entry_at (rewritten s l).imports k) i.name (
-      ap (λ (is : List (Option Import)). name_at is k) (sym (start_imports (has_start l.«module») moved))
+      ap (λ (is : List (Option Import)). name_at is k) (sym written_imports)
       ∙ ap (λ (m : Contents). name_at m.imports k) (fold-append with_moved l.«module» own handed) ∙ both)

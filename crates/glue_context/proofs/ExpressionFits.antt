@@ -18,7 +18,6 @@ use Rattle.glue_shared.specs.declared.import.Intrinsic.{Intrinsic}
 use Rattle.glue_shared.specs.declared.import.Intrinsic.TheVariants as i
 use Rattle.glue_shared.specs.declared.import.JsImport.{JsImport}
 use Rattle.glue_shared.specs.declared.import.JsImportName.{JsImportName}
-use Rattle.glue_shared.specs.declared.import.JsImportName.TheVariants as js
 use Rattle.glue_shared.specs.declared.name_map.NameMap.{NameMap}
 use Rattle.glue_shared.specs.declared.settings.Settings.{Settings}
 use Rattle.glue_shared.specs.declared.settings.Target.{Target}
@@ -28,7 +27,8 @@ use Rattle.glue_imports.specs.declared.part.Part.{Part}
 use Rattle.glue_imports.specs.declared.part.Part.TheVariants as part
 use Rattle.glue_imports.specs.declared.part.Expression.{Expression}
 use Rattle.glue_imports.specs.Definitions.{typeof_front, if_function, else_not_defined, function_or_throw}
-use Rattle.glue_imports.specs.Roots.{drawn_name, root_name, root_of, root}
+use Rattle.glue_imports.specs.Given.{Given, constants_set, false_set, last_of, set_text, statements, table_filled, texts_from}
+use Rattle.glue_imports.specs.Roots.{begins, begins_with, drawn_name, plain_name, root}
 use Rattle.glue_imports.specs.Preludes.{plain, line_end, catch_front, close_line, result_is, instance_of, cast, linked, present}
 use Rattle.glue_imports.specs.Expressions.{around, assigned, index, new_front, delete_front, accessor_front, owner, described_call, accessor, value_parts, static_parts, loaded, intrinsic_expression, expression}
 use Rattle.glue_imports.specs.Intrinsics.{declares_instance, declares_module, name_if}
@@ -41,10 +41,14 @@ abbrev fit_if : Option Expression → Bool
 fit_if None = true
 fit_if (Some e) = expression_fits e
 
--- what stands for a described name is an identifier; a drawn one isn't `wasm`
+-- a drawn name, or without one the name of the host, is an identifier; a drawn one isn't `wasm`
+abbrev pub IsBegunWell : (drawn : Option (List ℕ)) → (name : List ℕ) → Type 0
+IsBegunWell (Some drawn) name = (is_ident drawn ≡ true) × (is_wasm drawn ≡ false)
+IsBegunWell None name = is_ident name ≡ true
+
+-- so it is with what stands for a described name
 abbrev pub IsWell : NameMap → JsImportName → Type 0
-IsWell m (js.Global name) = is_ident name ≡ true
-IsWell m other = (is_ident (drawn_name m other) ≡ true) × (is_wasm (drawn_name m other) ≡ false)
+IsWell m n = IsBegunWell (drawn_name m n) (plain_name n)
 
 -- so it is with what an import begins with
 abbrev pub IsNamedWell : NameMap → Option JsImport → Type 0
@@ -88,7 +92,7 @@ plain_fit value h k = rw (h, k) refl
 
 around_fit : (m : NameMap) (front : List Part) (j : JsImport) (behind : List Part) → IsNamedWell m (Some j) → FitAround front behind
     → expression_fits (plain (around m front j behind)) ≡ true
-around_fit m front j behind well f = by j.name (well j.name (inl refl))
+around_fit m front j behind well f = by (drawn_name m j.name) (well j.name (inl refl))
   where
     drawn : (name : List ℕ) → is_ident name ≡ true → is_wasm name ≡ false
         → expression_fits (plain (front ++ (part.Name name ∷ (map part.Property j.fields ++ behind)))) ≡ true
@@ -98,9 +102,10 @@ around_fit m front j behind well f = by j.name (well j.name (inl refl))
         (f.before name rest (root_fit 0 (Some semicolon) name j.fields behind ident other (f.here name ident other) f.after))
         (f.places (part.Name name ∷ rest) ∙ fields_places j.fields behind ∙ f.none)
 
-    by : (n : JsImportName) → IsWell m n → expression_fits (plain (front ++ (root_of m j.fields n ++ behind))) ≡ true
-    by (js.Global name) h = f.host name j.fields h
-    by other h = drawn (drawn_name m other) h.0 h.1
+    by : (o : Option (List ℕ)) → IsBegunWell o (plain_name j.name)
+        → expression_fits (plain (front ++ (begins_with j.fields o (plain_name j.name) ++ behind))) ≡ true
+    by None h = f.host (plain_name j.name) j.fields h
+    by (Some name) h = drawn name h.0 h.1
 
 -- what may stand behind a value by itself, and behind `new ` or `delete `
 behind_alone : (behind : List Part) → ((name : List ℕ) (fields : List (List ℕ)) → is_ident name ≡ true → expression_fits (plain (part.Host name fields ∷ behind)) ≡ true)
@@ -226,11 +231,11 @@ present_drawn name [] h k = rw (h, undefined_ident) refl
 present_drawn name (field ∷ fields) h k = rw (h, k, undefined_ident, chain_fit field fields, chain_places fields) refl
 
 static_fit : (m : NameMap) (j : JsImport) (optional : Bool) → IsNamedWell m (Some j) → expression_fits (plain (static_parts m j optional)) ≡ true
-static_fit m j true n = by j.name (n j.name (inl refl))
+static_fit m j true n = by (drawn_name m j.name) (n j.name (inl refl))
   where
-    by : (n : JsImportName) → IsWell m n → expression_fits (plain (present (root_name m n) j.fields)) ≡ true
-    by (js.Global name) h = present_host name j.fields h
-    by other h = present_drawn (drawn_name m other) j.fields h.0 h.1
+    by : (o : Option (List ℕ)) → IsBegunWell o (plain_name j.name) → expression_fits (plain (present (begins o (plain_name j.name)) j.fields)) ≡ true
+    by None h = present_host (plain_name j.name) j.fields h
+    by (Some name) h = present_drawn name j.fields h.0 h.1
 static_fit m j false n =
     subst (λ (parts : List Part). expression_fits (plain parts) ≡ true) (append-nil (root m j)) (around_fit m [] j [] n alone_around)
 
@@ -275,44 +280,94 @@ instance_drawn name fields h k =
 
 instance_fit : (m : NameMap) (j : JsImport) → IsNamedWell m (Some j) → expression_fits (instance_of (root m j)) ≡ true
 unfolding joins punct_text
-instance_fit m j n = by j.name (n j.name (inl refl))
+instance_fit m j n = by (drawn_name m j.name) (n j.name (inl refl))
   where
-    by : (n : JsImportName) → IsWell m n → expression_fits (instance_of (root_of m j.fields n)) ≡ true
-    by (js.Global name) h = rw h refl
-    by other h = instance_drawn (drawn_name m other) j.fields h.0 h.1
+    by : (o : Option (List ℕ)) → IsBegunWell o (plain_name j.name) → expression_fits (instance_of (begins_with j.fields o (plain_name j.name))) ≡ true
+    by None h = rw h refl
+    by (Some name) h = instance_drawn name j.fields h.0 h.1
 
 -- ---- intrinsics, links and casts
 
--- a name that loading declares
+-- a name that the file has
 loaded_fit : (declared : Bool) (name : List ℕ) → is_ident name ≡ true → fit_if (option_map loaded (name_if declared name)) ≡ true
 unfolding joins punct_text
 loaded_fit true name h = rw h refl
 loaded_fit false name h = refl
 
-intrinsic_fit : (target : Target) (externref bound : Bool) (name : Intrinsic) → fit_if (intrinsic_expression target externref bound name) ≡ true
+-- ---- the table of references, filled
+
+-- a text that is set as a statement, with those behind it
+texts_fit : (place : ℕ) (text : List ℕ) (slot : ℕ × List ℕ) (slots : List (ℕ × List ℕ))
+    → (parts_fit 1 None (statements (set_text (place, text)) (slot ∷ slots)) ≡ true) × (ends_line (statements (set_text (place, text)) (slot ∷ slots)) ≡ true)
 unfolding joins punct_text
-intrinsic_fit target externref true i.ObjectCloneRef = refl
-intrinsic_fit target externref true i.ObjectDropRef = refl
-intrinsic_fit target externref false i.ObjectCloneRef = refl
-intrinsic_fit target externref false i.ObjectDropRef = refl
-intrinsic_fit target externref bound i.IsUndefined = rw undefined_ident refl
-intrinsic_fit target externref bound i.Reinit = rw undefined_ident refl
-intrinsic_fit target externref bound i.Throw = rw (ascii_ident (codes "Error") refl) refl
-intrinsic_fit target externref bound i.CopyToTypedArray = rw (ascii_ident (codes "Uint8Array") refl) refl
-intrinsic_fit target externref bound i.DebugString = rw (ascii_ident (codes "debugString") refl) refl
-intrinsic_fit target externref bound i.PanicError = rw (ascii_ident (codes "PanicError") refl) refl
-intrinsic_fit target externref bound i.NumberGet = rw undefined_ident refl
-intrinsic_fit target externref bound i.StringGet = rw undefined_ident refl
-intrinsic_fit target externref bound i.BooleanGet = rw undefined_ident refl
-intrinsic_fit target externref bound i.BigIntGetAsI64 = rw undefined_ident refl
-intrinsic_fit target externref bound i.CheckedDiv = rw (ascii_ident (codes "RangeError") refl) refl
-intrinsic_fit target true bound i.ExternrefHeapLiveCount = refl
-intrinsic_fit target false bound i.ExternrefHeapLiveCount = rw (ascii_ident (codes "heap") refl, ascii_ident (codes "heap_next") refl) refl
-intrinsic_fit target externref bound i.Instance =
+texts_fit place text slot [] = (refl, refl)
+texts_fit place text slot (next ∷ slots) = let rest = texts_fit slot.0 slot.1 next slots in (rw rest.0 refl, rw rest.1 refl)
+
+texts_places : (place : ℕ) (text : List ℕ) (slots : List (ℕ × List ℕ)) → bound_places (statements (set_text (place, text)) slots) ≡ []
+texts_places place text [] = refl
+texts_places place text (slot ∷ slots) = texts_places slot.0 slot.1 slots
+
+-- the last one is the expression
+last_fit : (place : ℕ) (text : List ℕ) (slots : List (ℕ × List ℕ))
+    → (parts_fit 1 (Some semicolon) (last_of (set_text (place, text)) slots) ≡ true) × (bound_places (last_of (set_text (place, text)) slots) ≡ [])
+unfolding joins punct_text
+last_fit place text [] = (refl, refl)
+last_fit place text (slot ∷ slots) = last_fit slot.0 slot.1 slots
+
+-- the constants, and the texts behind them
+constants_fit : (name : List ℕ) (slots : List (ℕ × List ℕ))
+    → (parts_fit 1 None (constants_set name ++ statements false_set slots) ≡ true) × (ends_line (constants_set name ++ statements false_set slots) ≡ true)
+unfolding joins punct_text
+constants_fit name [] = (rw undefined_ident refl, refl)
+constants_fit name (slot ∷ []) = (rw undefined_ident refl, refl)
+constants_fit name (slot ∷ next ∷ slots) = let rest = texts_fit slot.0 slot.1 next slots in (rw (undefined_ident, rest.0) refl, rw rest.1 refl)
+
+-- they bind no local behind the first one
+false_places : (slots : List (ℕ × List ℕ)) → bound_places (statements false_set slots) ≡ []
+false_places [] = refl
+false_places (slot ∷ slots) = texts_places slot.0 slot.1 slots
+
+false_fit : (slots : List (ℕ × List ℕ)) → (parts_fit 1 (Some semicolon) (last_of false_set slots) ≡ true) × (bound_places (last_of false_set slots) ≡ [])
+unfolding joins punct_text
+false_fit [] = (refl, refl)
+false_fit (slot ∷ slots) = last_fit slot.0 slot.1 slots
+
+table_fit : (externref : Bool) (g : Given) → fit_if (table_filled externref g) ≡ true
+table_fit true g =
+    let texts = texts_from 1028 g.slots in
+    let above = constants_fit g.export texts in
+    let value = false_fit texts in
+    rw (above.0, above.1, false_places texts, value.0, value.1) refl
+table_fit false g = refl
+
+intrinsic_fit : (target : Target) (externref : Bool) (g : Given) (bound : Bool) (name : Intrinsic)
+    → fit_if (intrinsic_expression target externref g bound name) ≡ true
+unfolding joins punct_text
+intrinsic_fit target externref g true i.ObjectCloneRef = refl
+intrinsic_fit target externref g true i.ObjectDropRef = refl
+intrinsic_fit target externref g false i.ObjectCloneRef = refl
+intrinsic_fit target externref g false i.ObjectDropRef = refl
+intrinsic_fit target externref g bound i.IsUndefined = rw undefined_ident refl
+intrinsic_fit target externref g bound i.Reinit = rw undefined_ident refl
+intrinsic_fit target externref g bound i.Throw = rw (ascii_ident (codes "Error") refl) refl
+intrinsic_fit target externref g bound i.CopyToTypedArray = rw (ascii_ident (codes "Uint8Array") refl) refl
+intrinsic_fit target externref g bound i.StringFromUtf8Lossy = rw (ascii_ident (codes "decodeText") refl) refl
+intrinsic_fit target true g bound i.InitExternrefTable = table_fit true g
+intrinsic_fit target false g bound i.InitExternrefTable = refl
+intrinsic_fit target externref g bound i.DebugString = rw (ascii_ident (codes "debugString") refl) refl
+intrinsic_fit target externref g bound i.PanicError = rw (ascii_ident (codes "PanicError") refl) refl
+intrinsic_fit target externref g bound i.NumberGet = rw undefined_ident refl
+intrinsic_fit target externref g bound i.StringGet = rw undefined_ident refl
+intrinsic_fit target externref g bound i.BooleanGet = rw undefined_ident refl
+intrinsic_fit target externref g bound i.BigIntGetAsI64 = rw undefined_ident refl
+intrinsic_fit target externref g bound i.CheckedDiv = rw (ascii_ident (codes "RangeError") refl) refl
+intrinsic_fit target true g bound i.ExternrefHeapLiveCount = refl
+intrinsic_fit target false g bound i.ExternrefHeapLiveCount = rw (ascii_ident (codes "heap") refl, ascii_ident (codes "heap_next") refl) refl
+intrinsic_fit target externref g bound i.Instance =
     loaded_fit (declares_instance target) (codes "wasmInstance") (ascii_ident (codes "wasmInstance") refl)
-intrinsic_fit target externref bound i.Module =
+intrinsic_fit target externref g bound i.Module =
     loaded_fit (declares_module target) (codes "wasmModule") (ascii_ident (codes "wasmModule") refl)
-intrinsic_fit target externref bound other = refl
+intrinsic_fit target externref g bound other = refl
 
 url_ident : is_ident (codes "URL") ≡ true
 url_ident = ascii_ident (codes "URL") refl
@@ -338,29 +393,29 @@ cast_fit false comment = refl
 
 -- ---- each kind
 
-text_fits : (s : Settings) (m : NameMap) (call : AdapterJsImportKind) (spread bound : Bool) (w : AuxImport) → IsNamedWell m (js_import w)
-    → fit_if (expression s m call spread bound w) ≡ true
+text_fits : (s : Settings) (m : NameMap) (g : Given) (call : AdapterJsImportKind) (spread bound : Bool) (w : AuxImport) → IsNamedWell m (js_import w)
+    → fit_if (expression s m g call spread bound w) ≡ true
 unfolding joins punct_text
-text_fits s m call spread bound (what.Value value) n = value_fit m call spread value n
-text_fits s m call spread bound (what.ValueWithThis j property) n =
+text_fits s m g call spread bound (what.Value value) n = value_fit m call spread value n
+text_fits s m g call spread bound (what.ValueWithThis j property) n =
     around_fit m [] j (part.Property property ∷ part.Arguments spread ∷ []) n (this_around spread property)
-text_fits s m call spread bound (what.Instanceof j) n = instance_fit m j n
-text_fits s m call spread bound (what.Static j optional) n = static_fit m j optional n
-text_fits s m call spread bound (what.Cast comment) n = cast_fit bound comment
-text_fits s m call spread bound (what.StructuralClassGetter j property) n = around_fit m [] j (part.Property property ∷ []) n (property_around property)
-text_fits s m call spread bound (what.StructuralClassSetter j property) n =
+text_fits s m g call spread bound (what.Instanceof j) n = instance_fit m j n
+text_fits s m g call spread bound (what.Static j optional) n = static_fit m j optional n
+text_fits s m g call spread bound (what.Cast comment) n = cast_fit bound comment
+text_fits s m g call spread bound (what.StructuralClassGetter j property) n = around_fit m [] j (part.Property property ∷ []) n (property_around property)
+text_fits s m g call spread bound (what.StructuralClassSetter j property) n =
     around_fit m [] j (part.Property property ∷ assigned 0) n (set_around property)
-text_fits s m call spread bound (what.IndexingGetterOfClass j) n = around_fit m [] j (index 0) n index_around
-text_fits s m call spread bound (what.IndexingSetterOfClass j) n = around_fit m [] j (index 0 ++ assigned 1) n index_set_around
-text_fits s m call spread bound (what.IndexingDeleterOfClass j) n = around_fit m delete_front j (index 0) n delete_around
-text_fits s m call spread bound (what.LinkTo path content) n = link_fit s.split_linked_modules s.target path content
-text_fits s m call spread bound (what.Intrinsic name) n = intrinsic_fit s.target s.externref bound name
-text_fits s m call spread bound other n = refl
+text_fits s m g call spread bound (what.IndexingGetterOfClass j) n = around_fit m [] j (index 0) n index_around
+text_fits s m g call spread bound (what.IndexingSetterOfClass j) n = around_fit m [] j (index 0 ++ assigned 1) n index_set_around
+text_fits s m g call spread bound (what.IndexingDeleterOfClass j) n = around_fit m delete_front j (index 0) n delete_around
+text_fits s m g call spread bound (what.LinkTo path content) n = link_fit s.split_linked_modules s.target path content
+text_fits s m g call spread bound (what.Intrinsic name) n = intrinsic_fit s.target s.externref g bound name
+text_fits s m g call spread bound other n = refl
 
 -- an expression fits whose global is an identifier, and so is its drawn name, which isn't `wasm`
-pub expression_fit : (s : Settings) (m : NameMap) (call : AdapterJsImportKind) (spread bound : Bool) (w : AuxImport) (e : Expression)
-    → IsNamedWell m (js_import w) → expression s m call spread bound w ≡ Some e → expression_fits e ≡ true
-expression_fit s m call spread bound w e n h = ap fit_if (sym h) ∙ text_fits s m call spread bound w n
+pub expression_fit : (s : Settings) (m : NameMap) (g : Given) (call : AdapterJsImportKind) (spread bound : Bool) (w : AuxImport) (e : Expression)
+    → IsNamedWell m (js_import w) → expression s m g call spread bound w ≡ Some e → expression_fits e ≡ true
+expression_fit s m g call spread bound w e n h = ap fit_if (sym h) ∙ text_fits s m g call spread bound w n
 
 -- ---- the definition of an import by a value
 
@@ -381,9 +436,10 @@ function_drawn name fields text ident other =
 -- it may stand before a comma
 pub function_fit : (m : NameMap) (j : JsImport) (text : List ℕ) → IsNamedWell m (Some j) → parts_fit 0 (Some comma) (function_or_throw m j text) ≡ true
 unfolding joins punct_text
-function_fit m j text n = by j.name (n j.name (inl refl))
+function_fit m j text n = by (drawn_name m j.name) (n j.name (inl refl))
   where
-    by : (n : JsImportName) → IsWell m n
-        → parts_fit 0 (Some comma) (typeof_front ++ (root_of m j.fields n ++ (if_function ++ (root_of m j.fields n ++ else_not_defined text)))) ≡ true
-    by (js.Global name) h = rw (h, not_defined_ident) refl
-    by other h = function_drawn (drawn_name m other) j.fields text h.0 h.1
+    by : (o : Option (List ℕ)) → IsBegunWell o (plain_name j.name)
+        → (let value = begins_with j.fields o (plain_name j.name) in
+        parts_fit 0 (Some comma) (typeof_front ++ (value ++ (if_function ++ (value ++ else_not_defined text)))) ≡ true)
+    by None h = rw (h, not_defined_ident) refl
+    by (Some name) h = function_drawn name j.fields text h.0 h.1

@@ -1,6 +1,6 @@
 -- What is known of a description whose items are made, however it was checked, and that the check gives it.
 use Rattle.glue_context.proofs.Common.{◌≡◌, ℕ, List, [], true, false, None, Some, Option, arith, list_all, is_bindable, is_definable, IsIn, IsAway, AreDistinct, ImportId, AuxExport, AuxImport, Settings, NameMap, Deno, Lowered, frame_of, rewritten, fixed_names, own_imports, IsBuiltExport, HasSteps, FileFlags, unbuilt, verdict}
-use Rattle.glue_check.proofs.{BuiltForm.target_built, BuiltForm.settings_built, BuiltForm.imports_built, BuiltForm.exports_built, BuiltForm.only_functions}
+use Rattle.glue_check.proofs.{BuiltForm.target_built, BuiltForm.settings_built, BuiltForm.exports_built, BuiltForm.only_functions}
 use Rattle.glue_check.proofs.{ExportNames.distinct_functions, ExportNames.names_of, OwnPairs.IsDefinableBy, OwnPairs.IsDefinedImport, OwnPairs.kept_pair, OwnPairs.number_there, OwnPairs.own_defined, OwnPairs.own_distinct, Passed.brought_apart, Passed.brought_ident, Steps.export_steps, Steps.pair_steps}
 use Rattle.glue_check.specs.Taken.{brought}
 use Rattle.glue_naming.specs.Pairs.{is_among, own_pairs}
@@ -13,7 +13,6 @@ use Rattle.glue_context.proofs.Lists.{all_by}
 
 pub record Facts (s : Settings) (l : Lowered) : Type 0 where
   pub deno : s.target ≡ Deno
-  pub kept : s.omit_imports ≡ false
   pub no_reset : s.reset_state ≡ false
   pub plain_files : (s.debug ≡ false) × (s.export_wasm ≡ false)
   -- no two exports have one name
@@ -25,8 +24,8 @@ pub record Facts (s : Settings) (l : Lowered) : Type 0 where
   pub structs : l.aux.structs ≡ []
   pub enums : l.aux.enums ≡ []
   pub reexports : l.aux.reexports ≡ []
-  pub idents : (e : ℕ × AuxImport) → IsIn e l.aux.imports → (name : List ℕ) → IsIn name (brought false e.1) → is_ident name ≡ true
-  pub apart : (e : ℕ × AuxImport) → IsIn e l.aux.imports → (name : List ℕ) → IsIn name (brought false e.1) → IsAway name (fixed_names s l.«module»)
+  pub idents : (e : ℕ × AuxImport) → IsIn e l.aux.imports → (name : List ℕ) → IsIn name (brought s.omit_imports e.1) → is_ident name ≡ true
+  pub apart : (e : ℕ × AuxImport) → IsIn e l.aux.imports → (name : List ℕ) → IsIn name (brought s.omit_imports e.1) → IsAway name (fixed_names s l.«module»)
   -- each export is a function at the top level, and its adapter and that of each own import has steps
   pub exports : (e : AuxExport) → IsIn e l.aux.exports → IsBuiltExport e
   pub export_steps : (e : AuxExport) → IsIn e l.aux.exports → HasSteps s l e.adapter
@@ -42,10 +41,8 @@ own_pair s l pair k = kept_pair (is_among (own_imports s l.«module» l.wit l.au
 pub built : (f : FileFlags) (s : Settings) (l : Lowered) → unbuilt f s l ≡ None → verdict s l ≡ None → Facts s l
 built f s l whole passed =
     let asked = settings_built f s l whole in
-    let only = only_functions f s l whole in
-    let imports = imports_built f s l whole in record {
+    let only = only_functions f s l whole in record {
       deno = target_built f s l whole;
-      kept = imports.kept;
       no_reset = asked.no_reset;
       plain_files = (asked.no_tests, asked.no_module);
       names = distinct_functions f s l whole passed;

@@ -22,10 +22,15 @@ use Rattle.glue_steps.specs.declared.step.Step.TheVariants.{CallImport}
 use Rattle.glue_binding.proofs.Parts.{outer_parts, outer_expression, expression_none, parts_declare}
 use Rattle.glue_binding.proofs.Paths.{TellsKeys, path_tells, property_tells, chained_tells}
 use Rattle.glue_scope.specs.Properties.{property_parts}
-use Rattle.glue_shared.specs.Names.{described_hosts, entry_of, has_number}
+use Rattle.std.specs.Prelude.{Option, None, is_some}
+use Rattle.values.specs.Map.{look_up}
+use Rattle.wasm_core.specs.entries.ExportItem.{ExportItem}
+use Rattle.glue_imports.specs.Given.{given_item, gives_item}
+use Rattle.glue_steps.specs.Resolving.{export_named, given_of, item_order, or_empty}
+use Rattle.glue_naming.specs.ItemNames.{added_exports, item_map, item_names}
+use Rattle.glue_naming.proofs.ItemNames.{given_listed, item_asked, item_named, names_with_added}
+use Rattle.glue_shared.specs.Names.{entry_of, has_number}
 use Rattle.glue_shared.specs.declared.import.JsImportName.{JsImportName}
-use Rattle.glue_shared.specs.declared.import.JsImportName.TheVariants as js
-use Rattle.glue_imports.specs.Roots.{drawn_name}
 use Rattle.glue_imports.specs.declared.part.Part.{Part}
 use Rattle.glue_imports.specs.declared.part.Part.TheVariants as part
 use Rattle.glue_imports.specs.declared.part.Expression.{Expression}
@@ -33,14 +38,13 @@ use Rattle.glue_binding.proofs.Linked.{StandsBeside, bound_local, bound_resolved
 use Rattle.helper_table.proofs.Held.{free_names}
 use Rattle.glue_check.specs.Handed.{own_callees}
 use Rattle.glue_check.proofs.Globals.{in_flat}
-use Rattle.glue_naming.specs.Listed.{is_global_name}
 use Rattle.glue_context.specs.DefinedItems.{takes_memory}
 use Rattle.glue_context.specs.Edits.{has_start}
 use Rattle.glue_context.specs.Keys.{described_keys, import_properties, imported_properties, other_properties}
 use Rattle.glue_context.proofs.Declared.{all_found}
 use Rattle.glue_context.proofs.Lists.{none_given}
 use Rattle.glue_context.proofs.ExpressionFits.{IsWell, IsNamedWell, expression_fit}
-use Rattle.glue_context.proofs.ExpressionNames.{HasPart, HasExpression, HasLoaded, used_hosts, expression_has}
+use Rattle.glue_context.proofs.ExpressionNames.{HasPart, HasExpression, HasLoaded, HasName, used_hosts, expression_has}
 
 -- ---- what steps bring along
 
@@ -73,6 +77,8 @@ has_parts c (part.Host name fields ∷ parts) words k h =
     let rest = has_keys c (path_words fields) (outer_parts parts ++ words) (filter is_computed fields) (path_tells fields) k.0.1 (has_parts c parts words k.1 h) in
     rw (append_assoc (path_words fields) (outer_parts parts) words) (rest.0, (k.0.0, rest.1), rest.2, rest.3, rest.4)
 has_parts c (part.Exports ∷ parts) words k h = let rest = has_parts c parts words k.1 h in ((k.0, rest.0), rest.1, rest.2, rest.3, rest.4)
+has_parts c (part.Export name ∷ parts) words k h =
+    let rest = has_parts c parts words k.1 h in ((k.0.0, rest.0), rest.1, (k.0.1, rest.2), rest.3, rest.4)
 has_parts c (part.Property name ∷ parts) words k h =
     rw (append_assoc (property_parts name) (outer_parts parts) words)
     (has_keys c (property_parts name) (outer_parts parts ++ words) (filter is_computed (name ∷ [])) (property_tells name) k.0 (has_parts c parts words k.1 h))
@@ -102,7 +108,7 @@ module _ (s : Settings) (l : Lowered) where
   abbrev pub names_with : (declared : List (List ℕ)) → Context
   names_with declared = record {
     hosts = host_names s l.aux;
-    exports = export_names l.«module» ++ call_takes (has_start l.«module»);
+    exports = names_with_added s l ++ call_takes (has_start l.«module»);
     keys = described_keys l.aux;
     declared = declared;
   }
@@ -122,50 +128,61 @@ module _ (s : Settings) (l : Lowered) where
       among_left used_hosts (map (λ w. w.now) HOSTS) _ known
 
   module _ (m : NameMap) where
-    -- what holds of the name that is drawn for what a described import begins with, where an adapter of an own import calls it and it is no
-    -- global
-    abbrev ForDrawn : (List ℕ → Type 0) → Type 0
-    ForDrawn P = (id : ℕ) (w : AuxImport) → has_number id (own_callees s l) ≡ true → entry_of id l.aux.imports ≡ Some w
-        → (n : JsImportName) → IsIn n (names_of (js_import w)) → is_global_name n ≡ false → P (drawn_name m n)
+    -- what holds of the name that a described import begins with, where an adapter of an own import calls it
+    abbrev ForCalled : (JsImportName → Type 0) → Type 0
+    ForCalled P = (id : ℕ) (w : AuxImport) → has_number id (own_callees s l) ≡ true → entry_of id l.aux.imports ≡ Some w
+        → (n : JsImportName) → IsIn n (names_of (js_import w)) → P n
 
-    -- each is an identifier, and none is `wasm`
+    -- what stands for each is an identifier, and no drawn one is `wasm`
     abbrev pub AreWell : Type 0
-    AreWell = ForDrawn (λ name. (is_ident name ≡ true) × (is_wasm name ≡ false))
+    AreWell = ForCalled (IsWell m)
 
     -- these names hold what functions and definitions use of the file: `wasm`, `memory` where that is handed in, helpers that need nothing of the
-    -- module, the drawn names, and those that loading declares for the values of intrinsics
+    -- module, the drawn names, and those that the file has for the values of intrinsics; what has no drawn name is a name of the host, and items
+    -- go by the names of their exports
     pub record HasBasis (declared : List (List ℕ)) : Type 0 where
       pub wasm : IsIn (codes "wasm") declared
       pub memory : takes_memory s l ≡ true → IsIn (codes "memory") declared
       pub helpers : AreAmong free_names declared
-      pub drawn : ForDrawn (λ name. IsIn name declared)
+      pub begun : ForCalled (HasName (names_with declared) m)
       pub values : HasLoaded (names_with declared) s.target
+      pub items : m.wasm ≡ item_map (item_names s l)
 
     abbrev AreThere : List Step → Type 0
     AreThere = AllByRecursion (IsThere s l m)
 
     pub named_well : AreWell → (e : Expression) (d : IsDescribed s l m e) → IsNamedWell m (js_import d.entry.1)
-    named_well well e d n i = by n i (well d.entry.0 d.entry.1 d.own d.first n i)
-      where
-        by : (n : JsImportName) → IsIn n (names_of (js_import d.entry.1))
-            → (is_global_name n ≡ false → (is_ident (drawn_name m n) ≡ true) × (is_wasm (drawn_name m n) ≡ false)) → IsWell m n
-        by (js.Global name) i h = d.ident name (in_flat (described_hosts false) (names_of (js_import d.entry.1)) (js.Global name) name i (inl refl))
-        by other i h = h refl
+    named_well well e d n i = well d.entry.0 d.entry.1 d.own d.first n i
 
     -- the texts of steps are spaced
     are_fit : AreWell → (steps : List Step) → AreThere steps → list_all step_fit steps ≡ true
     are_fit well [] h = refl
     are_fit well (step ∷ steps) h =
         let rest = are_fit well steps h.1 in
-        let fit = λ (e : Expression) (d : IsDescribed s l m e). expression_fit s m d.call d.spread d.bound d.entry.1 e (named_well well e d) d.is in
+        let fit = λ (e : Expression) (d : IsDescribed s l m e).
+        expression_fit s m (given_of m l d.entry.1) d.call d.spread d.bound d.entry.1 e (named_well well e d) d.is in
         grind arith
 
     -- where what each step names is there, a file with these names has those of the steps
     module _ (declared : List (List ℕ)) (basis : HasBasis declared) where
+      -- the export that gives the item of a described import
+      item_there : (e : Expression) (d : IsDescribed s l m e) → gives_item d.entry.1 ≡ true
+          → IsIn (given_of m l d.entry.1).export (names_with declared).exports
+      item_there e d gives = by (given_item l d.entry.1) refl (d.given gives)
+        where
+          by : (o : Option ExportItem) → given_item l d.entry.1 ≡ o → is_some o ≡ true → IsIn (export_named m o) (names_with declared).exports
+          by None q h = absurd (true≢false (sym h))
+          by (Some item) q h =
+              let n = item_named s l item (item_asked s l d.entry.0 d.entry.1 item d.own d.first q) in
+              in_left (export_named m (Some item)) (names_with_added s l) (call_takes (has_start l.«module»))
+              (subst (λ (name : List ℕ). IsIn name (names_with_added s l))
+              (sym (ap or_empty (ap (λ (es : List (ExportItem × List ℕ)). look_up item_order es item) basis.items ∙ n.1.0)))
+              (given_listed s l item n.0 n.1.1))
+
       described_text : (e : Expression) → IsDescribed s l m e → HasExpression (names_with declared) e
-      described_text e d = expression_has (names_with declared) s m d.call d.spread d.bound d.entry.1 e (record {
-        host = d.host;
-        drawn = basis.drawn d.entry.0 d.entry.1 d.own d.first;
+      described_text e d = expression_has (names_with declared) s m (given_of m l d.entry.1) d.call d.spread d.bound d.entry.1 e (record {
+        given = item_there e d;
+        begun = basis.begun d.entry.0 d.entry.1 d.own d.first;
         keys = keys_described d.entry d.among;
         used = fixed_hosts;
         helpers = basis.helpers;
@@ -177,6 +194,9 @@ module _ (s : Settings) (l : Lowered) where
       has_names (step ∷ steps) h =
           let k = has_names steps h.1 in
           let wasm = basis.wasm in
+          let kept = λ (name : List ℕ) (at : IsIn name (export_names l.«module»)).
+          in_left name (names_with_added s l) (call_takes (has_start l.«module»))
+          (in_left name (export_names l.«module») (map (λ (x : List ℕ × ExportItem). x.0) (added_exports s l)) at) in
           let text = λ (e : Expression) (d : IsDescribed s l m e). has_expression_names (names_with declared) e (outside_of steps) (described_text e d) k in
           grind (arith, in_left)
 

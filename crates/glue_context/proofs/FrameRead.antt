@@ -1,5 +1,5 @@
 -- What the frame of a description goes by is what can be read off the module that is written.
-use Rattle.glue_context.proofs.Common.{◌≡◌, ℕ, zero, suc, ◌+◌, List, [], ◌∷◌, ◌++◌, map, Bool, true, false, true≢false, refl, sym, ap, ◌∙◌, subst, fold, arith, take, flat_map, list_any, bytes_eq, is_some, Option, Some, None, option_map, IsIn, Contents, Import, ImportId, Settings, Lowered, Frame, own_imports, entry_at, edits_of, rewritten, with_moved, with_import, foreign_modules, frame_of, module_at, modules_from, FileFlags, unbuilt, verdict}
+use Rattle.glue_context.proofs.Common.{◌≡◌, ℕ, zero, suc, ◌+◌, List, [], ◌∷◌, ◌++◌, map, Bool, true, false, true≢false, refl, sym, ap, ◌∙◌, subst, fold, arith, take, flat_map, list_any, bytes_eq, is_some, Option, Some, None, option_map, IsIn, Contents, Import, ImportId, Settings, Lowered, Frame, own_imports, entry_at, edits_of, rewritten, with_added, with_moved, with_import, foreign_modules, frame_of, module_at, modules_from, FileFlags, unbuilt, verdict}
 use Rattle.std.specs.Prelude.{slice_get, slice_set, cond, ◌&&◌, ◌||◌, not}
 use Rattle.std.proofs.lemmas.Bool.{and_parts}
 use Rattle.std.proofs.lemmas.Option.{same_Some}
@@ -18,7 +18,7 @@ use Rattle.glue_context.specs.DefinedItems.{is_unpaired, takes_memory}
 use Rattle.glue_context.specs.Edits.{has_start, with_start_moved}
 use Rattle.glue_context.specs.Foreign.{has_strings, is_strings, path_of}
 use Rattle.glue_context.specs.FrameIn.{foreign_path, frame_in, is_first_memory, is_memory_of}
-use Rattle.glue_context.proofs.Edited.{start_imports}
+use Rattle.glue_context.proofs.Edited.{added_alone, written_imports}
 use Rattle.glue_context.proofs.Entries.{any_entry, any_there, mapped_entry, mapped_some, one_of_any}
 use Rattle.glue_context.proofs.OwnPaths.{own_is}
 
@@ -113,10 +113,12 @@ module _ (f : FileFlags) (s : Settings) (l : Lowered) (whole : unbuilt f s l ≡
   moved = fold with_moved l.«module» (edits_of s l).imports
 
   written_kinds : map kind_of written.imports ≡ map kind_of l.«module».imports
-  written_kinds = ap (map kind_of) (sym (start_imports (has_start l.«module») moved)) ∙ all_kinds l.«module» (edits_of s l).imports
+  written_kinds = ap (map kind_of) (sym (written_imports s l)) ∙ all_kinds l.«module» (edits_of s l).imports
 
   written_memories : written.memories ≡ l.«module».memories
-  written_memories = start_memories (has_start l.«module») moved ∙ moved_memories l.«module» (edits_of s l).imports
+  written_memories =
+      start_memories (has_start l.«module») (fold with_added moved (edits_of s l).exports) ∙ (added_alone moved (edits_of s l).exports).2
+      ∙ moved_memories l.«module» (edits_of s l).imports
 
   -- what the import at a place brings in
   same_kind : (k : ℕ) → kind_of (entry_at written.imports k) ≡ kind_of (entry_at l.«module».imports k)

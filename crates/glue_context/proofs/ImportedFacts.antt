@@ -13,7 +13,7 @@ use Rattle.glue_shared.specs.declared.import.JsImportName.{JsImportName}
 use Rattle.glue_shared.specs.declared.import.JsImportName.TheVariants as js
 use Rattle.glue_shared.specs.declared.name_map.NameMap.{NameMap}
 use Rattle.glue_shared.specs.Names.{is_from_module}
-use Rattle.glue_check.specs.Naming.{name_where}
+use Rattle.glue_check.specs.Omitted.{name_where}
 use Rattle.glue_targets.specs.Published.{IsNamed}
 use Rattle.glue_lines.specs.declared.form.LineForm.{LineForm}
 use Rattle.glue_lines.specs.Grouped.{Imported, AreImportLines, placed_entries}
@@ -22,7 +22,8 @@ use Rattle.glue_lines.proofs.GroupedFacts as grouped
 use Rattle.glue_lines.proofs.LineFacts.{entry_names, line_hosts, import_holds}
 use Rattle.glue_lines.proofs.Shown.{HoldsOnly}
 use Rattle.glue_lines.proofs.VendorFacts.{constant_belongs, constant_holds, tried_names}
-use Rattle.glue_naming.specs.Listed.{is_global_name, names_drawn}
+use Rattle.glue_naming.specs.Imported.{is_outside}
+use Rattle.glue_naming.specs.Listed.{names_drawn}
 use Rattle.glue_context.specs.Defined.{HoldsFunction}
 use Rattle.glue_context.specs.ImportedItems.{constant_of, vendor_item, vendor_items}
 use Rattle.glue_context.proofs.Lists.{all_joined}
@@ -144,13 +145,14 @@ module _ (form : LineForm) (imports : List Imported) (lines : List Item) (are : 
   constants_declare =
       among_by constants_names (names_drawn imports) (λ name at. kind_names is_vendor_name name imports (subst (IsIn name) (vendor_bound imports) at))
 
-  -- a name of one that is no global is declared by a line or a constant
-  pub one_declares : ((import : Imported) → IsIn import imports → is_global_name import.0 ≡ false) → (name : List ℕ) → IsIn name (names_drawn imports)
+  -- a name of one that is no name of the host is declared by a line or a constant
+  pub one_declares : (omitted : Bool) → ((import : Imported) → IsIn import imports → is_outside omitted import.0 ≡ false) → (name : List ℕ)
+      → IsIn name (names_drawn imports)
       → IsIn name lines_names ⊎ IsIn name constants_names
-  one_declares none name at =
+  one_declares omitted none name at =
       let all : AreAmong module_names lines_names =
       subst (λ (names : List (List ℕ)). AreAmong names lines_names) (placed_are imports) (grouped.lines_declare_all form imports lines are) in
-      elim (each_kind name imports none at) [
+      elim (each_kind omitted name imports none at) [
         | inl here ↦ inl (among_in name module_names lines_names all here)
         | inr here ↦ inr (subst (IsIn name) (sym (vendor_bound imports)) here)
       ]

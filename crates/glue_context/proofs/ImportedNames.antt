@@ -1,4 +1,4 @@
--- Names of described imports by what these are: of modules, of vendors, or of globals.
+-- Names of described imports by what these are: of modules, of vendors, or of the host.
 use Rattle.glue_context.proofs.Common.{◌≡◌, ℕ, inl, inr, List, [], ◌∷◌, ◌++◌, map, Bool, true, false, true≢false, refl, sym, ap, ◌∙◌, flat_map, IsIn, AreDistinct, AreApart, in_left, in_right, distinct_both}
 use Rattle.std.proofs.Common.{◌⊎◌}
 use Rattle.values.proofs.Members.{in_either}
@@ -6,8 +6,9 @@ use Rattle.glue_words.proofs.Among.{apart_by}
 use Rattle.glue_shared.specs.declared.import.JsImportName.{JsImportName}
 use Rattle.glue_shared.specs.declared.import.JsImportName.TheVariants as js
 use Rattle.glue_shared.specs.Names.{is_from_module}
-use Rattle.glue_check.specs.Naming.{name_where}
-use Rattle.glue_naming.specs.Listed.{is_global_name, names_drawn}
+use Rattle.glue_check.specs.Omitted.{name_where}
+use Rattle.glue_naming.specs.Imported.{is_outside}
+use Rattle.glue_naming.specs.Listed.{names_drawn}
 use Rattle.glue_lines.specs.Lines.{LineEntry}
 use Rattle.glue_lines.specs.Grouped.{Imported, placed_entries}
 
@@ -47,13 +48,13 @@ kind_distinct test [] d = tt
 kind_distinct test (import ∷ imports) d =
     distinct_case (test import.0) import.1 (names_of_kind test imports) (λ i. d.0 (kind_names test import.1 imports i)) (kind_distinct test imports d.1)
 
--- names are of a module, of a vendor, or of a global
-module_or_vendor : (n : JsImportName) → is_global_name n ≡ false → (is_from_module n ≡ true) ⊎ (is_vendor_name n ≡ true)
-module_or_vendor (js.Global name) h = absurd (true≢false h)
-module_or_vendor (js.Module from name) h = inl refl
-module_or_vendor (js.LocalModule from name) h = inl refl
-module_or_vendor (js.InlineJs from index name) h = inl refl
-module_or_vendor (js.VendorPrefixed name prefixes) h = inr refl
+-- names are of a module, of a vendor, or of the host
+module_or_vendor : (omitted : Bool) (n : JsImportName) → is_outside omitted n ≡ false → (is_from_module n ≡ true) ⊎ (is_vendor_name n ≡ true)
+module_or_vendor omitted (js.Global name) h = absurd (true≢false h)
+module_or_vendor omitted (js.Module from name) h = inl refl
+module_or_vendor omitted (js.LocalModule from name) h = inl refl
+module_or_vendor omitted (js.InlineJs from index name) h = inl refl
+module_or_vendor omitted (js.VendorPrefixed name prefixes) h = inr refl
 
 not_both : (n : JsImportName) → is_from_module n ≡ true → is_vendor_name n ≡ true → ⊥
 not_both (js.VendorPrefixed name prefixes) h k = true≢false (sym h)
@@ -62,14 +63,14 @@ not_both (js.Module from name) h k = true≢false (sym k)
 not_both (js.LocalModule from name) h k = true≢false (sym k)
 not_both (js.InlineJs from index name) h k = true≢false (sym k)
 
-pub each_kind : (x : List ℕ) (imports : List Imported) → ((import : Imported) → IsIn import imports → is_global_name import.0 ≡ false)
+pub each_kind : (omitted : Bool) (x : List ℕ) (imports : List Imported) → ((import : Imported) → IsIn import imports → is_outside omitted import.0 ≡ false)
     → IsIn x (names_drawn imports) → IsIn x (names_of_kind is_from_module imports) ⊎ IsIn x (names_of_kind is_vendor_name imports)
-each_kind x [] none i = absurd i
-each_kind x (import ∷ imports) none (inl same) = elim (module_or_vendor import.0 (none import (inl refl))) [
+each_kind omitted x [] none i = absurd i
+each_kind omitted x (import ∷ imports) none (inl same) = elim (module_or_vendor omitted import.0 (none import (inl refl))) [
   | inl h ↦ inl (in_left x (name_where (is_from_module import.0) import.1) _ (rw same (where_there (is_from_module import.0) import.1 h)))
   | inr h ↦ inr (in_left x (name_where (is_vendor_name import.0) import.1) _ (rw same (where_there (is_vendor_name import.0) import.1 h)))
 ]
-each_kind x (import ∷ imports) none (inr i) = elim (each_kind x imports (λ y k. none y (inr k)) i) [
+each_kind omitted x (import ∷ imports) none (inr i) = elim (each_kind omitted x imports (λ y k. none y (inr k)) i) [
   | inl h ↦ inl (in_right x (name_where (is_from_module import.0) import.1) _ h)
   | inr h ↦ inr (in_right x (name_where (is_vendor_name import.0) import.1) _ h)
 ]

@@ -1,7 +1,7 @@
 mod Common
 mod Declared
 mod DefinedFacts
-mod Edited
+pub mod Edited
 mod Entries
 mod ExpressionFits
 mod ExpressionNames

@@ -1,7 +1,7 @@
 -- What is made of a description that is checked: linked, defined and published.
 use Rattle.glue_context.proofs.Common.{◌≡◌, ℕ, ◌+◌, ◌<◌, ◌==◌, inl, inr, List, [], ◌∷◌, ◌++◌, map, length, Bool, true, false, true≢false, None, Some, refl, sym, ap, ◌∙◌, subst, arith, append-nil, codes, flat_map, flat_map_single, bytes_eq, bytes_eq-Decides, list_any, list_all, IsPermutation-map, IsPermutation-sym, IsIn, IsAway, AreDistinct, AreAmong, AreApart, ImportId, Item, AuxImport, HOSTS, bound_in, bound_names, used_in, is_export_key, AllItems, Belongs, Context, AuxExport, Settings, NameMap, AreNames, Deno, Lowered, host_names, fixed_names, fixed_public, live_count, own_imports, is_one_of, described_hosts, names_of, js_import, declared_name, is_named, foreign_lines, foreign_modules, frame_of, line_form, IsGlue, rewritten, IsLinked, IsDefined, defined_by, defined_places, IsPublished, published_pairs, published_by, fixed_published, fixed_by, EachItem, IsExported, IsPrescribed, export_names, FileFlags, unbuilt, verdict, IsBuiltExport}
 use Rattle.std.proofs.Common.{◌⊎◌}
-use Rattle.std.specs.Prelude.{◌≤◌, ◌^◌}
+use Rattle.std.specs.Prelude.{◌≤◌, ◌^◌, ◌&&◌, cond, Option}
 use Rattle.std.proofs.lemmas.{List.map-id, List.Elements.All-map, Bool.Decides.Decides-eqb, List.Folds.flat_map-map, List.Sums.AllPass-from_list_all, List.Sums.list_all-from_AllPass}
 use Rattle.values.proofs.Members.{in_left, in_right, in_either}
 use Rattle.glue_targets.specs.PublicTree.{PublicPair, public_tree, function_pair}
@@ -11,8 +11,10 @@ use Rattle.glue_shared.specs.declared.import.Intrinsic.{Intrinsic}
 use Rattle.glue_shared.specs.declared.import.Intrinsic.TheVariants as intrinsics
 use Rattle.glue_shared.specs.declared.settings.Target.{Target}
 use Rattle.glue_shared.specs.declared.settings.Target.TheVariants as targets
+use Rattle.glue_shared.specs.declared.import.JsImport.{JsImport}
 use Rattle.glue_shared.specs.declared.import.JsImportName.{JsImportName}
-use Rattle.glue_shared.specs.Names.{described_names, entry_of, has_number}
+use Rattle.glue_shared.specs.declared.import.JsImportName.TheVariants as js
+use Rattle.glue_shared.specs.Names.{described_names, entry_of, has_number, inspect_names, is_node, target_hosts}
 use Rattle.glue_words.specs.declared.word.Word.{Word}
 use Rattle.glue_words.specs.declared.item.Role.TheVariants as role
 use Rattle.glue_words.specs.declared.item.Thing.TheVariants.{Adapter}
@@ -28,7 +30,7 @@ use Rattle.helper_table.specs.declared.parts.HelperParts.{HelperParts}
 use Rattle.helper_table.specs.Closed.{IsBare, asked_helpers}
 use Rattle.helper_table.specs.Names.{single_names}
 use Rattle.helper_table.proofs.Held.{held_item, free_names, helper_hosts, each_held, held_belong, held_distinct, held_inner, held_listed, asked_declared}
-use Rattle.glue_imports.specs.Roots.{drawn_name, or_empty}
+use Rattle.glue_imports.specs.Roots.{plain_name}
 use Rattle.glue_imports.specs.Intrinsics.{loaded_name}
 use Rattle.glue_targets.proofs.FixedTexts as fixed
 use Rattle.glue_targets.proofs.FixedTexts.{start_binds}
@@ -36,7 +38,7 @@ use Rattle.glue_targets.proofs.FrameEnd.{module_names, own_name, end_bound, end_
 use Rattle.glue_check.specs.Handed.{own_callees}
 use Rattle.glue_check.specs.Taken.{brought}
 use Rattle.glue_check.proofs.ExportNames.{names_of as public_names}
-use Rattle.glue_check.proofs.Globals.{described_host, from_flat, in_flat}
+use Rattle.glue_check.proofs.Globals.{brought_host, described_host, from_flat, in_flat, more_hosts}
 use Rattle.glue_check.proofs.OwnPairs.{pair_kept}
 use Rattle.glue_context.specs.DefinedItems.{takes_memory}
 use Rattle.glue_context.specs.Edits.{has_start}
@@ -44,17 +46,22 @@ use Rattle.glue_context.specs.FrameIn.{frame_in}
 use Rattle.glue_context.specs.Keys.{described_keys}
 use Rattle.glue_context.specs.Foreign.{has_strings, path_of}
 use Rattle.glue_context.specs.ExportedItems.{declare_item}
-use Rattle.glue_naming.specs.Listed.{is_global_name, names_drawn}
+use Rattle.glue_naming.specs.Imported.{is_outside}
+use Rattle.glue_naming.specs.Listed.{names_drawn}
 use Rattle.glue_naming.specs.Naming.{import_name}
 use Rattle.glue_naming.specs.Pairs.{is_among, own_pairs}
 use Rattle.glue_naming.specs.declared.named.Named.TheVariants as things
 use Rattle.glue_naming.proofs.CalledNames as called
 use Rattle.glue_naming.proofs.Functions as functions
-use Rattle.glue_naming.proofs.OnceNames.{in_map}
+use Rattle.glue_naming.proofs.MappedLists.{in_map}
 use Rattle.glue_context.specs.Parts.{helper_parts}
 use Rattle.glue_context.proofs.{Declared.AreDrawn, Declared.all_apart, Declared.all_distinct, Declared.all_found, Declared.all_names, Declared.constants_first, Declared.first_among, Declared.first_names, Declared.frame_first, Declared.held_among, Declared.imports_first, Declared.lines_first, Declared.loading_bound, Declared.loading_first, Declared.modules_few, Declared.modules_idents, Declared.names_first, Declared.own_fixed, Declared.own_framed, Declared.own_names, Declared.own_no_hosts}
 use Rattle.glue_context.proofs.ImportedFacts as imported
-use Rattle.glue_context.proofs.{Facts.Facts, Facts.built, Facts.own_pair, Fits.names_with, Fits.AreWell, Fits.HasBasis, Fits.declare_belongs, Fits.declare_binds, Fits.declare_publishes, Fits.declaration_binds, Fits.declaration_stands, Fits.each_of, Fits.group_none, DefinedFacts.define_belongs, DefinedFacts.define_binds, DefinedFacts.define_exported, DefinedFacts.define_holds, DefinedFacts.define_role, Lists.arranged_from, Lists.moved_from, Lists.distinct_moved, Lists.all_are, Lists.each_is, Lists.flat_none, Lists.all_applied, Lists.all_kept, Lists.constants, Lists.each_among, Lists.each_any, Lists.each_at, Lists.each_item, Lists.each_line, Lists.front, Lists.given, Lists.group_stands, Lists.imports, Lists.items_with, Lists.loading, Lists.none_given, Lists.with_held, Edited.rewritten_exports, Paths.written_count}
+use Rattle.glue_naming.proofs.ItemNames.{names_with_added}
+use Rattle.glue_context.proofs.ExpressionFits.{IsBegunWell}
+use Rattle.glue_context.proofs.ExpressionNames.{HasBegun, HasName}
+use Rattle.glue_context.proofs.HandedParts.{entry_there}
+use Rattle.glue_context.proofs.{Facts.Facts, Facts.built, Facts.own_pair, Fits.names_with, Fits.AreWell, Fits.HasBasis, Fits.declare_belongs, Fits.declare_binds, Fits.declare_publishes, Fits.declaration_binds, Fits.declaration_stands, Fits.each_of, Fits.group_none, DefinedFacts.define_belongs, DefinedFacts.define_binds, DefinedFacts.define_exported, DefinedFacts.define_holds, DefinedFacts.define_role, Lists.arranged_from, Lists.moved_from, Lists.distinct_moved, Lists.all_are, Lists.each_is, Lists.flat_none, Lists.all_applied, Lists.all_kept, Lists.constants, Lists.each_among, Lists.each_any, Lists.each_at, Lists.each_item, Lists.each_line, Lists.front, Lists.given, Lists.group_stands, Lists.imports, Lists.items_with, Lists.loading, Lists.none_given, Lists.with_held, Edited.item_exported, Edited.rewritten_exports, Paths.written_count}
 
 -- the three facts of items that a built description asks for
 pub record IsSound (s : Settings) (m : NameMap) (l : Lowered) (items : List Item) : Type 0 where
@@ -101,6 +108,24 @@ frame_told : (t : Target) (stem : List ℕ) (frame : Frame) → t ≡ Deno
 frame_told t stem frame e =
     subst (λ (u : Target). let texts = map (λ (text : FixedText). text.words) (frame_texts u stem frame) in
     IsIn (frame_start stem frame.memory).words texts × IsIn (frame_end stem frame.modules frame.strings).words texts) (sym e) (inl refl, inr (inl refl))
+
+-- what is a name of the host by itself is brought of the outside
+plain_host : (omitted : Bool) (n : JsImportName) → is_outside omitted n ≡ true → IsIn (plain_name n) (described_hosts omitted n)
+plain_host omitted (js.Global name) h = inl refl
+plain_host omitted (js.VendorPrefixed name prefixes) h = absurd (true≢false (sym h))
+plain_host true (js.Module from name) h = inl refl
+plain_host true (js.LocalModule from name) h = inl refl
+plain_host true (js.InlineJs from index name) h = inl refl
+plain_host false n h = absurd (true≢false (sym h))
+
+-- on Deno no class is inspected
+none_inspected : (s : Settings) (l : Lowered) → s.target ≡ Deno → inspect_names s l.aux ≡ []
+none_inspected s l deno = by s.omit_imports (is_node s.target) (list_any (λ s. s.inspectable) l.aux.structs) (ap is_node deno)
+  where
+    by : (omitted node inspected : Bool) → node ≡ false → cond (omitted && (node && inspected)) (codes "inspect" ∷ []) [] ≡ []
+    by true true inspected h = absurd (true≢false h)
+    by true false inspected h = refl
+    by false node inspected h = refl
 
 -- words belong where others are declared, if what they use is
 belongs_among : (c : Context) (declared : List (List ℕ)) (words : List Word) → Belongs c words → AreAmong (used_in words) declared
@@ -189,25 +214,26 @@ module _ (s : Settings) (m : NameMap) (l : Lowered) (items : List Item) (b : Fac
   drawn_distinct : AreDistinct drawn
   drawn_distinct = called.listed_distinct s l m n g.pairs sub has
 
-  no_global : (import : Imported) → IsIn import (imports g) → is_global_name import.0 ≡ false
-  no_global import i = called.named_no_global s l m n import.0 import.1 (called.listed_named s l m n g.pairs sub has import i).1
+  no_host : (import : Imported) → IsIn import (imports g) → is_outside s.omit_imports import.0 ≡ false
+  no_host import i = called.named_no_host s l m n import.0 import.1 (called.listed_named s l m n g.pairs sub has import i).1
 
-  -- what an own import's adapter calls that is no global has a drawn name
-  record IsDrawn (name : JsImportName) : Type 0 where
-    text : List ℕ
-    found : import_name m name ≡ Some text
-    listed : IsIn text drawn
+  module _ (id : ℕ) (w : AuxImport) (own : has_number id (own_callees s l) ≡ true) (is : entry_of id l.aux.imports ≡ Some w)
+      (name : JsImportName) (i : IsIn name (names_of (js_import w))) where
+    -- the name that is drawn for what an own import's adapter calls is listed
+    entry_drawn : (text : List ℕ) → import_name m name ≡ Some text → IsIn text drawn
+    entry_drawn text found =
+        let there = called.entry_called s l m n g.pairs sub has id w own is name i in
+        in_map (λ (x : Imported). x.1) (name, text) (imports g) (called.named_listed s l m n g.pairs sub has name text there found)
 
-  entry_drawn : (id : ℕ) (w : AuxImport) → has_number id (own_callees s l) ≡ true → entry_of id l.aux.imports ≡ Some w
-      → (name : JsImportName) → IsIn name (names_of (js_import w)) → is_global_name name ≡ false → IsDrawn name
-  entry_drawn id w own is name i other =
-      let there = called.entry_called s l m n g.pairs sub has id w own is name i in
-      let d = called.called_named s l m n g.pairs sub has name there other in
-      let listed = called.named_listed s l m n g.pairs sub has name d.0 there d.1 in
-      record { text = d.0; found = d.1; listed = in_map (λ (x : Imported). x.1) (name, d.0) (imports g) listed }
+    -- and what has no drawn name is a name of the host that an import brings
+    entry_brought : import_name m name ≡ None → IsIn (plain_name name) (brought s.omit_imports w)
+    entry_brought none =
+        let there = called.entry_called s l m n g.pairs sub has id w own is name i in
+        in_flat (described_hosts s.omit_imports) (names_of (js_import w)) name (plain_name name) i
+        (plain_host s.omit_imports name (called.unnamed_host s l m n g.pairs sub has name there none))
 
-  drawn_is : (name : JsImportName) (d : IsDrawn name) → d.text ≡ drawn_name m name
-  drawn_is name d = sym (ap or_empty d.found)
+    described_entry : IsIn (id, w) l.aux.imports
+    described_entry = entry_there id l.aux.imports w is
 
   -- ---- names
 
@@ -290,18 +316,26 @@ module _ (s : Settings) (m : NameMap) (l : Lowered) (items : List Item) (b : Fac
       }
 
   hosts_are : host_names s l.aux
-      ≡ map (λ w. w.now) HOSTS ++ flat_map (described_hosts false) (flat_map (λ (e : ℕ × AuxImport). names_of (js_import e.1)) l.aux.imports)
+      ≡ map (λ w. w.now) HOSTS ++ flat_map (described_hosts s.omit_imports) (flat_map (λ (e : ℕ × AuxImport). names_of (js_import e.1)) l.aux.imports)
   unfolding host_names
-  hosts_are = rw (b.deno, b.kept, b.reexports) (simp append-nil)
+  hosts_are =
+      let fixed = map (λ w. w.now) HOSTS in
+      let described = flat_map (described_hosts s.omit_imports) (described_names l.aux) in
+      let entries = flat_map (λ (e : ℕ × AuxImport). names_of (js_import e.1)) l.aux.imports in
+      ap (λ (t : Target). fixed ++ (target_hosts t ++ (described ++ inspect_names s l.aux))) b.deno
+      ∙ ap (λ (names : List (List ℕ)). fixed ++ (described ++ names)) (none_inspected s l b.deno)
+      ∙ ap (λ (names : List (List ℕ)). fixed ++ names) (append-nil described)
+      ∙ ap (λ (rs : List (List ℕ × JsImport × Bool)). fixed ++ flat_map (described_hosts s.omit_imports) (entries ++ map (λ r. r.1.name) rs)) b.reexports
+      ∙ ap (λ (names : List JsImportName). fixed ++ flat_map (described_hosts s.omit_imports) names) (append-nil entries)
 
   -- what described names bring is away from the file's own names
-  described_apart : AreApart (flat_map (described_hosts false) (flat_map (λ (e : ℕ × AuxImport). names_of (js_import e.1)) l.aux.imports)) own
+  described_apart : AreApart (flat_map (described_hosts s.omit_imports) (flat_map (λ (e : ℕ × AuxImport). names_of (js_import e.1)) l.aux.imports)) own
   described_apart =
       let described = flat_map (λ (e : ℕ × AuxImport). names_of (js_import e.1)) l.aux.imports in
-      apart_by (flat_map (described_hosts false) described) own (λ name i k.
-      let r = from_flat (described_hosts false) described name i in
+      apart_by (flat_map (described_hosts s.omit_imports) described) own (λ name i k.
+      let r = from_flat (described_hosts s.omit_imports) described name i in
       let e = from_flat (λ (e : ℕ × AuxImport). names_of (js_import e.1)) l.aux.imports r.0 r.1 in
-      b.apart e.0 e.1 name (in_flat (described_hosts false) (names_of (js_import (e.0).1)) r.0 name e.2 r.2)
+      b.apart e.0 e.1 name (in_flat (described_hosts s.omit_imports) (names_of (js_import (e.0).1)) r.0 name e.2 r.2)
       (among_in name own (fixed_names s l.«module») own_all_fixed k))
 
   -- the file's own names are none of the host
@@ -340,17 +374,18 @@ module _ (s : Settings) (m : NameMap) (l : Lowered) (items : List Item) (b : Fac
           absurd (apart_in (codes "wasm") own drawn apart there (subst (λ (x : List ℕ). IsIn x drawn) (sym same) at))
 
   well : AreWell s l m
-  well id w mine is name i other =
-      let d = entry_drawn id w mine is name i other in
-      subst (λ (text : List ℕ). (is_ident text ≡ true) × (is_wasm text ≡ false)) (drawn_is name d)
-      (n.good.idents (things.Import name) d.text d.found, no_wasm d.text d.listed)
+  well id w mine is name i = by (import_name m name) refl
+    where
+      by : (drawn : Option (List ℕ)) → import_name m name ≡ drawn → IsBegunWell drawn (plain_name name)
+      by (Some text) found = (n.good.idents (things.Import name) text found, no_wasm text (entry_drawn id w mine is name i text found))
+      by None none = b.idents (id, w) (described_entry id w mine is name i) (plain_name name) (entry_brought id w mine is name i none)
 
   -- what stands among the first names, or is a helper's that needs nothing of the module
   there : (ys : List (List ℕ)) → AreAmong ys first → AreAmong ys (first ++ free_names)
   there ys h = among_left ys first free_names h
 
   drawn_first : (name : List ℕ) → IsIn name drawn → IsIn name (first ++ free_names)
-  drawn_first name at = elim (imported.one_declares form (imports g) g.lines g.imported no_global name at) [
+  drawn_first name at = elim (imported.one_declares form (imports g) g.lines g.imported s.omit_imports no_host name at) [
     | inl here ↦ among_in name imported_names (first ++ free_names)
         (there imported_names (imports_first s l.«module» paths held memory few g.numbered listed imported_names constant_names names)) here
     | inr here ↦ among_in name constant_names (first ++ free_names)
@@ -363,17 +398,24 @@ module _ (s : Settings) (m : NameMap) (l : Lowered) (items : List Item) (b : Fac
   framed : AreAmong (start_binds memory) first
   framed = frame_first s l.«module» paths held memory few g.numbered listed imported_names constant_names names
 
+  begun : (id : ℕ) (w : AuxImport) → has_number id (own_callees s l) ≡ true → entry_of id l.aux.imports ≡ Some w → (name : JsImportName)
+      → IsIn name (names_of (js_import w)) → HasName (names_with s l (first ++ free_names)) m name
+  begun id w mine is name i = by (import_name m name) refl
+    where
+      by : (drawn : Option (List ℕ)) → import_name m name ≡ drawn → HasBegun (names_with s l (first ++ free_names)) drawn (plain_name name)
+      by (Some text) found = drawn_first text (entry_drawn id w mine is name i text found)
+      by None none = brought_host s l (id, w) (described_entry id w mine is name i) (plain_name name) (entry_brought id w mine is name i none)
+
   basis : HasBasis s l m (first ++ free_names)
   basis = record {
     wasm = (there loading_bound loaded).1.1.1.0;
     memory = λ taken. among_in (codes "memory") (start_binds memory) (first ++ free_names) (there (start_binds memory) framed)
         (subst (λ (b : Bool). IsIn (codes "memory") (start_binds b)) (sym taken) (inr (inl refl)));
     helpers = among_right free_names first free_names (among_itself free_names);
-    drawn = λ id w mine is name i other.
-        let d = entry_drawn id w mine is name i other in
-        subst (λ (text : List ℕ). IsIn text (first ++ free_names)) (drawn_is name d) (drawn_first d.text d.listed);
+    begun = begun;
     values = λ value name h. among_in name loading_bound (first ++ free_names) (there loading_bound loaded)
         (deno_loaded value name (subst (λ (target : Target). loaded_name target value ≡ Some name) b.deno h));
+    items = n.items;
   }
 
   -- an export's function has a name that is an identifier, and stands among the first
@@ -401,7 +443,7 @@ module _ (s : Settings) (m : NameMap) (l : Lowered) (items : List Item) (b : Fac
         idents = list_all-from_AllPass is_ident (described_hosts false import.0) (all_are (λ (x : List ℕ). is_ident x ≡ true) (described_hosts false import.0)
             (λ x k. described_ident import.0 described x k));
         known = among_by (described_hosts false import.0) c.hosts (λ x k.
-            subst (IsIn x) (sym hosts) (described_host s l import.0 described x k));
+            subst (IsIn x) (sym hosts) (described_host s l import.0 described x (more_hosts s.omit_imports import.0 x k)));
       }
     where
       described_ident : (name : JsImportName) → IsIn name (described_names l.aux) → (x : List ℕ) → IsIn x (described_hosts false name) → is_ident x ≡ true
@@ -409,7 +451,7 @@ module _ (s : Settings) (m : NameMap) (l : Lowered) (items : List Item) (b : Fac
           let entries = flat_map (λ (e : ℕ × AuxImport). names_of (js_import e.1)) l.aux.imports in
           let here : IsIn name entries = subst (IsIn name) (rw b.reexports (simp append-nil)) i in
           let e = from_flat (λ (e : ℕ × AuxImport). names_of (js_import e.1)) l.aux.imports name here in
-          b.idents e.0 e.1 x (in_flat (described_hosts false) (names_of (js_import (e.0).1)) name x e.2 k)
+          b.idents e.0 e.1 x (in_flat (described_hosts s.omit_imports) (names_of (js_import (e.0).1)) name x e.2 (more_hosts s.omit_imports name x k))
 
   -- the module of the members is declared by the frame's start
   first_module : IsIn (codes "import0") (first ++ free_names)
@@ -441,7 +483,7 @@ module _ (s : Settings) (m : NameMap) (l : Lowered) (items : List Item) (b : Fac
       (among_trans (fixed.loading_uses starts) (start_binds memory ++ loading_bound) c.declared (loading_within memory starts)
       (there (start_binds memory ++ loading_bound) (among_both (start_binds memory) loading_bound first framed loaded)))
       (known (codes "URL" ∷ codes "WebAssembly" ∷ codes "fetch" ∷ []) refl)
-      (among_right (fixed.call_takes starts) (export_names l.«module») (fixed.call_takes starts) (among_itself (fixed.call_takes starts)))))
+      (among_right (fixed.call_takes starts) (names_with_added s l) (fixed.call_takes starts) (among_itself (fixed.call_takes starts)))))
 
   -- loading uses what the frame and it declare
   loading_declared : AreAmong (used_in (loading g).words) declared
@@ -522,6 +564,7 @@ module _ (s : Settings) (m : NameMap) (l : Lowered) (items : List Item) (b : Fac
             { «export» = e; described = h; of = refl; function = x.function; of_adapter = x.of_adapter; words = refl }) (λ q before after. tt))
             (λ place item h x before after. define_holds s m l place item h (b.defined place h) x)
             (λ before after. tt) (λ before after. tt) (held_so _ (λ entry before after. tt)) (λ before after. tt));
+        given = item_exported s l m n.items;
       }
 
   -- ---- what is published

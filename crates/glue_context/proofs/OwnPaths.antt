@@ -22,7 +22,7 @@ use Rattle.glue_check.proofs.OwnPairs.{number_there, own_defined}
 use Rattle.glue_check.proofs.Passed.{foreign_apart, number_in}
 use Rattle.glue_naming.specs.Handed.{handed_imports, handed_pair}
 use Rattle.glue_naming.specs.Imported.{called_name, called_names}
-use Rattle.glue_naming.proofs.OnceNames.{from_map, in_map}
+use Rattle.glue_naming.proofs.MappedLists.{from_map, in_map}
 use Rattle.glue_context.specs.Foreign.{path_of, with_move, with_path}
 use Rattle.glue_context.specs.Rewritten.{handed_move}
 use Rattle.glue_context.proofs.Entries.{any_there, from_filter_map, in_filter_map, mapped_entry, one_of_any}

@@ -6,7 +6,7 @@ use Rattle.wasm_core.specs.Edits.{renamed}
 use Rattle.glue_steps.specs.Resolving.{live}
 use Rattle.glue_context.specs.Edits.{has_start}
 use Rattle.glue_context.specs.Foreign.{path_of, has_path, with_path, with_move}
-use Rattle.glue_context.proofs.Edited.{start_imports}
+use Rattle.glue_context.proofs.Edited.{written_imports}
 
 -- ---- one change
 
@@ -46,9 +46,7 @@ all_moved m (e ∷ moves) =
     ∙ ap (λ (paths : List (Option (List ℕ))). fold with_move paths moves) (one_moved m.imports e.0.0 e.1 e.2)
 
 pub written_are : (s : Settings) (l : Lowered) → fold with_move (map path_of l.«module».imports) (edits_of s l).imports ≡ map path_of (rewritten s l).imports
-written_are s l =
-    let moved = fold with_moved l.«module» (edits_of s l).imports in
-    sym (all_moved l.«module» (edits_of s l).imports) ∙ ap (map path_of) (start_imports (has_start l.«module») moved)
+written_are s l = sym (all_moved l.«module» (edits_of s l).imports) ∙ ap (map path_of) (written_imports s l)
 
 -- no change adds an import
 path_count : (paths : List (Option (List ℕ))) (place : ℕ) (path : List ℕ) → live_count (with_path paths place path) ≡ live_count paths

@@ -4,6 +4,8 @@ use Rattle.std.specs.List.{flat_map}
 use Rattle.std.specs.Str.{bytes_eq}
 use Rattle.values.specs.Lists.{IsIn, AreDistinct}
 use Rattle.wasm_core.specs.Contents.{Contents}
+use Rattle.wasm_core.specs.entries.Export.{Export}
+use Rattle.wasm_core.specs.entries.ExportItem.{ExportItem}
 use Rattle.wasm_core.specs.declared.types.Import.{Import}
 use Rattle.wasm_core.specs.declared.types.Memory.{Memory}
 use Rattle.glue_words.specs.declared.item.Item.{Item}
@@ -19,7 +21,8 @@ use Rattle.glue_shared.specs.declared.description.Lowered.{Lowered}
 use Rattle.glue_shared.specs.declared.name_map.NameMap.{NameMap}
 use Rattle.glue_shared.specs.Names.{adapter_for, handed_part, own_imports}
 use Rattle.glue_check.specs.Unbuilt.{memory_of}
-use Rattle.glue_steps.specs.Resolving.{entry_at}
+use Rattle.glue_steps.specs.Resolving.{entry_at, export_named}
+use Rattle.glue_naming.specs.ItemNames.{asked_items}
 use Rattle.glue_naming.specs.Naming.{declared_name}
 use Rattle.glue_context.specs.DefinedItems.{define_item, memory_words, part_words, value_item}
 use Rattle.glue_context.specs.ExportedItems.{declare_item}
@@ -87,10 +90,19 @@ HoldsFunction s m l written (role.Define place) item = HoldsDefinition s m l wri
 HoldsFunction s m l written (role.Declare (thing.Adapter id)) item = IsDeclaration s m l id item
 HoldsFunction s m l written other item = Unit {0}
 
+-- an export stands that has this name, and gives this item of the module
+pub record IsExportOf (m : Contents) (name : List ℕ) (item : ExportItem) : Type 0 where
+  pub «export» : Export
+  pub stands : IsIn (Some «export») m.exports
+  pub named : «export».name ≡ name
+  pub gives : «export».item ≡ item
+
 -- Each own import is defined once, and nothing else is. Each function is that of its adapter: it does what the adapter does, whatever
--- it is given and whatever the outside answers. What imports begin with that is no global goes by these names, which are drawn for it.
+-- it is given and whatever the outside answers. What imports begin with that is no name of the host goes by these names, which are drawn for
+-- it, and each item of the module that is asked for by that of an export that gives it.
 pub record IsDefined (settings : Settings) (m : NameMap) (l : Lowered) (written : Contents) (items : List Item) : Type 0 where
   pub only : (place : ℕ) → IsIn place (defined_places items) → IsIn place (own_imports settings l.«module» l.wit l.aux)
   pub all : (place : ℕ) → IsIn place (own_imports settings l.«module» l.wit l.aux) → IsIn place (defined_places items)
   pub once : AreDistinct (defined_places items)
   pub functions : EachItem (λ before item after. HoldsFunction settings m l written item.role item) [] items
+  pub given : (item : ExportItem) → IsIn item (asked_items settings l) → IsExportOf written (export_named m (Some item)) item

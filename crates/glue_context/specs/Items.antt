@@ -93,7 +93,7 @@ pub record AreGroups (s : Settings) (m : NameMap) (l : Lowered) (places : List â
   pub are : groups â‰¡ front_groups s.stem frame lines (vendor_items called) declares defines
 
 -- the items that settings and a description ask for, where these names are drawn: the declarations stand by the export's name, the definitions
--- of own imports by the import's name and then by its place; what the adapters of own imports call of modules and vendors is bound: import lines
+-- of own imports by the import's name and then by its place; what the adapters of own imports call that is no name of the host is bound: import lines
 -- stand by module, their entries and the vendor constants in the order in which they are first called, by the import's name and then by the
 -- adapter's id; the helpers are those for which the items before them ask, and those for which these ask
 pub record IsGlue (settings : Settings) (m : NameMap) (l : Lowered) (items : List Item) : Type 0 where

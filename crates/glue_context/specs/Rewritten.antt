@@ -1,5 +1,5 @@
 -- The module that is written: what is changed in the collected one is told by settings and description.
-use Rattle.std.specs.Prelude.{ℕ, List, [], ◌++◌, Option, None, option_map, option_and_then, filter_map}
+use Rattle.std.specs.Prelude.{ℕ, List, ◌++◌, Option, None, option_map, option_and_then, filter_map}
 use Rattle.wasm_core.specs.ids.ImportId.{ImportId}
 use Rattle.wasm_core.specs.Contents.{Contents}
 use Rattle.wasm_core.specs.declared.types.Import.{Import}
@@ -10,6 +10,7 @@ use Rattle.glue_shared.specs.Names.{own_imports}
 use Rattle.glue_steps.specs.Resolving.{entry_at}
 use Rattle.glue_lines.specs.Grouped.{source_of}
 use Rattle.glue_naming.specs.Handed.{handed_imports}
+use Rattle.glue_naming.specs.ItemNames.{added_exports}
 pub use Rattle.glue_check.specs.Modules.{glue_module}
 use Rattle.glue_context.specs.declared.edits.Edits.{Edits}
 use Rattle.glue_context.specs.Edits.{has_start, edited}
@@ -30,11 +31,11 @@ all_moves settings l =
     filter_map (move_of settings.stem l.«module».imports) (own_imports settings l.«module» l.wit l.aux)
     ++ filter_map (handed_move l.«module».imports) (handed_imports settings l)
 
--- what is changed: imports move, and a start function becomes an export
+-- what is changed: imports move, items that own imports ask for are exported where they aren't, and a start function becomes an export
 abbrev pub edits_of : Settings → Lowered → Edits
 edits_of settings l = record {
   imports = all_moves settings l;
-  exports = [];
+  exports = added_exports settings l;
   shim = None;
   start = has_start l.«module»;
 }

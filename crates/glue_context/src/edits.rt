@@ -8,7 +8,8 @@ ghost use Rattle.glue_context.specs.Rewritten.{move_of, handed_move, all_moves, 
 
 use glue_check::{glue_module_name, has_start};
 use glue_lines::source_of;
-use glue_naming::handed_imports;
+use glue_naming::{added_exports, handed_imports};
+use glue_scope::Names;
 use glue_shared::{JsImportName, Lowered, Settings};
 use std::alloc::{AllocError, Global};
 use values::{Duplicate, Seq, Text};
@@ -146,8 +147,8 @@ fn push_handed_on(
     Ok(())
 }
 
-// The moves of own imports, and of those that become described names.
-fn all_moves(
+/// The moves of own imports, and of those that become described names. Want of memory is the only error.
+pub(crate) fn all_moves(
     alloc: Global,
     settings: &Settings,
     lowered: &Lowered,
@@ -173,14 +174,19 @@ fn all_moves(
 }
 
 /// What settings and a description ask to be changed in the collected module. Want of memory is the only error.
-pub fn edits_of(alloc: Global, settings: &Settings, lowered: &Lowered) -> Result<Edits, AllocError>
+pub fn edits_of<N: Names>(
+    alloc: Global,
+    settings: &Settings,
+    lowered: &Lowered,
+) -> Result<Edits, AllocError>
     ensures edits { IfOk result (λ edits. edits ≡ edits_of settings.now lowered.now) }
     ensures fit { IfOk result (λ edits. spec.AreFit edits lowered.now.«module») }
 {
     let imports = all_moves(alloc, settings, lowered)?;
+    let exports = added_exports::<N>(alloc, settings, lowered)?;
     Ok(Edits {
         imports,
-        exports: Seq::new(alloc),
+        exports,
         shim: None,
         start: has_start(&lowered.module),
     })

@@ -4,7 +4,7 @@ ghost use Rattle.std.specs.List.{list_any};
 ghost use Rattle.glue_shared.specs.Names as names;
 ghost use Rattle.glue_context.specs.Foreign as spec;
 
-use crate::edits::edits_of;
+use crate::edits::all_moves;
 use glue_check::own_places;
 use glue_lines::{LineForm, foreign_line};
 use glue_shared::{IdSet, Lowered, Settings};
@@ -182,8 +182,8 @@ pub(crate) fn handed_on(
     ensures strings { IfOk result (λ handed. handed.strings ≡ spec.has_strings settings.now lowered.now) }
 {
     let own = own_places(alloc, settings, lowered)?;
-    let edits = edits_of(alloc, settings, lowered)?;
-    let paths = written_paths(alloc, lowered.module.imports(), edits.imports.as_slice())?;
+    let moves = all_moves(alloc, settings, lowered)?;
+    let paths = written_paths(alloc, lowered.module.imports(), moves.as_slice())?;
     let modules = modules_of(alloc, &own, paths.as_slice())?;
     let strings = has_string_import(paths.as_slice());
     Ok(HandedOn { modules, strings })

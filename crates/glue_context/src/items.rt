@@ -110,7 +110,7 @@ fn with_helpers(
 
 /// The items that settings and a description ask for, where the check has found steps for each adapter that becomes a function, that of
 /// an export and that of an own import, each other own import brings in a memory whose definition is built, and the function of each export was
-/// given a name. What an import begins with that is no global and was given none is printed as the empty name. Want of memory is the only error.
+/// given a name. What an import begins with that was given none is printed under its own name, as one of the host. Want of memory is the only error.
 pub fn glue_items<N: Names>(
     alloc: Global,
     settings: &Settings,

@@ -62,10 +62,11 @@ pub enum Fault {
     /// A name that can't stand where it would have to; of an export's path it is the segment itself.
     #[error("BadName")]
     BadName { name: Text },
-    /// A name of the global scope that the glue file binds itself.
+    /// A name of the global scope that the glue file may bind itself, or that is a module's export too, where imports are left out.
     #[error("GlobalTwice")]
     GlobalTwice { name: Text },
-    /// Two things of one name.
+    /// Two things of one name; where imports are left out also a module's export whose name the glue file may bind, or the host has for
+    /// another reason.
     #[error("NameClash")]
     NameClash { name: Text },
     /// A module that is imported, whose name the glue file needs for itself; or one that is described, though nothing can be described
@@ -111,7 +112,8 @@ pub enum Fault {
     /// A link to a file whose content isn't handed in.
     #[error("LinkNotEmbedded")]
     LinkNotEmbedded { path: Text },
-    /// A part of the module that something needs is absent.
+    /// A part that something needs is absent, or isn't as it has to be: `memory` where there are several or its addresses have 64 bits,
+    /// `externref` where references are kept in the other way.
     #[error("MissingPart")]
     MissingPart { part: Text },
     /// Memory ran out.

@@ -17,6 +17,7 @@ use Rattle.glue_shared.specs.NameMap.{no_names}
 use Rattle.glue_imports.specs.declared.part.Part.{Part}
 use Rattle.glue_imports.specs.declared.part.Part.TheVariants as p
 use Rattle.glue_imports.specs.declared.part.Expression.{Expression}
+use Rattle.glue_imports.specs.Given.{Given, item_expression, nothing_given}
 use Rattle.glue_imports.specs.Roots.{root_name, root}
 use Rattle.glue_imports.specs.Intrinsics.{or_else, intrinsic_parts, loaded_name}
 use Rattle.glue_imports.specs.Preludes.{plain, instance_of, intrinsic_prelude, cast, linked, present}
@@ -112,26 +113,27 @@ parts_of m call spread (w.IndexingSetterOfClass js) = of_value m spread (w.Index
 parts_of m call spread (w.IndexingDeleterOfClass js) = of_value m spread (w.IndexingDeleterOfClass js)
 parts_of m call spread other = of_operand spread other
 
--- a value that loading declares under a name
+-- a value that has a name of the file
 abbrev pub loaded : List ℕ → Expression
 loaded name = plain (p.Name name ∷ [])
 
--- an intrinsic on a target, where the setting `externref` has this value
-abbrev pub intrinsic_expression : Target → (externref bound : Bool) → Intrinsic → Option Expression
-intrinsic_expression target externref bound name =
+-- an intrinsic on a target, where the setting `externref` has this value, and this is given of the module
+abbrev pub intrinsic_expression : Target → (externref : Bool) → Given → (bound : Bool) → Intrinsic → Option Expression
+intrinsic_expression target externref g bound name =
     or_else (option_map plain (intrinsic_parts bound name))
     (or_else (intrinsic_prelude externref name)
-    (option_map loaded (loaded_name target name)))
+    (or_else (item_expression externref g name)
+    (option_map loaded (loaded_name target name))))
 
 -- the expression of an import that is called in this way, the last argument spread or not, its answer bound to a local or not, where
--- these names are drawn
-abbrev pub expression : Settings → NameMap → AdapterJsImportKind → (spread bound : Bool) → AuxImport → Option Expression
-expression s m call spread bound (w.Instanceof js) = Some (instance_of (root m js))
-expression s m call spread bound (w.Cast comment) = Some (cast bound comment)
-expression s m call spread bound (w.LinkTo path content) = linked s.split_linked_modules s.target path content
-expression s m call spread bound (w.Intrinsic name) = intrinsic_expression s.target s.externref bound name
-expression s m call spread bound other = option_map plain (parts_of m call spread other)
+-- these names are drawn, and this is given of the module
+abbrev pub expression : Settings → NameMap → Given → AdapterJsImportKind → (spread bound : Bool) → AuxImport → Option Expression
+expression s m g call spread bound (w.Instanceof js) = Some (instance_of (root m js))
+expression s m g call spread bound (w.Cast comment) = Some (cast bound comment)
+expression s m g call spread bound (w.LinkTo path content) = linked s.split_linked_modules s.target path content
+expression s m g call spread bound (w.Intrinsic name) = intrinsic_expression s.target s.externref g bound name
+expression s m g call spread bound other = option_map plain (parts_of m call spread other)
 
 -- an import has an expression, whatever names are drawn and however it is called
 abbrev pub has_expression : Settings → AuxImport → Bool
-has_expression s what = is_some (expression s no_names calls.Normal false false what)
+has_expression s what = is_some (expression s no_names nothing_given calls.Normal false false what)

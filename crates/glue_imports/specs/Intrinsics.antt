@@ -92,6 +92,10 @@ thrown_error =
 abbrev pub debug_text : List Part
 debug_text = p.Name (codes "debugString") ∷ p.Punct punct.OPEN_PAREN ∷ p.Whole 0 ∷ p.Punct punct.CLOSE_PAREN ∷ []
 
+-- `decodeText(a)`
+abbrev pub decoded_text : List Part
+decoded_text = p.Name (codes "decodeText") ∷ p.Punct punct.OPEN_PAREN ∷ p.Whole 0 ∷ p.Punct punct.CLOSE_PAREN ∷ []
+
 -- `new PanicError(a)`
 abbrev pub panic_error : List Part
 panic_error =
@@ -111,14 +115,15 @@ other_intrinsic bound i.Exports = Some (p.Exports ∷ [])
 other_intrinsic bound i.Reinit = Some (host (codes "undefined") ∷ [])
 other_intrinsic bound i.CopyToTypedArray = Some copy_to_array
 other_intrinsic bound i.DebugString = Some debug_text
+other_intrinsic bound i.StringFromUtf8Lossy = Some decoded_text
 other_intrinsic bound i.PanicError = Some panic_error
 other_intrinsic bound i.Throw = Some thrown_error
 other_intrinsic bound i.Rethrow = Some (p.Key key.THROW ∷ p.Space ∷ p.Operand 0 ∷ [])
 other_intrinsic bound other = None
 
--- ---- values that loading declares
+-- ---- values that have a name of the file
 
--- loading declares `wasmModule` on this target
+-- the glue file has the name `wasmModule` on this target: loading declares it, or a line that imports it
 abbrev pub declares_module : Target → Bool
 declares_module targets.Web = true
 declares_module (targets.NoModules global) = true
@@ -126,7 +131,7 @@ declares_module (targets.Node is_module) = true
 declares_module targets.Module = true
 declares_module other = false
 
--- loading declares `wasmInstance` on this target
+-- and `wasmInstance`
 abbrev pub declares_instance : Target → Bool
 declares_instance targets.Web = true
 declares_instance (targets.NoModules global) = true
@@ -135,18 +140,18 @@ declares_instance targets.Deno = true
 declares_instance targets.Module = true
 declares_instance other = false
 
--- a name, where it is declared
+-- a name, where the file has it
 abbrev pub name_if : (declared : Bool) → (name : List ℕ) → Option (List ℕ)
 name_if true name = Some name
 name_if false name = None
 
--- the name that loading declares for the value of an intrinsic
+-- the name that the file has for the value of an intrinsic
 abbrev pub loaded_name : Target → Intrinsic → Option (List ℕ)
 loaded_name target i.Module = name_if (declares_module target) (codes "wasmModule")
 loaded_name target i.Instance = name_if (declares_instance target) (codes "wasmInstance")
 loaded_name target other = None
 
--- an intrinsic whose value loading declares on other targets, and not on this one
+-- an intrinsic for whose value the file has a name on other targets, and not on this one
 abbrev pub lacks_value : Target → Intrinsic → Bool
 lacks_value target i.Module = not (declares_module target)
 lacks_value target i.Instance = not (declares_instance target)

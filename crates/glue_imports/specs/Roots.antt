@@ -9,30 +9,32 @@ use Rattle.glue_shared.specs.declared.name_map.NameMap.{NameMap}
 use Rattle.glue_imports.specs.declared.part.Part.{Part}
 use Rattle.glue_imports.specs.declared.part.Part.TheVariants as p
 
--- the name of a global
-abbrev pub global_name : JsImportName → Option (List ℕ)
-global_name (names.Global name) = Some name
-global_name other = None
+-- the name that a described name has by itself: that of the global, of the module's export, or of the vendor's value
+abbrev pub plain_name : JsImportName → List ℕ
+plain_name (names.Global name) = name
+plain_name (names.Module from name) = name
+plain_name (names.LocalModule from name) = name
+plain_name (names.InlineJs from index name) = name
+plain_name (names.VendorPrefixed name prefixes) = name
 
--- the text, or the empty one
-abbrev pub or_empty : Option (List ℕ) → List ℕ
-or_empty None = []
-or_empty (Some text) = text
+-- the name that was drawn for what an import begins with, where one was
+abbrev pub drawn_name : NameMap → JsImportName → Option (List ℕ)
+drawn_name m name = look_up by_fields.ghosts.cmp m.imports name
 
--- the name that was drawn for what an import begins with, or the empty text where none was
-abbrev pub drawn_name : NameMap → JsImportName → List ℕ
-drawn_name m name = or_empty (look_up by_fields.ghosts.cmp m.imports name)
-
--- what a name stands for: a global itself, and else the name that was drawn for it
-abbrev pub root_name : NameMap → JsImportName → Part
-root_name m (names.Global name) = p.Host name []
-root_name m other = p.Name (drawn_name m other)
+-- a drawn name, or without one the name itself, which is one of the host
+abbrev pub begins : (drawn : Option (List ℕ)) → (name : List ℕ) → Part
+begins (Some drawn) name = p.Name drawn
+begins None name = p.Host name []
 
 -- the same, and the properties that are read from it, one after the other
-abbrev pub root_of : NameMap → (fields : List (List ℕ)) → JsImportName → List Part
-root_of m fields (names.Global name) = p.Host name fields ∷ []
-root_of m fields other = p.Name (drawn_name m other) ∷ map p.Property fields
+abbrev pub begins_with : (fields : List (List ℕ)) → (drawn : Option (List ℕ)) → (name : List ℕ) → List Part
+begins_with fields (Some drawn) name = p.Name drawn ∷ map p.Property fields
+begins_with fields None name = p.Host name fields ∷ []
+
+-- what a name stands for: the name that was drawn for it, and where none was, as for a global, the host's name
+abbrev pub root_name : NameMap → JsImportName → Part
+root_name m name = begins (drawn_name m name) (plain_name name)
 
 -- the value that an import names
 abbrev pub root : NameMap → JsImport → List Part
-root m js = root_of m js.fields js.name
+root m js = begins_with js.fields (drawn_name m js.name) (plain_name js.name)

@@ -1,10 +1,12 @@
 //! The expression of an import.
 ghost use Rattle.std.specs.Prelude.{◌≡◌, ◌++◌, ◌∷◌, [], IfOk, option_map};
 ghost use Rattle.glue_imports.specs.Expressions as spec;
+ghost use Rattle.glue_imports.specs.Given as given_specs;
 ghost use Rattle.glue_imports.specs.Intrinsics as table;
 ghost use Rattle.glue_imports.specs.Preludes as preludes;
 ghost use Rattle.glue_imports.specs.declared.part.Part.TheVariants as p;
 
+use crate::given::{Given, item_expression};
 use crate::intrinsic::{has_parts, intrinsic_parts, loaded_name};
 use crate::part::{Expression, Part};
 use crate::prelude::{
@@ -331,7 +333,7 @@ fn parts_of(
     }
 }
 
-// The value that loading declares for an intrinsic, by its name.
+// The value for which the glue file has a name, by that name.
 fn loaded_value(
     alloc: Global,
     target: &Target,
@@ -345,18 +347,33 @@ fn loaded_value(
     }
 }
 
-// The expression of an intrinsic that has statements before it, or whose value loading declares.
-fn prelude_or_loaded(
+// The expression of an intrinsic that gives an item of the module, or for whose value the glue file has a name.
+fn item_or_loaded(
     alloc: Global,
-    target: &Target,
-    externref: bool,
+    settings: &Settings,
+    given: &Given<'_>,
     intrinsic: Intrinsic,
 ) -> Result<Option<Expression>, AllocError>
-    ensures expression { IfOk result (λ e. e ≡ table.or_else (preludes.intrinsic_prelude externref intrinsic) (option_map spec.loaded (table.loaded_name target.now intrinsic))) }
+    ensures expression { IfOk result (λ e. e ≡ table.or_else (given_specs.item_expression settings.now.externref (given_specs.handed_in given.now) intrinsic) (option_map spec.loaded (table.loaded_name settings.now.target intrinsic))) }
 {
-    match intrinsic_prelude(alloc, externref, intrinsic)? {
+    match item_expression(alloc, settings.externref, given, intrinsic)? {
         Some(expression) => Ok(Some(expression)),
-        None => loaded_value(alloc, target, intrinsic),
+        None => loaded_value(alloc, &settings.target, intrinsic),
+    }
+}
+
+// The same, or of one that has statements before it.
+fn prelude_or_other(
+    alloc: Global,
+    settings: &Settings,
+    given: &Given<'_>,
+    intrinsic: Intrinsic,
+) -> Result<Option<Expression>, AllocError>
+    ensures expression { IfOk result (λ e. e ≡ table.or_else (preludes.intrinsic_prelude settings.now.externref intrinsic) (table.or_else (given_specs.item_expression settings.now.externref (given_specs.handed_in given.now) intrinsic) (option_map spec.loaded (table.loaded_name settings.now.target intrinsic)))) }
+{
+    match intrinsic_prelude(alloc, settings.externref, intrinsic)? {
+        Some(expression) => Ok(Some(expression)),
+        None => item_or_loaded(alloc, settings, given, intrinsic),
     }
 }
 
@@ -364,14 +381,15 @@ fn prelude_or_loaded(
 fn intrinsic_expression(
     alloc: Global,
     settings: &Settings,
+    given: &Given<'_>,
     bound: bool,
     intrinsic: Intrinsic,
 ) -> Result<Option<Expression>, AllocError>
-    ensures expression { IfOk result (λ e. e ≡ spec.intrinsic_expression settings.now.target settings.now.externref bound intrinsic) }
+    ensures expression { IfOk result (λ e. e ≡ spec.intrinsic_expression settings.now.target settings.now.externref (given_specs.handed_in given.now) bound intrinsic) }
 {
     match plain(alloc, intrinsic_parts(alloc, bound, intrinsic)?) {
         Some(expression) => Ok(Some(expression)),
-        None => prelude_or_loaded(alloc, &settings.target, settings.externref, intrinsic),
+        None => prelude_or_other(alloc, settings, given, intrinsic),
     }
 }
 
@@ -380,12 +398,13 @@ fn intrinsic_expression(
 pub fn expression(
     alloc: Global,
     basis: &Basis<'_>,
+    given: &Given<'_>,
     call: AdapterJsImportKind,
     spread: bool,
     bound: bool,
     what: &AuxImport,
 ) -> Result<Option<Expression>, AllocError>
-    ensures expression { IfOk result (λ e. e ≡ spec.expression basis.now.settings.now basis.now.names.now call spread bound what.now) }
+    ensures expression { IfOk result (λ e. e ≡ spec.expression basis.now.settings.now basis.now.names.now (given_specs.handed_in given.now) call spread bound what.now) }
 {
     let settings = basis.settings;
     match what {
@@ -399,7 +418,7 @@ pub fn expression(
             linked(alloc, split, &settings.target, path, content)
         }
         AuxImport::Intrinsic(intrinsic) => {
-            intrinsic_expression(alloc, settings, bound, *intrinsic)
+            intrinsic_expression(alloc, settings, given, bound, *intrinsic)
         }
         _ => Ok(plain(alloc, parts_of(alloc, basis.names, call, spread, what)?)),
     }

@@ -2,6 +2,7 @@
 ghost use Rattle.std.specs.Prelude.{◌≡◌, ◌∷◌, [], false, is_some, IfOk, option_map};
 ghost use Rattle.glue_imports.specs.declared.part.Part.TheVariants as p;
 ghost use Rattle.glue_imports.specs.Expressions as exprs;
+ghost use Rattle.glue_imports.specs.Given as given;
 ghost use Rattle.glue_imports.specs.Intrinsics as spec;
 
 use crate::part::Part;
@@ -184,6 +185,19 @@ fn debug_text(alloc: Global) -> Result<Seq<Part>, AllocError>
     Ok(Seq::from_vec(parts))
 }
 
+// `decodeText(a)`
+fn decoded_text(alloc: Global) -> Result<Seq<Part>, AllocError>
+    ensures parts { IfOk result (λ parts. parts ≡ spec.decoded_text) }
+{
+    let parts = vec![in alloc;
+        Part::Name(Text::from_str(alloc, "decodeText")?),
+        Part::Punct(punct::OPEN_PAREN),
+        Part::Whole(0),
+        Part::Punct(punct::CLOSE_PAREN),
+    ]?;
+    Ok(Seq::from_vec(parts))
+}
+
 // `new PanicError(a)`
 fn panic_error(alloc: Global) -> Result<Seq<Part>, AllocError>
     ensures parts { IfOk result (λ parts. parts ≡ spec.panic_error) }
@@ -257,6 +271,7 @@ fn other_intrinsic(
         Intrinsic::Reinit => one(alloc, host(alloc, "undefined")?)?,
         Intrinsic::CopyToTypedArray => copy_to_array(alloc)?,
         Intrinsic::DebugString => debug_text(alloc)?,
+        Intrinsic::StringFromUtf8Lossy => decoded_text(alloc)?,
         Intrinsic::PanicError => panic_error(alloc)?,
         Intrinsic::Throw => thrown_error(alloc)?,
         Intrinsic::Rethrow => keyword_before(alloc, key::THROW)?,
@@ -294,7 +309,7 @@ pub fn intrinsic_parts(
     }
 }
 
-// Whether loading declares `wasmModule`.
+// Whether the glue file has the name `wasmModule`.
 fn declares_module(target: &Target) -> bool
     ensures test { result ≡ spec.declares_module target.now }
 {
@@ -304,7 +319,7 @@ fn declares_module(target: &Target) -> bool
     )
 }
 
-// Whether loading declares `wasmInstance`.
+// Whether the glue file has the name `wasmInstance`.
 fn declares_instance(target: &Target) -> bool
     ensures test { result ≡ spec.declares_instance target.now }
 {
@@ -314,7 +329,7 @@ fn declares_instance(target: &Target) -> bool
     )
 }
 
-// A name, where it is declared.
+// A name, where the file has it.
 fn name_if(alloc: Global, declared: bool, name: &str) -> Result<Option<Text>, AllocError>
     ensures name { IfOk result (λ found. found ≡ spec.name_if declared name.now) }
 {
@@ -325,7 +340,7 @@ fn name_if(alloc: Global, declared: bool, name: &str) -> Result<Option<Text>, Al
     }
 }
 
-/// The name that loading declares for the value of an intrinsic, where it declares one.
+/// The name that the glue file has for the value of an intrinsic, where it has one.
 pub fn loaded_name(
     alloc: Global,
     target: &Target,
@@ -340,7 +355,7 @@ pub fn loaded_name(
     }
 }
 
-/// Whether loading declares the value of an intrinsic on other targets, and not on this one.
+/// Whether the glue file has a name for the value of an intrinsic on other targets, and not on this one.
 pub fn lacks_value(target: &Target, intrinsic: Intrinsic) -> bool
     ensures test { result ≡ spec.lacks_value target.now intrinsic }
 {
@@ -353,14 +368,11 @@ pub fn lacks_value(target: &Target, intrinsic: Intrinsic) -> bool
 
 /// Whether an intrinsic has an expression on a target, where the setting `externref` has this value.
 pub fn has_parts(target: &Target, externref: bool, intrinsic: Intrinsic) -> bool
-    ensures test { result ≡ is_some (exprs.intrinsic_expression target.now externref false intrinsic) }
+    ensures test { result ≡ is_some (exprs.intrinsic_expression target.now externref given.nothing_given false intrinsic) }
 {
     match intrinsic {
         Intrinsic::ExternrefHeapLiveCount => !externref,
-        Intrinsic::FunctionTable
-        | Intrinsic::InitExternrefTable
-        | Intrinsic::Memory
-        | Intrinsic::StringFromUtf8Lossy => false,
+        Intrinsic::InitExternrefTable => externref,
         Intrinsic::Instance => declares_instance(target),
         Intrinsic::Module => declares_module(target),
         _ => true,

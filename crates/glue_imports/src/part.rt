@@ -11,6 +11,8 @@ pub enum Part {
     Name(Text),
     /// The object that holds the exports of the WebAssembly module: `wasm`.
     Exports,
+    /// The export of this name of that object: `wasm.name`, or `wasm["name"]`.
+    Export(Text),
     /// The access of the properties that a name tells: `.name`, `["name"]`, or a computed key as it is.
     Property(Text),
     /// The same of a value that may be absent: `?.name`, `?.["name"]`, or a computed key behind `?.`.

@@ -28,7 +28,7 @@ pub fn plain(alloc: Global, value: Option<Seq<Part>>) -> Option<Expression>
 }
 
 // The name of one local.
-fn one_name(alloc: Global, name: &str) -> Result<Seq<Text>, AllocError>
+pub(crate) fn one_name(alloc: Global, name: &str) -> Result<Seq<Text>, AllocError>
     ensures names { IfOk result (λ names. names ≡ name.now ∷ []) }
 {
     let names = vec![in alloc; Text::from_str(alloc, name)?]?;
@@ -47,7 +47,7 @@ fn two_names(alloc: Global, first: &str, second: &str) -> Result<Seq<Text>, Allo
 }
 
 // One part by itself.
-fn one(alloc: Global, part: Part) -> Result<Seq<Part>, AllocError>
+pub(crate) fn one(alloc: Global, part: Part) -> Result<Seq<Part>, AllocError>
     ensures parts { IfOk result (λ parts. parts ≡ part ∷ []) }
 {
     Ok(Seq::from_vec(vec![in alloc; part]?))
@@ -72,7 +72,7 @@ fn after(alloc: Global, front: Part, parts: Seq<Part>) -> Result<Seq<Part>, Allo
 // ---- statements
 
 // `;` and the end of the line behind parts.
-fn ended(parts: Seq<Part>) -> Result<Seq<Part>, AllocError>
+pub(crate) fn ended(parts: Seq<Part>) -> Result<Seq<Part>, AllocError>
     ensures parts { IfOk result (λ all. all ≡ parts ++ spec.line_end) }
 {
     let mut parts = parts;
@@ -82,7 +82,7 @@ fn ended(parts: Seq<Part>) -> Result<Seq<Part>, AllocError>
 }
 
 // `const x = value;`
-fn const_line(alloc: Global, value: Part) -> Result<Seq<Part>, AllocError>
+pub(crate) fn const_line(alloc: Global, value: Part) -> Result<Seq<Part>, AllocError>
     ensures parts { IfOk result (λ parts. parts ≡ spec.const_line value) }
 {
     let parts = vec![in alloc;
@@ -366,7 +366,7 @@ fn scoped(alloc: Global, name: &str) -> Result<Part, AllocError>
 }
 
 // A property by its name.
-fn property(alloc: Global, name: &str) -> Result<Part, AllocError>
+pub(crate) fn property(alloc: Global, name: &str) -> Result<Part, AllocError>
     ensures part { IfOk result (λ part. part ≡ p.Property name.now) }
 {
     Ok(Part::Property(Text::from_str(alloc, name)?))

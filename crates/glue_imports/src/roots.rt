@@ -9,33 +9,33 @@ use glue_shared::{JsImport, JsImportName, NameMap};
 use std::alloc::{AllocError, Global};
 use values::{Duplicate, Seq, Text};
 
-/// The name of a global.
-pub fn global_name(name: &JsImportName) -> Option<&Text>
-    ensures name { option_copied result ≡ spec.global_name name.now }
+// The name that a described name has by itself.
+fn plain_name(name: &JsImportName) -> &Text
+    ensures name { result.now ≡ spec.plain_name name.now }
 {
     match name {
-        JsImportName::Global { name } => Some(name),
-        _ => None,
+        JsImportName::Global { name }
+        | JsImportName::Module { name, .. }
+        | JsImportName::LocalModule { name, .. }
+        | JsImportName::InlineJs { name, .. }
+        | JsImportName::VendorPrefixed { name, .. } => name,
     }
 }
 
-// The name that was drawn for what an import begins with, or the empty text where none was.
-fn drawn_name(alloc: Global, names: &NameMap, name: &JsImportName) -> Result<Text, AllocError>
-    ensures text { IfOk result (λ text. text ≡ spec.drawn_name names.now name.now) }
+// The name that was drawn for what an import begins with, where one was.
+fn drawn_name<'a>(names: &'a NameMap, name: &JsImportName) -> Option<&'a Text>
+    ensures name { option_copied result ≡ spec.drawn_name names.now name.now }
 {
-    match names.imports.get(name) {
-        None => Ok(Text::new(String::new(alloc))),
-        Some(drawn) => Ok(drawn.copy(alloc)?),
-    }
+    names.imports.get(name)
 }
 
-/// What a name stands for: a global itself, and else the name that was drawn for it.
+/// What a name stands for: the name that was drawn for it, and where none was, as for a global, the host's name.
 pub fn root_name(alloc: Global, names: &NameMap, name: &JsImportName) -> Result<Part, AllocError>
     ensures part { IfOk result (λ part. part ≡ spec.root_name names.now name.now) }
 {
-    match name {
-        JsImportName::Global { name } => Ok(Part::Host(name.copy(alloc)?, Seq::new(alloc))),
-        _ => Ok(Part::Name(drawn_name(alloc, names, name)?)),
+    match drawn_name(names, name) {
+        Some(drawn) => Ok(Part::Name(drawn.copy(alloc)?)),
+        None => Ok(Part::Host(plain_name(name).copy(alloc)?, Seq::new(alloc))),
     }
 }
 
@@ -60,14 +60,15 @@ fn one(alloc: Global, part: Part) -> Result<Seq<Part>, AllocError>
 pub fn root(alloc: Global, names: &NameMap, js: &JsImport) -> Result<Seq<Part>, AllocError>
     ensures parts { IfOk result (λ parts. parts ≡ spec.root names.now js.now) }
 {
-    match &js.name {
-        JsImportName::Global { name } => {
-            one(alloc, Part::Host(name.copy(alloc)?, js.fields.copy(alloc)?))
-        }
-        _ => {
-            let mut parts = one(alloc, Part::Name(drawn_name(alloc, names, &js.name)?))?;
+    match drawn_name(names, &js.name) {
+        Some(drawn) => {
+            let mut parts = one(alloc, Part::Name(drawn.copy(alloc)?))?;
             push_fields(alloc, js.fields.as_slice(), &mut parts)?;
             Ok(parts)
+        }
+        None => {
+            let name = plain_name(&js.name).copy(alloc)?;
+            one(alloc, Part::Host(name, js.fields.copy(alloc)?))
         }
     }
 }

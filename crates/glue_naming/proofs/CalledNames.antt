@@ -1,4 +1,4 @@
--- The names that are drawn for what own imports call: each that is no global has one, an identifier that is taken for nothing else.
+-- The names that are drawn for what own imports call: each that is no name of the host has one, an identifier that is taken for nothing else.
 use Rattle.std.proofs.Common.{◌≡◌, ℕ, Bool, true, false, cond, ◌==◌, true≢false, List, [], ◌∷◌, ◌++◌, map, refl, sym, ap, subst, ◌∙◌, inl, inr}
 use Rattle.std.specs.Prelude.{Option, None, Some, option_map, option_and_then, find, filter_map}
 use Rattle.std.specs.FinSet as set
@@ -19,7 +19,6 @@ use Rattle.glue_shared.specs.declared.aux.AuxStruct.{AuxStruct}
 use Rattle.glue_shared.specs.declared.description.Lowered.{Lowered}
 use Rattle.glue_shared.specs.declared.import.AuxImport.{AuxImport}
 use Rattle.glue_shared.specs.declared.import.JsImportName.{JsImportName}
-use Rattle.glue_shared.specs.declared.import.JsImportName.TheVariants as js
 use Rattle.glue_shared.specs.declared.name_map.NameMap.{NameMap}
 use Rattle.glue_shared.specs.declared.settings.Settings.{Settings}
 use Rattle.glue_shared.specs.declared.settings.Target.{Target}
@@ -30,37 +29,42 @@ use Rattle.glue_check.specs.Unbuilt.{is_function_kind}
 use Rattle.glue_check.proofs.Globals.{from_flat, in_flat}
 use Rattle.glue_check.proofs.Passed.{number_in}
 use Rattle.glue_naming.specs.Given.{reserved_names}
-use Rattle.glue_naming.specs.Imported.{called_name, called_names, import_wanted, imports_wanted, names_called, pair_names}
-use Rattle.glue_naming.specs.Listed.{is_global_name, called_once, drawn_import, drawn_imports, names_drawn}
-use Rattle.glue_naming.specs.Naming.{AreNames, declared_name, function_name, import_name, is_named}
+use Rattle.glue_naming.specs.Imported.{called_name, called_names, import_wanted, imports_wanted, is_outside, local_name, names_called, pair_names}
+use Rattle.glue_naming.specs.Listed.{called_once, drawn_import, drawn_imports, names_drawn}
+use Rattle.glue_naming.specs.Naming.{AreNames, declared_name, function_name, import_name, is_named, without_items}
 use Rattle.glue_naming.specs.Wanted.{class_names, enum_name, function_names, function_wanted}
 use Rattle.glue_naming.specs.declared.named.Named.{Named}
 use Rattle.glue_naming.specs.declared.named.Named.TheVariants.{Import, Function}
 use Rattle.glue_naming.specs.declared.named.Wanted.{Wanted}
+use Rattle.glue_naming.specs.declared.named.WantedName.TheVariants.{Plain}
 use Rattle.glue_naming.proofs.Arranged.{all_are, moved_from}
 use Rattle.glue_naming.proofs.Draws.{IsAt, stands}
 use Rattle.glue_naming.proofs.Functions.{given_of}
-use Rattle.glue_naming.proofs.OnceNames.{flat_more, from_map, from_part, in_map, in_part, once_distinct, once_from, once_has, part_distinct}
+use Rattle.glue_check.proofs.EachOnce.{once_distinct, once_from, once_has}
+use Rattle.glue_naming.proofs.MappedLists.{flat_more, from_map, from_part, in_map, in_part, part_distinct}
 use Rattle.glue_naming.proofs.Reserved.{free_no_fixed, free_no_host}
 
 -- ---- what is wanted
 
--- the name that is wanted for what is no global
-wanted_there : (t : Target) (name : JsImportName) → is_global_name name ≡ false
-    → (w : Wanted) × (import_wanted t name ≡ Some w) × (Import name ≡ w.thing)
-wanted_there t (js.Global name) h = absurd (true≢false h)
-wanted_there t (js.Module from name) h = (_, refl, refl)
-wanted_there t (js.LocalModule from name) h = (_, refl, refl)
-wanted_there t (js.InlineJs from index name) h = (_, refl, refl)
-wanted_there t (js.VendorPrefixed name prefixes) h = (_, refl, refl)
+-- what is wanted for what is no name of the host
+abbrev wanted_as : Target → JsImportName → Wanted
+wanted_as t js = record { thing = Import js; name = Plain (local_name t js) }
 
-wanted_only : (t : Target) (name : JsImportName) (w : Wanted) → import_wanted t name ≡ Some w
-    → (w.thing ≡ Import name) × (is_global_name name ≡ false)
-wanted_only t (js.Global name) w e = cc
-wanted_only t (js.Module from name) w e = (cc, refl)
-wanted_only t (js.LocalModule from name) w e = (cc, refl)
-wanted_only t (js.InlineJs from index name) w e = (cc, refl)
-wanted_only t (js.VendorPrefixed name prefixes) w e = (cc, refl)
+wanted_there : (omitted : Bool) (t : Target) (name : JsImportName) → is_outside omitted name ≡ false → import_wanted omitted t name ≡ Some (wanted_as t name)
+wanted_there omitted t name h = ap (λ (b : Bool). cond b None (Some (wanted_as t name))) h
+
+wanted_only : (omitted : Bool) (t : Target) (name : JsImportName) (w : Wanted) → import_wanted omitted t name ≡ Some w
+    → (w.thing ≡ Import name) × (is_outside omitted name ≡ false)
+wanted_only omitted t name w e = by (is_outside omitted name) refl e
+  where
+    by : (b : Bool) → is_outside omitted name ≡ b → cond b None (Some (wanted_as t name)) ≡ Some w
+        → (w.thing ≡ Import name) × (is_outside omitted name ≡ false)
+    by true q e = cc
+    by false q e = let same : wanted_as t name ≡ w = cc in (ap (λ (x : Wanted). x.thing) (sym same), q)
+
+-- what is none is no text
+not_both : (o : Option (List ℕ)) (text : List ℕ) → o ≡ None → o ≡ Some text → ⊥
+not_both o text h k = cc
 
 -- the thing that stands at a place is wanted
 at_wanted : (thing : Named) (name : List ℕ) (list : List Wanted) (names : List (List ℕ)) → IsAt thing name list names
@@ -79,7 +83,7 @@ no_class c w name (inr (inr i)) e = i
 no_enum : (key : List ℕ) (w : Wanted) (name : JsImportName) → w ≡ enum_name key → Import name ≡ w.thing → ⊥
 no_enum key w name same e = cc
 
-in_where : {A : Type 0} (x : A) (xs : List A) (b : Bool) → IsIn x (cond b xs []) → IsIn x xs × (b ≡ true)
+pub in_where : {A : Type 0} (x : A) (xs : List A) (b : Bool) → IsIn x (cond b xs []) → IsIn x xs × (b ≡ true)
 in_where x xs true i = (i, refl)
 in_where x xs false i = absurd i
 
@@ -114,11 +118,11 @@ step_described es (instr.CallAdapter id) n i = entry_described es id n i
 step_described es step n i = absurd i
 
 -- a step with this callee is the call of it
-callee_is : (step : Instruction) (id : ℕ) → callee step ≡ Some id → step ≡ instr.CallAdapter id
+pub callee_is : (step : Instruction) (id : ℕ) → callee step ≡ Some id → step ≡ instr.CallAdapter id
 callee_is (instr.CallAdapter other) id e = cc
 callee_is step id e = cc
 
-where_true : {A : Type 0} (x : A) (xs : List A) (b : Bool) → b ≡ true → IsIn x xs → IsIn x (cond b xs [])
+pub where_true : {A : Type 0} (x : A) (xs : List A) (b : Bool) → b ≡ true → IsIn x xs → IsIn x (cond b xs [])
 where_true x xs true h i = i
 where_true x xs false h i = absurd (true≢false (sym h))
 
@@ -136,16 +140,16 @@ import_one a b e = cc
 
 module _ (s : Settings) (l : Lowered) (m : NameMap) (n : AreNames s l m) where
   asked_import : (w : Wanted) (name : JsImportName) → Import name ≡ w.thing
-      → IsIn w (imports_wanted s l n.wanted.pairs ++ flat_map function_names n.wanted.functions) → is_global_name name ≡ false
+      → IsIn w (imports_wanted s l n.wanted.pairs ++ flat_map function_names n.wanted.functions) → is_outside s.omit_imports name ≡ false
   asked_import w name e i = elim (in_either w (imports_wanted s l n.wanted.pairs) (flat_map function_names n.wanted.functions) i) [
     | inl here ↦
-        let r = from_part (import_wanted s.target) w (called_once s l n.wanted.pairs) here in
-        let k = wanted_only s.target r.0 w r.2 in
-        ap is_global_name (import_one name r.0 (e ∙ k.0)) ∙ k.1
+        let r = from_part (import_wanted s.omit_imports s.target) w (called_once s l n.wanted.pairs) here in
+        let k = wanted_only s.omit_imports s.target r.0 w r.2 in
+        ap (is_outside s.omit_imports) (import_one name r.0 (e ∙ k.0)) ∙ k.1
     | inr later ↦ let r = from_flat function_names n.wanted.functions w later in absurd (no_function r.0 w name r.2 e)
   ]
 
-  asked_thing : (w : Wanted) (name : JsImportName) → Import name ≡ w.thing → IsIn w n.list → is_global_name name ≡ false
+  asked_thing : (w : Wanted) (name : JsImportName) → Import name ≡ w.thing → IsIn w n.list → is_outside s.omit_imports name ≡ false
   asked_thing w name e i =
       let imports = imports_wanted s l n.wanted.pairs ++ flat_map function_names n.wanted.functions in
       elim (in_either w (flat_map class_names l.aux.structs) (map enum_name n.wanted.enums ++ imports) (subst (IsIn w) n.wanted.all i)) [
@@ -156,10 +160,10 @@ module _ (s : Settings) (l : Lowered) (m : NameMap) (n : AreNames s l m) where
         ]
       ]
 
-  -- it is no global
-  pub named_no_global : (name : JsImportName) (drawn : List ℕ) → import_name m name ≡ Some drawn → is_global_name name ≡ false
-  named_no_global name drawn e =
-      let w = at_wanted (Import name) drawn n.list n.drawn.names (stands n.list n.drawn.names m (Import name) drawn n.drawn.filled e) in
+  -- it is no name of the host
+  pub named_no_host : (name : JsImportName) (drawn : List ℕ) → import_name m name ≡ Some drawn → is_outside s.omit_imports name ≡ false
+  named_no_host name drawn e =
+      let w = at_wanted (Import name) drawn n.list n.drawn.names (stands n.list n.drawn.names (without_items m) (Import name) drawn n.drawn.filled e) in
       asked_thing w.0 name w.2 w.1
 
   -- two that have one name are one
@@ -214,20 +218,27 @@ module _ (s : Settings) (l : Lowered) (m : NameMap) (n : AreNames s l m) where
         in_left name (flat_map (λ (x : ℕ × AuxImport). names_of (js_import x.1)) l.aux.imports) (map (λ r. r.1.name) l.aux.reexports)
         (step_described l.aux.imports step.0 name step.2)
 
-    -- and has a drawn name, where it is no global
-    pub called_named : (name : JsImportName) → IsIn name called → is_global_name name ≡ false → (drawn : List ℕ) × (import_name m name ≡ Some drawn)
+    -- and has a drawn name, where it is no name of the host
+    pub called_named : (name : JsImportName) → IsIn name called → is_outside s.omit_imports name ≡ false → (drawn : List ℕ) × (import_name m name ≡ Some drawn)
     called_named name i h =
         let moved = λ (x : ImportId × ℕ) (k : IsIn x pairs).
         moved_from n.wanted.pairs l.wit.implements (IsPermutation-sym _ _ n.wanted.by_import.same) x (sub x k) in
         let there = once_has name (names_called s l n.wanted.pairs)
         (flat_more (pair_names own l) pairs n.wanted.pairs moved name (once_from name (names_called s l pairs) i)) in
-        let w = wanted_there s.target name h in
-        let asked = in_part (import_wanted s.target) name w.0 (called_once s l n.wanted.pairs) there w.1 in
-        let among : IsIn w.0 n.list = subst (IsIn w.0) (sym n.wanted.all) (in_right w.0 (flat_map class_names l.aux.structs) _
-        (in_right w.0 (map enum_name n.wanted.enums) _
-        (in_left w.0 (imports_wanted s l n.wanted.pairs) (flat_map function_names n.wanted.functions) asked))) in
-        n.good.found (Import name) (subst (λ (t : Named). IsIn t (map (λ (x : Wanted). x.thing) n.list)) (sym w.2)
-        (in_map (λ (x : Wanted). x.thing) w.0 n.list among))
+        let w = wanted_as s.target name in
+        let asked = in_part (import_wanted s.omit_imports s.target) name w (called_once s l n.wanted.pairs) there (wanted_there s.omit_imports s.target name h) in
+        let among : IsIn w n.list = subst (IsIn w) (sym n.wanted.all) (in_right w (flat_map class_names l.aux.structs) _
+        (in_right w (map enum_name n.wanted.enums) _
+        (in_left w (imports_wanted s l n.wanted.pairs) (flat_map function_names n.wanted.functions) asked))) in
+        n.good.found (Import name) (in_map (λ (x : Wanted). x.thing) w n.list among)
+
+    -- so one without a drawn name is a name of the host
+    pub unnamed_host : (name : JsImportName) → IsIn name called → import_name m name ≡ None → is_outside s.omit_imports name ≡ true
+    unnamed_host name i none = by (is_outside s.omit_imports name) refl
+      where
+        by : (b : Bool) → is_outside s.omit_imports name ≡ b → is_outside s.omit_imports name ≡ true
+        by true q = q
+        by false q = let d = called_named name i q in absurd (not_both (import_name m name) d.0 none d.1)
 
     -- so it is listed with that name
     pub named_listed : (name : JsImportName) (drawn : List ℕ) → IsIn name called → import_name m name ≡ Some drawn → IsIn (name, drawn) listed

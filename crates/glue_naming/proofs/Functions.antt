@@ -26,7 +26,7 @@ use Rattle.glue_naming.specs.Naming.{AreNames, declared_name, function_name, is_
 use Rattle.glue_naming.specs.Wanted.{class_names, enum_name, function_names, function_wanted}
 use Rattle.glue_naming.proofs.Arranged.{all_are, moved_from}
 use Rattle.glue_naming.proofs.Draws.{all_at}
-use Rattle.glue_naming.proofs.OnceNames.{from_map, in_map}
+use Rattle.glue_naming.proofs.MappedLists.{from_map, in_map}
 use Rattle.glue_naming.proofs.Reserved.{free_no_fixed, free_no_host}
 
 -- ---- exports at the top level

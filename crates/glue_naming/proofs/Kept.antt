@@ -28,7 +28,7 @@ unfolding cleaned_name is_prop
 cleaned_same name text h = ap encode_utf8_all (kept_chars (chars name) (some_chars (chars name) h)) ∙ encodes-chars name text
 
 -- an identifier is made none other
-ident_kept : (name : List ℕ) → IsUtf8 name → is_ident name ≡ true → to_ident name ≡ name
+pub ident_kept : (name : List ℕ) → IsUtf8 name → is_ident name ≡ true → to_ident name ≡ name
 unfolding to_ident
 ident_kept name text h =
     ap (λ (n : List ℕ). cond (is_ident n) n (95 ∷ n)) (cleaned_same name text (ident_prop name h)) ∙ ap (λ b. cond b name (95 ∷ name)) h

@@ -2,8 +2,7 @@ pub mod Arranged
 pub mod CalledNames
 mod Draws
 pub mod Functions
-mod ImportOrder
+pub mod ItemNames
 mod Kept
-mod Once
-pub mod OnceNames
+pub mod MappedLists
 mod Reserved

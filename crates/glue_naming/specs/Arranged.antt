@@ -4,8 +4,6 @@ use Rattle.std.specs.Ordering.{nat_cmp}
 use Rattle.std.specs.Cmp.Lexicographic.{slice_cmp}
 use Rattle.std.specs.List.Sorted.{IsPermutation, IsSorted}
 use Rattle.std.specs.declared.cmp.Ordering.{Ordering}
-use Rattle.glue_shared.specs.contracts.import.JsImportNameOrd.TheImpl as by_fields
-use Rattle.glue_shared.specs.declared.import.JsImportName.{JsImportName}
 
 -- the same items, each as often, and none comes before the one in front of it
 pub record IsArranged {A : Type 0} (order : A → A → Ordering) (xs arranged : List A) : Type 0 where
@@ -15,7 +13,3 @@ pub record IsArranged {A : Type 0} (order : A → A → Ordering) (xs arranged :
 -- texts by their bytes
 abbrev pub text_order : List ℕ → List ℕ → Ordering
 text_order = slice_cmp nat_cmp
-
--- names that imports begin with by their variants, and then by their fields in order
-abbrev pub import_order : JsImportName → JsImportName → Ordering
-import_order = by_fields.ghosts.cmp

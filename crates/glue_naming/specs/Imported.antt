@@ -1,7 +1,7 @@
--- The names that what own imports call begins with, each once, and those that are wanted for them.
-use Rattle.std.specs.Prelude.{ℕ, Bool, not, List, [], ◌∷◌, ◌++◌, codes, if◌then◌else◌, Option, Some, None, option_map, option_and_then, filter, filter_map}
+-- The names that what own imports call begins with, and those that are wanted for them.
+use Rattle.std.specs.Prelude.{ℕ, Bool, true, false, List, [], ◌++◌, codes, if◌then◌else◌, Option, Some, None, option_and_then, filter_map}
 use Rattle.std.specs.List.{flat_map}
-use Rattle.std.specs.Ordering.{is_eq, nat_cmp}
+use Rattle.std.specs.Ordering.{nat_cmp}
 use Rattle.values.specs.Map.{look_up}
 use Rattle.wasm_core.specs.ids.ImportId.{ImportId}
 use Rattle.glue_shared.specs.declared.adapter.Instruction.{Instruction}
@@ -16,20 +16,9 @@ use Rattle.glue_shared.specs.Names.{code_of, entry_of, has_number, is_emscripten
 use Rattle.glue_naming.specs.declared.named.Named.TheVariants.{Import}
 use Rattle.glue_naming.specs.declared.named.WantedName.TheVariants.{Plain}
 use Rattle.glue_naming.specs.declared.named.Wanted.{Wanted}
-use Rattle.glue_naming.specs.Arranged.{import_order}
+use Rattle.glue_check.specs.Once.{each_once}
 
--- ---- names that imports begin with
-
--- the same variant with the same fields
-abbrev pub is_same : JsImportName → JsImportName → Bool
-is_same a b = is_eq (import_order a b)
-
--- each of these names once, where it comes first
-abbrev pub each_once : List JsImportName → List JsImportName
-each_once [] = []
-each_once (name ∷ names) = name ∷ filter (λ other. not (is_same other name)) (each_once names)
-
--- ---- those that adapters call
+-- ---- names that adapters call
 
 -- what an instruction calls, by what is described of the adapter
 abbrev pub called_name : List (ℕ × AuxImport) → Instruction → List JsImportName
@@ -54,18 +43,27 @@ names_called s l pairs = flat_map (pair_names (own_imports s l.«module» l.wit 
 abbrev pub local_front : Target → List ℕ
 local_front target = if is_emscripten target then codes "__wbg_" else []
 
--- the name that is wanted: that of the module's export, that of a vendor behind `l`, and none of a global, which goes by its own
-abbrev pub local_name : Target → JsImportName → Option (List ℕ)
-local_name target (Global name) = None
-local_name target (Module from name) = Some (local_front target ++ name)
-local_name target (LocalModule from name) = Some (local_front target ++ name)
-local_name target (InlineJs from index name) = Some (local_front target ++ name)
-local_name target (VendorPrefixed name prefixes) = Some (codes "l" ++ name)
+-- it is one of the host: a global, and where imports are left out a module's export
+abbrev pub is_outside : (omitted : Bool) → JsImportName → Bool
+is_outside omitted (Global name) = true
+is_outside omitted (Module from name) = omitted
+is_outside omitted (LocalModule from name) = omitted
+is_outside omitted (InlineJs from index name) = omitted
+is_outside omitted (VendorPrefixed name prefixes) = false
 
--- what an import begins with, and that name, where one is wanted
-abbrev pub import_wanted : Target → JsImportName → Option Wanted
-import_wanted target name = option_map (λ (local : List ℕ). record { thing = Import name; name = Plain local }) (local_name target name)
+-- the name that a drawn one is wanted to be: that of the module's export, and that of a vendor behind `l`
+abbrev pub local_name : Target → JsImportName → List ℕ
+local_name target (Global name) = name
+local_name target (Module from name) = local_front target ++ name
+local_name target (LocalModule from name) = local_front target ++ name
+local_name target (InlineJs from index name) = local_front target ++ name
+local_name target (VendorPrefixed name prefixes) = codes "l" ++ name
+
+-- what an import begins with, and that name; none is wanted for a name of the host, which goes by itself
+abbrev pub import_wanted : (omitted : Bool) → Target → JsImportName → Option Wanted
+import_wanted omitted target js =
+    if is_outside omitted js then None else Some (record { thing = Import js; name = Plain (local_name target js) })
 
 -- the names that own imports among these pairs ask for, each where it comes first
 abbrev pub imports_wanted : Settings → Lowered → List (ImportId × ℕ) → List Wanted
-imports_wanted s l pairs = filter_map (import_wanted s.target) (each_once (names_called s l pairs))
+imports_wanted s l pairs = filter_map (import_wanted s.omit_imports s.target) (each_once (names_called s l pairs))

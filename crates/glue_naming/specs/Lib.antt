@@ -4,6 +4,7 @@ pub mod Given
 pub mod Pairs
 pub mod Imported
 pub mod Handed
+pub mod ItemNames
 pub mod Wanted
 pub mod Naming
 pub mod Listed

@@ -1,18 +1,13 @@
 -- What own imports call, listed with the names that are drawn for it.
-use Rattle.std.specs.Prelude.{ℕ, Bool, true, false, List, map, Option, option_map, filter_map}
+use Rattle.std.specs.Prelude.{ℕ, List, map, Option, option_map, filter_map}
 use Rattle.wasm_core.specs.ids.ImportId.{ImportId}
 use Rattle.glue_shared.specs.declared.description.Lowered.{Lowered}
 use Rattle.glue_shared.specs.declared.import.JsImportName.{JsImportName}
-use Rattle.glue_shared.specs.declared.import.JsImportName.TheVariants.{Global}
 use Rattle.glue_shared.specs.declared.name_map.NameMap.{NameMap}
 use Rattle.glue_shared.specs.declared.settings.Settings.{Settings}
-use Rattle.glue_naming.specs.Imported.{each_once, names_called}
+use Rattle.glue_check.specs.Once.{each_once}
+use Rattle.glue_naming.specs.Imported.{names_called}
 use Rattle.glue_naming.specs.Naming.{import_name}
-
--- a global, for which no name is drawn
-abbrev pub is_global_name : JsImportName → Bool
-is_global_name (Global name) = true
-is_global_name other = false
 
 -- what own imports among these pairs call, each once, in the order in which it is first called
 abbrev pub called_once : Settings → Lowered → List (ImportId × ℕ) → List JsImportName

@@ -1,5 +1,5 @@
 -- The names of what a description declares.
-use Rattle.std.specs.Prelude.{ℕ, Bool, List, [], Option, is_some, unwrap_or}
+use Rattle.std.specs.Prelude.{◌≡◌, ℕ, Bool, List, [], Option, is_some, unwrap_or}
 use Rattle.glue_shared.specs.declared.aux.AuxExport.{AuxExport}
 use Rattle.glue_shared.specs.declared.description.Lowered.{Lowered}
 use Rattle.glue_shared.specs.declared.import.JsImportName.{JsImportName}
@@ -10,6 +10,7 @@ use Rattle.glue_naming.specs.declared.named.Named.TheVariants.{Import, Function}
 use Rattle.glue_naming.specs.declared.named.Wanted.{Wanted}
 use Rattle.glue_naming.specs.Drawing.{IsDrawnMap, AreGood, name_in}
 use Rattle.glue_naming.specs.Given.{reserved_names}
+use Rattle.glue_naming.specs.ItemNames.{item_map, item_names}
 use Rattle.glue_naming.specs.Wanted.{AreWanted}
 
 -- the name that the function of an export was given
@@ -28,9 +29,15 @@ declared_name m e = unwrap_or (function_name m e) []
 abbrev pub import_name : NameMap → JsImportName → Option (List ℕ)
 import_name m name = name_in m (Import name)
 
--- the maps have the names that are drawn for what is described, in its order, where the reserved ones are bound
+-- the maps but that of items of the module
+abbrev pub without_items : NameMap → NameMap
+without_items m = record m { wasm = [] }
+
+-- the maps have the names that are drawn for what is described, in its order, where the reserved ones are bound; and the items of the module
+-- that own imports ask for are there with the names of the exports that give them
 pub record AreNames (s : Settings) (l : Lowered) (m : NameMap) : Type 0 where
   pub list : List Wanted
   pub wanted : AreWanted s l list
-  pub drawn : IsDrawnMap (reserved_names s l) list m
-  pub good : AreGood (reserved_names s l) list m
+  pub drawn : IsDrawnMap (reserved_names s l) list (without_items m)
+  pub good : AreGood (reserved_names s l) list (without_items m)
+  pub items : m.wasm ≡ item_map (item_names s l)

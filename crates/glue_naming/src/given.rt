@@ -14,7 +14,7 @@ use values::Text;
 use wasm_core::{Export, ExportId, Import, ImportId, Module};
 
 // With a name.
-fn with_name<N: Names>(scope: N, name: &str) -> Result<N, AllocError>
+pub(crate) fn with_name<N: Names>(scope: N, name: &str) -> Result<N, AllocError>
     ensures bound { IfOk result (λ more. N.bound more ≡ set.insert (N.bound scope) name.now) }
 {
     let mut more = scope;

@@ -1,21 +1,18 @@
-//! The names that what own imports call begins with, each once, and those that are wanted for them.
-ghost use Rattle.std.specs.Prelude.{◌≡◌, ◌++◌, ◌∷◌, [], IfOk, OnOk, filter_map, if◌then◌else◌, map, is_some, option_and_then};
-ghost use Rattle.std.specs.BTreeMap.{insert_entry};
+//! The names that what own imports call begins with, and those that are wanted for them.
+ghost use Rattle.std.specs.Prelude.{◌≡◌, ◌++◌, ◌∷◌, [], IfOk, OnOk, filter_map, option_and_then};
 ghost use Rattle.std.specs.List.{flat_map};
 ghost use Rattle.std.specs.Option.{option_copied};
-ghost use Rattle.values.specs.Map.{look_up};
 ghost use Rattle.glue_shared.specs.Names as names;
-ghost use Rattle.glue_naming.specs.Arranged.{import_order};
 ghost use Rattle.glue_naming.specs.Imported as spec;
 
-use crate::named::{Named, Wanted, WantedName, copied_import};
-use glue_check::own_places;
+use crate::named::{Named, Wanted, WantedName};
+use glue_check::{copied_import, each_once, own_places};
 use glue_shared::{
     AdapterId, AuxImport, DescribedImports, IdSet, Instruction, JsImportName, Lowered, Settings,
     Target, code_of, js_import,
 };
 use std::alloc::{AllocError, Global};
-use values::{Map, Seq, Text};
+use values::{Duplicate, Seq, Text};
 use wasm_core::ImportId;
 
 // ---- names that adapters call
@@ -124,39 +121,6 @@ pub(crate) fn names_called(
     own_called(alloc, &own, lowered, pairs)
 }
 
-// ---- each once
-
-// Adds a name, where it hasn't come yet.
-fn push_new(
-    alloc: Global,
-    seen: &mut Map<JsImportName, ()>,
-    name: &JsImportName,
-    once: &mut Seq<JsImportName>,
-) -> Result<(), AllocError>
-    ensures seen { OnOk result (seen.new ≡ insert_entry import_order seen.old name.now tt) }
-    ensures pushed { OnOk result (once.new ≡ once.old ++ (if is_some (look_up import_order seen.old name.now) then [] else name.now ∷ [])) }
-{
-    if seen.insert(copied_import(alloc, name)?, ())?.is_none() {
-        once.push(copied_import(alloc, name)?)?;
-    }
-    Ok(())
-}
-
-/// Each of these names once, where it comes first. Want of memory is the only error.
-pub(crate) fn each_once(
-    alloc: Global,
-    list: &[JsImportName],
-) -> Result<Seq<JsImportName>, AllocError>
-    ensures once { IfOk result (λ once. once ≡ spec.each_once list.now) }
-{
-    let mut seen = Map::new(alloc);
-    let mut once = Seq::new(alloc);
-    for name in list {
-        push_new(alloc, &mut seen, name, &mut once)?;
-    }
-    Ok(once)
-}
-
 // ---- the names that are wanted
 
 // What stands before the name of a module's export.
@@ -178,54 +142,65 @@ fn joined(alloc: Global, front: &str, rest: &Text) -> Result<Text, AllocError>
     Ok(text)
 }
 
-// The name that is wanted for what an import begins with, unless that is a global.
-fn local_name(
-    alloc: Global,
-    target: &Target,
-    import: &JsImportName,
-) -> Result<Option<Text>, AllocError>
-    ensures name { IfOk result (λ name. name ≡ spec.local_name target.now import.now) }
+// Whether it is one of the host.
+fn is_outside(omitted: bool, import: &JsImportName) -> bool
+    ensures test { result ≡ spec.is_outside omitted import.now }
 {
     match import {
-        JsImportName::Global { .. } => Ok(None),
-        JsImportName::Module { name, .. }
-        | JsImportName::LocalModule { name, .. }
-        | JsImportName::InlineJs { name, .. } => {
-            Ok(Some(joined(alloc, local_front(target), name)?))
-        }
-        JsImportName::VendorPrefixed { name, .. } => Ok(Some(joined(alloc, "l", name)?)),
+        JsImportName::Global { .. } => true,
+        JsImportName::Module { .. }
+        | JsImportName::LocalModule { .. }
+        | JsImportName::InlineJs { .. } => omitted,
+        JsImportName::VendorPrefixed { .. } => false,
     }
 }
 
-// Adds the name that is wanted for what an import begins with.
+// The name that a drawn one is wanted to be.
+fn local_name(alloc: Global, target: &Target, import: &JsImportName) -> Result<Text, AllocError>
+    ensures name { IfOk result (λ name. name ≡ spec.local_name target.now import.now) }
+{
+    match import {
+        JsImportName::Global { name } => Ok(name.copy(alloc)?),
+        JsImportName::Module { name, .. }
+        | JsImportName::LocalModule { name, .. }
+        | JsImportName::InlineJs { name, .. } => joined(alloc, local_front(target), name),
+        JsImportName::VendorPrefixed { name, .. } => joined(alloc, "l", name),
+    }
+}
+
+// Adds the name that is wanted for what an import begins with, unless it is one of the host.
 fn push_import(
     alloc: Global,
+    omitted: bool,
     target: &Target,
     import: &JsImportName,
     list: &mut Seq<Wanted>,
 ) -> Result<(), AllocError>
-    ensures pushed { OnOk result (list.new ≡ list.old ++ filter_map (spec.import_wanted target.now) (import.now ∷ [])) }
+    ensures pushed { OnOk result (list.new ≡ list.old ++ filter_map (spec.import_wanted omitted target.now) (import.now ∷ [])) }
 {
-    if let Some(name) = local_name(alloc, target, import)? {
-        list.push(Wanted {
-            thing: Named::Import(copied_import(alloc, import)?),
-            name: WantedName::Plain(name),
-        })?;
+    if is_outside(omitted, import) {
+        return Ok(());
     }
+    let name = local_name(alloc, target, import)?;
+    list.push(Wanted {
+        thing: Named::Import(copied_import(alloc, import)?),
+        name: WantedName::Plain(name),
+    })?;
     Ok(())
 }
 
 // Adds those of these.
 fn push_each(
     alloc: Global,
+    omitted: bool,
     target: &Target,
     imports: &[JsImportName],
     list: &mut Seq<Wanted>,
 ) -> Result<(), AllocError>
-    ensures pushed { OnOk result (list.new ≡ list.old ++ filter_map (spec.import_wanted target.now) imports.now) }
+    ensures pushed { OnOk result (list.new ≡ list.old ++ filter_map (spec.import_wanted omitted target.now) imports.now) }
 {
     for name in imports {
-        push_import(alloc, target, name, list)?;
+        push_import(alloc, omitted, target, name, list)?;
     }
     Ok(())
 }
@@ -242,5 +217,11 @@ pub(crate) fn push_imports(
 {
     let called = names_called(alloc, settings, lowered, pairs)?;
     let once = each_once(alloc, called.as_slice())?;
-    push_each(alloc, &settings.target, once.as_slice(), list)
+    push_each(
+        alloc,
+        settings.omit_imports,
+        &settings.target,
+        once.as_slice(),
+        list,
+    )
 }

@@ -5,9 +5,10 @@
 //! `specs/Wanted.antt`): classes as they are described, each with its registry, enums by qualified name, imports, and functions by debug
 //! name and then by their adapter's id. Of imports, those draw a name that begin with a module's export or a vendor's name
 //! (`imports_wanted` in `specs/Imported.antt`): each once, over what the adapters of own imports call, by the import's name and then by
-//! the adapter's id (`pair_order` in `specs/Pairs.antt`). A direct import is its name itself (`handed_imports`), and a global goes by its own. What is one
-//! more kind is one more list of `AreWanted`. Names of re-exports, of `inspect` on Node and of namespaces, which come behind those of
-//! functions, aren't drawn: no description that is built has any.
+//! the adapter's id (`pair_order` in `specs/Pairs.antt`). A direct import is its name itself (`handed_imports`), and a name of the host goes
+//! by itself: a global, and a module's export where imports are left out (`is_outside`). What is one more kind is one more list of
+//! `AreWanted`. Names of re-exports, of `inspect` on Node and of namespaces, which come behind those of functions, aren't drawn: no
+//! description that is built has any.
 //!
 //! Promised of `draw_names` (`names`, by the record `AreNames` in `specs/Naming.antt`): the maps have the names that any scope
 //! (`glue_scope::Names`) draws for that list; each is an identifier and none that is reserved, and two things have two names
@@ -18,7 +19,10 @@
 //! were drawn for it, each once (`specs/Listed.antt`). `pairs_by_import` (`sorted`) gives the pairs in the order in which imports are
 //! named, and `own_places_by_name` the places of own imports in the order in which the crate above defines them.
 //!
-//! Stands on `glue_check`, `glue_scope`, `glue_words`, `glue_shared` and `wasm_core`. It knows no item.
+//! `item_names` (`named`) gives the items of the module that own imports ask for, each once, with the names of the exports that give them, and
+//! `added_exports` (`added`) the exports that have to be added for that (`specs/ItemNames.antt`); a name that is added is no other export's.
+//!
+//! Stands on `glue_check`, `glue_imports`, `glue_steps`, `glue_scope`, `glue_words`, `glue_shared` and `wasm_core`. It knows no item.
 #![tactic(auto)]
 
 mod asked;
@@ -26,6 +30,7 @@ mod drawing;
 mod given;
 mod handed;
 mod imported;
+mod items;
 mod listed;
 mod named;
 mod naming;
@@ -36,6 +41,7 @@ mod tests;
 pub use asked::wanted;
 pub use drawing::name_all;
 pub use handed::handed_imports;
+pub use items::{added_exports, item_names};
 pub use listed::drawn_imports;
 pub use named::{Named, Wanted, WantedName, name_in};
 pub use naming::{draw_names, function_name, import_name, names_of};

@@ -2,9 +2,9 @@
 ghost use Rattle.std.specs.Prelude.{◌≡◌, ◌++◌, ◌∷◌, [], IfOk, OnOk, filter_map};
 ghost use Rattle.glue_naming.specs.Listed as spec;
 
-use crate::imported::{each_once, names_called};
-use crate::named::copied_import;
+use crate::imported::names_called;
 use crate::naming::import_name;
+use glue_check::{copied_import, each_once};
 use glue_shared::{AdapterId, JsImportName, Lowered, NameMap, Settings};
 use std::alloc::{AllocError, Global};
 use values::{Duplicate, Seq, Text};
@@ -43,7 +43,7 @@ fn drawn_of(
     Ok(list)
 }
 
-/// What own imports among these pairs call that is no global, with the name that was drawn for it: each once, in the order in which it is
+/// What own imports among these pairs call that is no name of the host, with the name that was drawn for it: each once, in the order in which it is
 /// first called. Want of memory is the only error.
 pub fn drawn_imports(
     alloc: Global,

@@ -4,6 +4,7 @@ ghost use Rattle.std.specs.BTreeMap.{insert_entry};
 ghost use Rattle.std.specs.Option.{option_copied};
 ghost use Rattle.glue_naming.specs.Drawing as spec;
 
+use glue_check::copied_import;
 use glue_shared::{JsImportName, NameMap};
 use std::alloc::{AllocError, Global};
 use values::{Duplicate, Map, Text};
@@ -15,7 +16,8 @@ pub enum Named {
     /// The registry of finalizers of the class of this name.
     Registry(Text),
     Enum(Text),
-    /// The export of a module, or the constant that a vendor's name becomes. For a global no name is drawn.
+    /// The export of a module, or the constant that a vendor's name becomes. For a global no name is drawn, nor for a module's export where imports
+    /// are left out.
     Import(JsImportName),
     Function(Text),
 }
@@ -34,41 +36,6 @@ pub enum WantedName {
 pub struct Wanted {
     pub thing: Named,
     pub name: WantedName,
-}
-
-/// A copy of the name that an import begins with. Want of memory is the only error.
-pub(crate) fn copied_import(
-    alloc: Global,
-    import: &JsImportName,
-) -> Result<JsImportName, AllocError>
-    ensures equal { IfOk result (λ copy. copy ≡ import.now) }
-{
-    match import {
-        JsImportName::Global { name } => Ok(JsImportName::Global {
-            name: name.copy(alloc)?,
-        }),
-        JsImportName::Module { module, name } => Ok(JsImportName::Module {
-            module: module.copy(alloc)?,
-            name: name.copy(alloc)?,
-        }),
-        JsImportName::LocalModule { module, name } => Ok(JsImportName::LocalModule {
-            module: module.copy(alloc)?,
-            name: name.copy(alloc)?,
-        }),
-        JsImportName::InlineJs {
-            crate_name,
-            index,
-            name,
-        } => Ok(JsImportName::InlineJs {
-            crate_name: crate_name.copy(alloc)?,
-            index: *index,
-            name: name.copy(alloc)?,
-        }),
-        JsImportName::VendorPrefixed { name, prefixes } => Ok(JsImportName::VendorPrefixed {
-            name: name.copy(alloc)?,
-            prefixes: prefixes.copy(alloc)?,
-        }),
-    }
 }
 
 // Keeps a name at a key.

@@ -7,6 +7,7 @@ ghost use Rattle.glue_naming.specs.Naming as spec;
 use crate::asked::wanted;
 use crate::drawing::name_all;
 use crate::given::reserved_scope;
+use crate::items::{item_map, item_names};
 use crate::named::{Named, name_in};
 use glue_check::{Checked, qualified};
 use glue_scope::Names;
@@ -14,7 +15,7 @@ use glue_shared::{AuxExport, JsImportName, Lowered, NameMap, Settings};
 use std::alloc::{AllocError, Global};
 use values::Text;
 
-/// The names that are drawn for what is described. Want of memory is the only error.
+/// The names that are drawn for what is described, and those of the exports that give items of the module. Want of memory is the only error.
 pub fn names_of<N: Names>(
     alloc: Global,
     settings: &Settings,
@@ -24,7 +25,10 @@ pub fn names_of<N: Names>(
 {
     let list = wanted(alloc, settings, lowered)?;
     let scope: N = reserved_scope(alloc, settings, lowered)?;
-    name_all(alloc, scope, list.as_slice())
+    let items = item_names::<N>(alloc, settings, lowered)?;
+    let mut map = name_all(alloc, scope, list.as_slice())?;
+    map.wasm = item_map(alloc, items.as_slice())?;
+    Ok(map)
 }
 
 /// The names of what a checked description declares. Each exported function has one: its own where that is an identifier, not reserved and
@@ -49,7 +53,7 @@ pub fn function_name<'a>(
 }
 
 /// The name that stands for what an import begins with: that of a module's export, or of the constant that a vendor's name becomes.
-/// None where none was drawn, as for a global.
+/// None where none was drawn, as for a name of the host.
 pub fn import_name<'a>(map: &'a NameMap, name: &JsImportName) -> Option<&'a Text>
     ensures name { option_copied result ≡ spec.import_name map.now name.now }
 {

@@ -190,7 +190,7 @@ fixed_public_names settings =
 
 -- ---- imports that the glue file defines
 
--- a step that changes no value
+-- a step that passes on an integer or a truth as it is: the glue file takes it for one that changes no value
 abbrev pub is_plain_cast : Instruction → Bool
 is_plain_cast step.Int32ToWasm = true
 is_plain_cast step.Int64ToWasm = true
@@ -289,8 +289,7 @@ abbrev pub part_of : Option JsImport → Option JsImport
 part_of None = None
 part_of (Some js) = if is_none js.fields then None else Some js
 
--- the name of a module and the properties that are read from it, of which there is one, where the adapter of an import does nothing but hand on
--- to it
+-- the name of a module and the properties that are read from it, at least one, where the adapter of an import does nothing but hand on to it
 abbrev pub handed_part : Settings → NonstandardWitSection → WasmBindgenAux → ℕ → Option JsImport
 handed_part settings wit aux adapter = part_of (handed_name settings wit aux adapter)
 

@@ -77,9 +77,13 @@ first_place from (None ∷ entries) = first_place (from + 1) entries
 first_place from (Some entry ∷ entries) = Some from
 
 -- the memory at a place that an id can name
-abbrev pub memory_at : Option ℕ → List ExportItem
-memory_at None = []
-memory_at (Some place) = if nat_lt place (2 ^ 32) then items.Memory (record { 0 = place }) ∷ [] else []
+abbrev pub memory_at : Option ℕ → Option ExportItem
+memory_at None = None
+memory_at (Some place) = if nat_lt place (2 ^ 32) then Some (items.Memory (record { 0 = place })) else None
+
+-- the first memory
+abbrev pub first_memory : Contents → Option ExportItem
+first_memory m = memory_at (first_place 0 m.memories)
 
 -- what the ids of a description name, and the first memory
 unfoldable pub named_items : Contents → NonstandardWitSection → WasmBindgenAux → List ExportItem
@@ -87,7 +91,7 @@ named_items m wit aux =
     flat_map adapter_items wit.adapters
     ++ (flat_map (import_items m) wit.implements
     ++ (flat_map listed (part_items aux)
-    ++ memory_at (first_place 0 m.memories)))
+    ++ listed (first_memory m)))
 
 abbrev pub is_entry : {A : Type 0} → Option (Option A) → Bool
 is_entry (Some (Some x)) = true
@@ -101,6 +105,11 @@ is_live_item m (items.Table id) = is_entry (slice_get m.tables id.0)
 is_live_item m (items.Memory id) = is_entry (slice_get m.memories id.0)
 is_live_item m (items.Global id) = is_entry (slice_get m.globals id.0)
 is_live_item m (items.Tag id) = is_entry (slice_get m.tags id.0)
+
+-- an item, where it is there
+abbrev pub live_item : Contents → Option ExportItem → Option ExportItem
+live_item m None = None
+live_item m (Some item) = if is_live_item m item then Some item else None
 
 -- the entries of the module that the ids of the description name, and its first memory
 unfoldable pub roots_of : Lowered → List ExportItem

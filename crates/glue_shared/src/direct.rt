@@ -172,7 +172,7 @@ pub(crate) fn is_direct(
     }
 }
 
-/// The name of a module and the properties that are read from it, of which there is one, where the adapter of an import does nothing but hand
+/// The name of a module and the properties that are read from it, at least one, where the adapter of an import does nothing but hand
 /// on to it. The glue file defines such an import by the property, and not by a function of its own.
 pub fn handed_part<'a>(
     settings: &Settings,

@@ -35,7 +35,8 @@ fn func_item(id: Option<FuncId>) -> Option<ExportItem>
     }
 }
 
-fn table_item(id: Option<TableId>) -> Option<ExportItem>
+/// A table as an item that may be exported.
+pub fn table_item(id: Option<TableId>) -> Option<ExportItem>
     ensures item { result ≡ option_map items.Table id }
 {
     match id {
@@ -202,7 +203,7 @@ fn push_parts(out: &mut Vec<ExportItem>, aux: &WasmBindgenAux) -> Result<(), All
 }
 
 // The place of the first memory that is there.
-fn first_memory(memories: &[Option<Memory>]) -> Option<usize>
+fn place_of_first(memories: &[Option<Memory>]) -> Option<usize>
     ensures place { result ≡ spec.first_place 0 memories.now }
 {
     let mut place = 0;
@@ -215,16 +216,13 @@ fn first_memory(memories: &[Option<Memory>]) -> Option<usize>
     None
 }
 
-// Adds the first memory, where there is one that an id can name.
-fn push_memory(out: &mut Vec<ExportItem>, memories: &[Option<Memory>]) -> Result<(), AllocError>
-    ensures pushed { OnOk result (out.new.items ≡ out.old.items ++ spec.memory_at (spec.first_place 0 memories.now)) }
+/// The first memory of a module, where there is one that an id can name.
+pub fn first_memory(module: &Module) -> Option<ExportItem>
+    ensures item { result ≡ spec.first_memory «module».now }
 {
-    match first_memory(memories) {
-        Some(place) if place < 4_294_967_296 => {
-            out.push(ExportItem::Memory(MemoryId(place as u32)))?;
-            Ok(())
-        }
-        _ => Ok(()),
+    match place_of_first(module.memories()) {
+        Some(place) if place < 4_294_967_296 => Some(ExportItem::Memory(MemoryId(place as u32))),
+        _ => None,
     }
 }
 
@@ -251,6 +249,16 @@ fn is_live_item(module: &Module, item: ExportItem) -> bool
     }
 }
 
+/// An item, where it is there.
+pub fn live_item(module: &Module, item: Option<ExportItem>) -> Option<ExportItem>
+    ensures live { result ≡ spec.live_item «module».now item }
+{
+    match item {
+        Some(item) if is_live_item(module, item) => Some(item),
+        _ => None,
+    }
+}
+
 // What the ids of a description name, and the first memory.
 #[tactic(auto, unfolding(crate::specs::Roots::named_items))]
 fn named(alloc: Global, lowered: &Lowered) -> Result<Vec<ExportItem>, AllocError>
@@ -264,7 +272,7 @@ fn named(alloc: Global, lowered: &Lowered) -> Result<Vec<ExportItem>, AllocError
         lowered.wit.implements.as_slice(),
     )?;
     push_parts(&mut found, &lowered.aux)?;
-    push_memory(&mut found, lowered.module.memories())?;
+    push_listed(&mut found, first_memory(&lowered.module))?;
     Ok(found)
 }
 

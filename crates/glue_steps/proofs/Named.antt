@@ -16,7 +16,7 @@ use Rattle.glue_shared.specs.declared.settings.Settings.{Settings}
 use Rattle.glue_imports.specs.Expressions.{expression}
 use Rattle.glue_imports.proofs.Any.{any_call}
 use Rattle.glue_steps.specs.declared.step.Step.{Step}
-use Rattle.glue_steps.specs.Resolving.{is_some_item, expression_step, is_spread, import_step_of, described_import, called_import, import_step, step_of, with_step, steps_of, code_steps, adapter_steps}
+use Rattle.glue_steps.specs.Resolving.{is_some_item, expression_step, given_of, is_spread, import_step_of, described_import, called_import, import_step, step_of, with_step, steps_of, code_steps, adapter_steps}
 
 -- a value that is made of one is there where that is
 mapped : {A B : Type 0} (f : A → B) (o : Option A) → is_some (option_map f o) ≡ is_some o
@@ -46,8 +46,10 @@ module _ (s : Settings) (m n : NameMap) (l : Lowered) where
   any_described id a call what =
       let spread = is_spread l id in
       let bound = is_some_item a.results in
-      mapped (expression_step id a) (expression s m call spread bound what) ∙ any_call s m call spread bound what
-      ∙ sym (mapped (expression_step id a) (expression s n call spread bound what) ∙ any_call s n call spread bound what)
+      let g = given_of m l what in
+      let h = given_of n l what in
+      mapped (expression_step id a) (expression s m g call spread bound what) ∙ any_call s m g call spread bound what
+      ∙ sym (mapped (expression_step id a) (expression s n h call spread bound what) ∙ any_call s n h call spread bound what)
 
   any_called : (id : ℕ) (a : Adapter) (kind : AdapterKind) → is_some (called_import s m l id a kind) ≡ is_some (called_import s n l id a kind)
   any_called id a (kinds.Import call) =

@@ -1,12 +1,14 @@
 -- The steps of an adapter: its instructions, with what their ids name in the module and the description.
 use Rattle.std.specs.Prelude.{ℕ, ◌==◌, Bool, true, false, List, [], ◌∷◌, length, Option, Some, None, option_map, option_and_then, slice_get, find}
 use Rattle.std.specs.Ordering.{nat_cmp}
+use Rattle.std.specs.declared.cmp.Ordering.{Ordering}
 use Rattle.values.specs.Map.{look_up}
 use Rattle.wasm_core.specs.types.FuncType.{FuncType}
 use Rattle.wasm_core.specs.entries.Export.{Export}
 use Rattle.wasm_core.specs.entries.ExportItem.{ExportItem}
 use Rattle.wasm_core.specs.entries.ExportItem.TheVariants as items
 use Rattle.wasm_core.specs.Contents.{Contents}
+use Rattle.wasm_file.specs.contracts.entries.ExportItemOrd.TheImpl as by_kind
 use Rattle.glue_shared.specs.declared.adapter.Adapter.{Adapter}
 use Rattle.glue_shared.specs.declared.adapter.AdapterKind.{AdapterKind}
 use Rattle.glue_shared.specs.declared.adapter.AdapterKind.TheVariants as kinds
@@ -20,8 +22,13 @@ use Rattle.glue_shared.specs.declared.settings.Settings.{Settings}
 use Rattle.glue_shared.specs.Names.{has_number}
 use Rattle.glue_imports.specs.declared.part.Expression.{Expression}
 use Rattle.glue_imports.specs.Expressions.{expression}
+use Rattle.glue_imports.specs.Given.{Given, given_item}
 use Rattle.glue_steps.specs.declared.step.Step.{Step}
 use Rattle.glue_steps.specs.declared.step.Step.TheVariants as steps
+
+-- items of the module by their kinds, functions first, then tables, memories, globals and tags, and then by their places
+abbrev pub item_order : ExportItem → ExportItem → Ordering
+item_order = by_kind.ghosts.cmp
 
 -- the entry at a place, where there is one
 abbrev pub live : {A : Type 0} → Option (Option A) → Option A
@@ -62,10 +69,24 @@ expression_step id a e = steps.CallImport id (length a.args) (is_some_item a.res
 abbrev pub is_spread : Lowered → ℕ → Bool
 is_spread l id = has_number id l.aux.imports_with_variadic
 
+-- a name, or the empty one where there is none
+abbrev pub or_empty : Option (List ℕ) → List ℕ
+or_empty None = []
+or_empty (Some name) = name
+
+-- the name of the export that gives an item, or the empty one where there is no item, or none was drawn
+abbrev pub export_named : NameMap → Option ExportItem → List ℕ
+export_named names None = []
+export_named names (Some item) = or_empty (look_up item_order names.wasm item)
+
+-- what is given of the module for an import, where these names are drawn
+abbrev pub given_of : NameMap → Lowered → AuxImport → Given
+given_of names l what = record { export = export_named names (given_item l what); slots = l.aux.static_slots }
+
 -- the call of an import adapter that is called in this way, by what it is described as, where these names are drawn
 abbrev pub import_step_of : Settings → NameMap → Lowered → ℕ → Adapter → AdapterJsImportKind → AuxImport → Option Step
 import_step_of s names l id a call what =
-    option_map (expression_step id a) (expression s names call (is_spread l id) (is_some_item a.results) what)
+    option_map (expression_step id a) (expression s names (given_of names l what) call (is_spread l id) (is_some_item a.results) what)
 
 -- what the description says of an import adapter
 abbrev pub described_import : List (ℕ × AuxImport) → ℕ → Option AuxImport

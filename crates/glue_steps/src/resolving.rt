@@ -5,8 +5,10 @@ ghost use Rattle.glue_steps.specs.Resolving as spec;
 
 use crate::indexed::Indexed;
 use crate::step::Step;
-use glue_imports::{Basis, Expression, expression};
-use glue_shared::{Adapter, AdapterId, AdapterJsImportKind, AdapterKind, AuxImport, Instruction};
+use glue_imports::{Basis, Expression, Given, expression, given_item};
+use glue_shared::{
+    Adapter, AdapterId, AdapterJsImportKind, AdapterKind, AuxImport, Instruction, NameMap,
+};
 use std::alloc::{AllocError, Global};
 use values::{Duplicate, Seq, Text};
 use wasm_core::{Export, ExportId, ExportItem, FuncId, FuncType, Module};
@@ -65,6 +67,19 @@ fn expression_step(id: AdapterId, adapter: &Adapter, expression: Expression) -> 
     }
 }
 
+// The name of the export that gives an item, or the empty one where there is no item, or none was drawn.
+fn export_named(names: &NameMap, item: Option<ExportItem>) -> &str
+    ensures name { result.now ≡ spec.export_named names.now item }
+{
+    let Some(item) = item else {
+        return "";
+    };
+    match names.wasm.get(&item) {
+        Some(name) => name.as_str(),
+        None => "",
+    }
+}
+
 // The call of what an import adapter is described as, where its expression is built.
 fn described_step(
     alloc: Global,
@@ -77,10 +92,16 @@ fn described_step(
 ) -> Result<Option<Step>, AllocError>
     ensures step { IfOk result (λ step. step ≡ spec.import_step_of basis.now.settings.now basis.now.names.now indexed.now id adapter.now call import.now) }
 {
+    let lowered = indexed.lowered();
+    let given = Given {
+        export: export_named(basis.names, given_item(lowered, import)),
+        slots: lowered.aux.static_slots.as_slice(),
+    };
     let has_result = !adapter.results.is_empty();
     match expression(
         alloc,
         basis,
+        &given,
         call,
         indexed.is_spread(id),
         has_result,

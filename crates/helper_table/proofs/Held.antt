@@ -41,7 +41,7 @@ use Rattle.helper_table.specs.declared.kinds.Family.{Family}
 use Rattle.helper_table.specs.declared.kinds.Family.TheVariants as family
 use Rattle.helper_table.specs.declared.kinds.TheConstants.{SINGLES}
 use Rattle.helper_table.specs.Names.{single_names}
-use Rattle.helper_table.specs.Made.{single_item, family_item, helper_item, helper_words, helper_key, single_at, family_at, family_of, place_of, formed, item_words, of_memory, of_table, closure_made, error_handled}
+use Rattle.helper_table.specs.Made.{single_item, family_item, helper_item, helper_words, helper_key, single_at, family_at, family_of, place_of, formed, decoder_form, item_words, of_memory, of_table, closure_made, error_handled}
 use Rattle.helper_table.specs.Closed.{IsBare, IsNode, AreAsked, binder, AreHeld, with_helper, with_binder, with_words, is_one, asked_helpers}
 use Rattle.helper_table.specs.Laws.{finds_law, binds_law, once, text_in, any_in}
 use Rattle.helper_table.specs.Told.{IsBound, told}
@@ -53,9 +53,9 @@ use Rattle.helper_table.proofs.Entries.{is_found, stands}
 abbrev heap_uses_all : List (List ℕ)
 heap_uses_all = codes "heap" ∷ codes "heap_next" ∷ codes "stack_pointer" ∷ codes "getObject" ∷ codes "dropObject" ∷ []
 
--- the names of helpers that are there whatever the module gives, by the helpers' numbers
+-- names of helpers that are there whatever the module gives, one of each, by the helpers' numbers
 abbrev pub free_names : List (List ℕ)
-free_names = take 18 single_names
+free_names = take 18 single_names ++ codes "decodeText" ∷ []
 
 heap_free : AreAmong heap_uses_all free_names
 heap_free = (any_in _ free_names refl, (any_in _ free_names refl, (any_in _ free_names refl, (any_in _ free_names refl, (any_in _ free_names refl, tt)))))
@@ -257,6 +257,13 @@ module _ (parts : HelperParts) (bare : IsBare parts) where
   by_plain : (h : PlainHelper) (name : List ℕ) → IsIn name (names_of h).binds → IsIn name (bound_in (plain_item h).words)
   by_plain h name at = subst (λ (ns : List (List ℕ)). IsIn name ns) (sym (plain_holds h).binds) at
 
+  decoder_there : IsIn (codes "decodeText") (bound_in (plain_item (formed parts plain.TextDecoder)).words)
+  decoder_there = by parts.browser
+    where
+      by : (b : Bool) → IsIn (codes "decodeText") (bound_in (plain_item (decoder_form b)).words)
+      by false = by_plain plain.TextDecoder _ (any_in _ (names_of plain.TextDecoder).binds refl)
+      by true = by_plain plain.BrowserTextDecoder _ (any_in _ (names_of plain.BrowserTextDecoder).binds refl)
+
   free_are : AreFrom 0 free_names
   unfolding helper_item
   free_are = (
@@ -295,7 +302,7 @@ module _ (parts : HelperParts) (bare : IsBare parts) where
                                     by_plain plain.NotDefined _ (inl refl),
                                     (
                                       by_plain plain.PanicError _ (inl refl),
-                                      tt,
+                                      (decoder_there, tt),
                                     ),
                                   ),
                                 ),

@@ -1,5 +1,7 @@
 use crate::hostile::HOSTILE;
-use crate::texts::{Case, DRAWN, HELPED, INTRINSICS, PRELUDES, PROPERTIES, VALUES};
+use crate::texts::{
+    Case, DRAWN, HELPED, INTRINSICS, ITEMS, OPERATIONS, Operation, PRELUDES, PROPERTIES, VALUES,
+};
 use glue_binding::bind;
 use glue_imports::Basis;
 use glue_inputs::{CONFIG, printed, settings, texts, with_custom};
@@ -10,10 +12,15 @@ use glue_steps::{Indexed, Step, adapter_steps};
 use std::alloc::{AllocError, Global};
 use std::process::Abort;
 use values::{Seq, Text};
-use wasm_core::Module;
+use wasm_core::{ExportItem, MemoryId, Module, TableId};
 
-/// A module without anything.
-const EMPTY: &[u8] = b"\0asm\x01\0\0\0";
+/// A module with a table of functions, one of references, and a memory.
+const MODULE: &[u8] = b"\0asm\x01\0\0\0\x04\x07\x02\x70\0\0\x6f\0\0\x05\x03\x01\0\x01";
+
+/// Both tables by their names, and texts that stand in the second.
+const PARTS: &str = r#","parts":{"function_table":0,"externref_table":1}"#;
+
+const SLOTS: &str = r#","static_slots":["a",null,"b\"c"]"#;
 
 /// Appends `["ArgGet",n],["WasmToInt32",..],` for each operand.
 fn push_operands(alloc: Global, code: &mut String, operands: &str) -> Result<(), AllocError> {
@@ -65,6 +72,7 @@ fn described(alloc: Global, case: &Case) -> Result<String, AllocError> {
         ""
     };
     let spread = if call.contains("spread") { "1" } else { "" };
+    let slots = if call.contains("slots") { SLOTS } else { "" };
     let way = way(call);
     let local = format!(in alloc;
         "{{\"id\":0,\"args\":[{types}],\"results\":[{results}],\"code\":[{code}[\"CallAdapter\",1]{back}]}}"
@@ -73,14 +81,14 @@ fn described(alloc: Global, case: &Case) -> Result<String, AllocError> {
         "{{\"id\":1,\"args\":[{types}],\"results\":[{results}],\"import\":\"{way}\"}}"
     )?;
     format!(in alloc;
-        "{{\"version\":1,\"adapters\":[{local},{import}],\"imports\":[{{\"adapter\":1,\"what\":{what}}}],\"variadic\":[{spread}]}}"
+        "{{\"version\":1,\"adapters\":[{local},{import}],\"imports\":[{{\"adapter\":1,\"what\":{what}}}],\"variadic\":[{spread}]{PARTS}{slots}}}"
     )
 }
 
 /// What is lowered from a module with that description.
 fn lowered(alloc: Global, case: &Case) -> Result<Lowered, LowerFault> {
     let text = described(alloc, case)?;
-    let bytes = with_custom(alloc, EMPTY, "__wbg_glue", text.as_bytes())?;
+    let bytes = with_custom(alloc, MODULE, "__wbg_glue", text.as_bytes())?;
     let settings = settings(alloc, Target::Deno, EncodeInto::Always)?;
     match Module::parse(alloc, bytes.as_slice(), &CONFIG) {
         Ok(module) => JsonLowering::new().lower(alloc, &settings, module),
@@ -97,16 +105,32 @@ fn target(case: &Case) -> Target {
     }
 }
 
-/// The settings of a case: linked modules are split off where its way of calling says `split`.
+/// The settings of a case: linked modules are split off where its way of calling says `split`, and references are kept in a table of the
+/// module where it says `references`.
 fn set_for(alloc: Global, case: &Case) -> Result<Settings, AllocError> {
     let mut set = settings(alloc, target(case), EncodeInto::Always)?;
     set.split_linked_modules = case.1.contains("split");
+    set.externref = case.1.contains("references");
     Ok(set)
+}
+
+/// The names of the exports that give the memory and the tables.
+fn put_exports(alloc: Global, names: &mut NameMap) -> Result<(), AllocError> {
+    let exports = [
+        (ExportItem::Memory(MemoryId(0)), "memory"),
+        (ExportItem::Table(TableId(0)), "__wbindgen_export"),
+        (ExportItem::Table(TableId(1)), "my-table"),
+    ];
+    for (item, name) in exports {
+        drop(names.wasm.insert(item, Text::from_str(alloc, name)?)?);
+    }
+    Ok(())
 }
 
 /// The names that are drawn: `run2` for what a module exports as `run`, and `lAudio` for a vendor's `Audio`.
 fn drawn(alloc: Global) -> Result<NameMap, AllocError> {
     let mut names = NameMap::new(alloc);
+    put_exports(alloc, &mut names)?;
     let run = JsImportName::Module {
         module: Text::from_str(alloc, "./m.js")?,
         name: Text::from_str(alloc, "run")?,
@@ -158,16 +182,44 @@ fn statements(text: &str) -> &str {
     }
 }
 
+fn assert_text<H: Abort>(rt: &H, alloc: Global, case: &Case) -> Result<(), LowerFault> {
+    let text = function(alloc, case)?;
+    assert!(rt;
+        statements(text.as_str()) == case.3,
+        "{text:?} in place of {:?}",
+        case.3
+    );
+    Ok(())
+}
+
 fn assert_texts<H: Abort>(rt: &H, alloc: Global, cases: &[Case]) -> Result<(), LowerFault> {
     for case in cases {
-        let text = function(alloc, case)?;
-        assert!(rt;
-            statements(text.as_str()) == case.3,
-            "{text:?} in place of {:?}",
-            case.3
-        );
+        assert_text(rt, alloc, case)?;
     }
     Ok(())
+}
+
+/// What an operation is described as, and the statements that return its expression.
+fn returned(alloc: Global, operation: &Operation) -> Result<(String, String), AllocError> {
+    let (name, _, expression) = operation;
+    let what = format!(in alloc; "[\"Intrinsic\",\"{name}\"]")?;
+    let statements = format!(in alloc; "const ret = {expression};\nreturn ret;")?;
+    Ok((what, statements))
+}
+
+fn assert_operation<H: Abort>(
+    rt: &H,
+    alloc: Global,
+    operation: &Operation,
+) -> Result<(), LowerFault> {
+    let (what, statements) = returned(alloc, operation)?;
+    let case = (
+        what.as_str(),
+        "normal bound",
+        operation.1,
+        statements.as_str(),
+    );
+    assert_text(rt, alloc, &case)
 }
 
 #[test]
@@ -186,6 +238,14 @@ fn import_texts_of_properties(rt: HostRuntime) -> Result<(), LowerFault> {
 }
 
 #[test]
+fn import_texts_of_operations(rt: HostRuntime) -> Result<(), LowerFault> {
+    for operation in OPERATIONS {
+        assert_operation(&rt, rt.alloc(), operation)?;
+    }
+    Ok(())
+}
+
+#[test]
 fn import_texts_of_intrinsics(rt: HostRuntime) -> Result<(), LowerFault> {
     assert_texts(&rt, rt.alloc(), INTRINSICS)
 }
@@ -198,6 +258,11 @@ fn import_texts_of_preludes(rt: HostRuntime) -> Result<(), LowerFault> {
 #[test]
 fn import_texts_of_drawn_names(rt: HostRuntime) -> Result<(), LowerFault> {
     assert_texts(&rt, rt.alloc(), DRAWN)
+}
+
+#[test]
+fn import_texts_of_items_of_the_module(rt: HostRuntime) -> Result<(), LowerFault> {
+    assert_texts(&rt, rt.alloc(), ITEMS)
 }
 
 #[test]

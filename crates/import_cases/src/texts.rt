@@ -1,9 +1,13 @@
 //! What is described of an import, how it is called, its operands, and the statements that are expected.
 
 /// The JSON of what is described; how it is called, with `spread` where the last argument is spread, `bound` where there is a result,
-/// `split` where linked modules are split off and `web` where the file is made for browsers; a letter for each operand, `i` for a
+/// `split` where linked modules are split off, `web` where the file is made for browsers, `references` where references are kept in a table of
+/// the module and `slots` where texts stand in it; a letter for each operand, `i` for a
 /// parameter and `u` for one that is read as unsigned; and the statements.
-pub type Case = (&'static str, &'static str, &'static str, &'static str);
+pub type Case<'a> = (&'a str, &'a str, &'a str, &'a str);
+
+/// The name of an operation, its operands, and the expression that is returned.
+pub type Operation = (&'static str, &'static str, &'static str);
 
 /// Values of globals, called in each way, read, and texts.
 pub const VALUES: &[Case] = &[
@@ -308,232 +312,53 @@ return ret;"#,
     ),
 ];
 
-/// Operations.
+/// Operations that are called as functions, with a result: their names, their operands as above, and the expressions.
+pub const OPERATIONS: &[Operation] = &[
+    ("JsvalEq", "uu", "(arg0 >>> 0) === (arg1 >>> 0)"),
+    ("JsvalLooseEq", "uu", "(arg0 >>> 0) == (arg1 >>> 0)"),
+    ("IsFunction", "u", r#"typeof(arg0 >>> 0) === "function""#),
+    ("IsUndefined", "u", "(arg0 >>> 0) === undefined"),
+    ("IsNull", "u", "(arg0 >>> 0) === null"),
+    ("IsNullOrUndefined", "u", "(arg0 >>> 0) == null"),
+    ("IsSymbol", "u", r#"typeof(arg0 >>> 0) === "symbol""#),
+    ("IsString", "u", r#"typeof(arg0 >>> 0) === "string""#),
+    ("IsBigInt", "u", r#"typeof(arg0 >>> 0) === "bigint""#),
+    ("Typeof", "u", "typeof (arg0 >>> 0)"),
+    ("In", "uu", "(arg0 >>> 0) in (arg1 >>> 0)"),
+    ("IsFalsy", "u", "!(arg0 >>> 0)"),
+    ("Neg", "u", "-(arg0 >>> 0)"),
+    ("BitAnd", "uu", "(arg0 >>> 0) & (arg1 >>> 0)"),
+    ("BitOr", "uu", "(arg0 >>> 0) | (arg1 >>> 0)"),
+    ("BitXor", "uu", "(arg0 >>> 0) ^ (arg1 >>> 0)"),
+    ("BitNot", "u", "~(arg0 >>> 0)"),
+    ("Shl", "uu", "(arg0 >>> 0) << (arg1 >>> 0)"),
+    ("Shr", "uu", "(arg0 >>> 0) >> (arg1 >>> 0)"),
+    ("UnsignedShr", "uu", "(arg0 >>> 0) >>> (arg1 >>> 0)"),
+    ("Add", "uu", "(arg0 >>> 0) + (arg1 >>> 0)"),
+    ("Sub", "uu", "(arg0 >>> 0) - (arg1 >>> 0)"),
+    ("Div", "uu", "(arg0 >>> 0) / (arg1 >>> 0)"),
+    ("Mul", "uu", "(arg0 >>> 0) * (arg1 >>> 0)"),
+    ("Rem", "uu", "(arg0 >>> 0) % (arg1 >>> 0)"),
+    ("Pow", "uu", "(arg0 >>> 0) ** (arg1 >>> 0)"),
+    ("LT", "uu", "(arg0 >>> 0) < (arg1 >>> 0)"),
+    ("LE", "uu", "(arg0 >>> 0) <= (arg1 >>> 0)"),
+    ("GE", "uu", "(arg0 >>> 0) >= (arg1 >>> 0)"),
+    ("GT", "uu", "(arg0 >>> 0) > (arg1 >>> 0)"),
+    ("ObjectCloneRef", "u", "arg0 >>> 0"),
+    ("ObjectDropRef", "u", "arg0 >>> 0"),
+    ("Exports", "", "wasm"),
+    ("Instance", "", "wasmInstance"),
+    (
+        "CopyToTypedArray",
+        "uu",
+        "new Uint8Array((arg1 >>> 0).buffer, (arg1 >>> 0).byteOffset, (arg1 >>> 0).byteLength).set(arg0 >>> 0)",
+    ),
+    ("Reinit", "", "undefined"),
+    ("Add", "ii", "arg0 + arg1"),
+];
+
+/// Operations without a result, of which a throw is a statement of its own, and values that loading declares on another target.
 pub const INTRINSICS: &[Case] = &[
-    (
-        r#"["Intrinsic","JsvalEq"]"#,
-        "normal bound",
-        "uu",
-        r#"const ret = (arg0 >>> 0) === (arg1 >>> 0);
-return ret;"#,
-    ),
-    (
-        r#"["Intrinsic","JsvalLooseEq"]"#,
-        "normal bound",
-        "uu",
-        r#"const ret = (arg0 >>> 0) == (arg1 >>> 0);
-return ret;"#,
-    ),
-    (
-        r#"["Intrinsic","IsFunction"]"#,
-        "normal bound",
-        "u",
-        r#"const ret = typeof(arg0 >>> 0) === "function";
-return ret;"#,
-    ),
-    (
-        r#"["Intrinsic","IsUndefined"]"#,
-        "normal bound",
-        "u",
-        r#"const ret = (arg0 >>> 0) === undefined;
-return ret;"#,
-    ),
-    (
-        r#"["Intrinsic","IsNull"]"#,
-        "normal bound",
-        "u",
-        r#"const ret = (arg0 >>> 0) === null;
-return ret;"#,
-    ),
-    (
-        r#"["Intrinsic","IsNullOrUndefined"]"#,
-        "normal bound",
-        "u",
-        r#"const ret = (arg0 >>> 0) == null;
-return ret;"#,
-    ),
-    (
-        r#"["Intrinsic","IsSymbol"]"#,
-        "normal bound",
-        "u",
-        r#"const ret = typeof(arg0 >>> 0) === "symbol";
-return ret;"#,
-    ),
-    (
-        r#"["Intrinsic","IsString"]"#,
-        "normal bound",
-        "u",
-        r#"const ret = typeof(arg0 >>> 0) === "string";
-return ret;"#,
-    ),
-    (
-        r#"["Intrinsic","IsBigInt"]"#,
-        "normal bound",
-        "u",
-        r#"const ret = typeof(arg0 >>> 0) === "bigint";
-return ret;"#,
-    ),
-    (
-        r#"["Intrinsic","Typeof"]"#,
-        "normal bound",
-        "u",
-        r#"const ret = typeof (arg0 >>> 0);
-return ret;"#,
-    ),
-    (
-        r#"["Intrinsic","In"]"#,
-        "normal bound",
-        "uu",
-        r#"const ret = (arg0 >>> 0) in (arg1 >>> 0);
-return ret;"#,
-    ),
-    (
-        r#"["Intrinsic","IsFalsy"]"#,
-        "normal bound",
-        "u",
-        r#"const ret = !(arg0 >>> 0);
-return ret;"#,
-    ),
-    (
-        r#"["Intrinsic","Neg"]"#,
-        "normal bound",
-        "u",
-        r#"const ret = -(arg0 >>> 0);
-return ret;"#,
-    ),
-    (
-        r#"["Intrinsic","BitAnd"]"#,
-        "normal bound",
-        "uu",
-        r#"const ret = (arg0 >>> 0) & (arg1 >>> 0);
-return ret;"#,
-    ),
-    (
-        r#"["Intrinsic","BitOr"]"#,
-        "normal bound",
-        "uu",
-        r#"const ret = (arg0 >>> 0) | (arg1 >>> 0);
-return ret;"#,
-    ),
-    (
-        r#"["Intrinsic","BitXor"]"#,
-        "normal bound",
-        "uu",
-        r#"const ret = (arg0 >>> 0) ^ (arg1 >>> 0);
-return ret;"#,
-    ),
-    (
-        r#"["Intrinsic","BitNot"]"#,
-        "normal bound",
-        "u",
-        r#"const ret = ~(arg0 >>> 0);
-return ret;"#,
-    ),
-    (
-        r#"["Intrinsic","Shl"]"#,
-        "normal bound",
-        "uu",
-        r#"const ret = (arg0 >>> 0) << (arg1 >>> 0);
-return ret;"#,
-    ),
-    (
-        r#"["Intrinsic","Shr"]"#,
-        "normal bound",
-        "uu",
-        r#"const ret = (arg0 >>> 0) >> (arg1 >>> 0);
-return ret;"#,
-    ),
-    (
-        r#"["Intrinsic","UnsignedShr"]"#,
-        "normal bound",
-        "uu",
-        r#"const ret = (arg0 >>> 0) >>> (arg1 >>> 0);
-return ret;"#,
-    ),
-    (
-        r#"["Intrinsic","Add"]"#,
-        "normal bound",
-        "uu",
-        r#"const ret = (arg0 >>> 0) + (arg1 >>> 0);
-return ret;"#,
-    ),
-    (
-        r#"["Intrinsic","Sub"]"#,
-        "normal bound",
-        "uu",
-        r#"const ret = (arg0 >>> 0) - (arg1 >>> 0);
-return ret;"#,
-    ),
-    (
-        r#"["Intrinsic","Div"]"#,
-        "normal bound",
-        "uu",
-        r#"const ret = (arg0 >>> 0) / (arg1 >>> 0);
-return ret;"#,
-    ),
-    (
-        r#"["Intrinsic","Mul"]"#,
-        "normal bound",
-        "uu",
-        r#"const ret = (arg0 >>> 0) * (arg1 >>> 0);
-return ret;"#,
-    ),
-    (
-        r#"["Intrinsic","Rem"]"#,
-        "normal bound",
-        "uu",
-        r#"const ret = (arg0 >>> 0) % (arg1 >>> 0);
-return ret;"#,
-    ),
-    (
-        r#"["Intrinsic","Pow"]"#,
-        "normal bound",
-        "uu",
-        r#"const ret = (arg0 >>> 0) ** (arg1 >>> 0);
-return ret;"#,
-    ),
-    (
-        r#"["Intrinsic","LT"]"#,
-        "normal bound",
-        "uu",
-        r#"const ret = (arg0 >>> 0) < (arg1 >>> 0);
-return ret;"#,
-    ),
-    (
-        r#"["Intrinsic","LE"]"#,
-        "normal bound",
-        "uu",
-        r#"const ret = (arg0 >>> 0) <= (arg1 >>> 0);
-return ret;"#,
-    ),
-    (
-        r#"["Intrinsic","GE"]"#,
-        "normal bound",
-        "uu",
-        r#"const ret = (arg0 >>> 0) >= (arg1 >>> 0);
-return ret;"#,
-    ),
-    (
-        r#"["Intrinsic","GT"]"#,
-        "normal bound",
-        "uu",
-        r#"const ret = (arg0 >>> 0) > (arg1 >>> 0);
-return ret;"#,
-    ),
-    (
-        r#"["Intrinsic","ObjectCloneRef"]"#,
-        "normal bound",
-        "u",
-        r#"const ret = arg0 >>> 0;
-return ret;"#,
-    ),
-    (
-        r#"["Intrinsic","ObjectDropRef"]"#,
-        "normal bound",
-        "u",
-        r#"const ret = arg0 >>> 0;
-return ret;"#,
-    ),
     (
         r#"["Intrinsic","Throw"]"#,
         "normal",
@@ -545,20 +370,6 @@ return ret;"#,
         "normal",
         "u",
         r#"throw (arg0 >>> 0);"#,
-    ),
-    (
-        r#"["Intrinsic","Exports"]"#,
-        "normal bound",
-        "",
-        r#"const ret = wasm;
-return ret;"#,
-    ),
-    (
-        r#"["Intrinsic","Instance"]"#,
-        "normal bound",
-        "",
-        r#"const ret = wasmInstance;
-return ret;"#,
     ),
     (
         r#"["Intrinsic","Instance"]"#,
@@ -581,20 +392,6 @@ return ret;"#,
 return ret;"#,
     ),
     (
-        r#"["Intrinsic","CopyToTypedArray"]"#,
-        "normal bound",
-        "uu",
-        r#"const ret = new Uint8Array((arg1 >>> 0).buffer, (arg1 >>> 0).byteOffset, (arg1 >>> 0).byteLength).set(arg0 >>> 0);
-return ret;"#,
-    ),
-    (
-        r#"["Intrinsic","Reinit"]"#,
-        "normal bound",
-        "",
-        r#"const ret = undefined;
-return ret;"#,
-    ),
-    (
         r#"["Intrinsic","ObjectDropRef"]"#,
         "normal",
         "u",
@@ -606,12 +403,48 @@ return ret;"#,
         "i",
         r#"arg0;"#,
     ),
+];
+
+/// Items of the module: its memory, and its tables.
+pub const ITEMS: &[Case] = &[
     (
-        r#"["Intrinsic","Add"]"#,
+        r#"["Intrinsic","Memory"]"#,
         "normal bound",
-        "ii",
-        r#"const ret = arg0 + arg1;
+        "",
+        r#"const ret = wasm.memory;
 return ret;"#,
+    ),
+    (r#"["Intrinsic","Memory"]"#, "normal", "", r#"wasm.memory;"#),
+    (
+        r#"["Intrinsic","FunctionTable"]"#,
+        "normal bound",
+        "",
+        r#"const ret = wasm.__wbindgen_export;
+return ret;"#,
+    ),
+    (
+        r#"["Intrinsic","InitExternrefTable"]"#,
+        "normal references",
+        "",
+        r#"const table = wasm["my-table"];
+table.set(0, undefined);
+table.set(1024, undefined);
+table.set(1025, null);
+table.set(1026, true);
+table.set(1027, false);"#,
+    ),
+    (
+        r#"["Intrinsic","InitExternrefTable"]"#,
+        "normal references slots",
+        "u",
+        r#"const table = wasm["my-table"];
+table.set(0, undefined);
+table.set(1024, undefined);
+table.set(1025, null);
+table.set(1026, true);
+table.set(1027, false);
+table.set(1028, "a");
+table.set(1030, "b\"c");"#,
     ),
 ];
 
@@ -914,6 +747,13 @@ return ret;"#,
 
 /// Accessors, and operations whose expressions go by helpers.
 pub const HELPED: &[Case] = &[
+    (
+        r#"["Intrinsic","StringFromUtf8Lossy"]"#,
+        "normal bound",
+        "u",
+        r#"const ret = decodeText(arg0 >>> 0);
+return ret;"#,
+    ),
     (
         r#"["Getter",{"global":"Thing"},"do-it"]"#,
         "method bound",

@@ -5,4 +5,4 @@ use Rattle.glue_check.proofs.naming.first_taken.Given as goal
 
 abbrev pub invariant-loop-entry : goal.invariant-loop-entry
 invariant-loop-entry g l =
-    first_of (brought_in (g.N.Names.bound l.taken)) (drop l.entry-index l.entries) ≡ first_of (brought_in (g.N.Names.bound l.taken)) l.entries
+    let name = brought_in (g.N.Names.bound l.taken) (g.N.Names.bound l.given) in first_of name (drop l.entry-index l.entries) ≡ first_of name l.entries

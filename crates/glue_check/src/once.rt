@@ -1,0 +1,69 @@
+//! Names that imports begin with, each once.
+ghost use Rattle.std.specs.Prelude.{◌≡◌, ◌++◌, ◌∷◌, [], IfOk, OnOk, if◌then◌else◌, is_some};
+ghost use Rattle.std.specs.BTreeMap.{insert_entry};
+ghost use Rattle.values.specs.Map.{look_up};
+ghost use Rattle.glue_check.specs.Once as spec;
+
+use glue_shared::JsImportName;
+use std::alloc::{AllocError, Global};
+use values::{Duplicate, Map, Seq};
+
+/// A copy of the name that an import begins with. Want of memory is the only error.
+pub fn copied_import(alloc: Global, import: &JsImportName) -> Result<JsImportName, AllocError>
+    ensures equal { IfOk result (λ copy. copy ≡ import.now) }
+{
+    match import {
+        JsImportName::Global { name } => Ok(JsImportName::Global {
+            name: name.copy(alloc)?,
+        }),
+        JsImportName::Module { module, name } => Ok(JsImportName::Module {
+            module: module.copy(alloc)?,
+            name: name.copy(alloc)?,
+        }),
+        JsImportName::LocalModule { module, name } => Ok(JsImportName::LocalModule {
+            module: module.copy(alloc)?,
+            name: name.copy(alloc)?,
+        }),
+        JsImportName::InlineJs {
+            crate_name,
+            index,
+            name,
+        } => Ok(JsImportName::InlineJs {
+            crate_name: crate_name.copy(alloc)?,
+            index: *index,
+            name: name.copy(alloc)?,
+        }),
+        JsImportName::VendorPrefixed { name, prefixes } => Ok(JsImportName::VendorPrefixed {
+            name: name.copy(alloc)?,
+            prefixes: prefixes.copy(alloc)?,
+        }),
+    }
+}
+
+// Adds a name, where it hasn't come yet.
+fn push_new(
+    alloc: Global,
+    seen: &mut Map<JsImportName, ()>,
+    name: &JsImportName,
+    once: &mut Seq<JsImportName>,
+) -> Result<(), AllocError>
+    ensures seen { OnOk result (seen.new ≡ insert_entry spec.import_order seen.old name.now tt) }
+    ensures pushed { OnOk result (once.new ≡ once.old ++ (if is_some (look_up spec.import_order seen.old name.now) then [] else name.now ∷ [])) }
+{
+    if seen.insert(copied_import(alloc, name)?, ())?.is_none() {
+        once.push(copied_import(alloc, name)?)?;
+    }
+    Ok(())
+}
+
+/// Each of these names once, where it comes first. Want of memory is the only error.
+pub fn each_once(alloc: Global, list: &[JsImportName]) -> Result<Seq<JsImportName>, AllocError>
+    ensures once { IfOk result (λ once. once ≡ spec.each_once list.now) }
+{
+    let mut seen = Map::new(alloc);
+    let mut once = Seq::new(alloc);
+    for name in list {
+        push_new(alloc, &mut seen, name, &mut once)?;
+    }
+    Ok(once)
+}
