@@ -62,10 +62,11 @@ def without_names(module):
     return bytes(out)
 
 
-def run(words, path):
-    """One run with a file as standard input: seconds by the wall clock, and the peak resident memory in bytes.
+def spent(words, path):
+    """One run with a file as standard input: seconds of the processor, seconds by the wall clock, the peak memory in bytes.
 
-    Linux counts what this process held at the start of the command as the command's, so this process stays small.
+    The seconds of the processor are those of the process and of the system for it. Linux counts what this process held at the
+    start of the command as the command's memory, so this process stays small.
     """
     with path.open("rb") as module:
         begin = time.perf_counter()
@@ -75,4 +76,9 @@ def run(words, path):
     child.returncode = os.waitstatus_to_exitcode(status)
     if child.returncode != 0:
         sys.exit(f"{path.name}: {Path(words[0]).name} ended with status {child.returncode}")
-    return seconds, usage.ru_maxrss * 1024
+    return usage.ru_utime + usage.ru_stime, seconds, usage.ru_maxrss * 1024
+
+
+def run(words, path):
+    """One run with a file as standard input: seconds by the wall clock, and the peak resident memory in bytes (see `spent`)."""
+    return spent(words, path)[1:]
