@@ -105,7 +105,7 @@ def adapters(case, place):
 
 
 def module(cases):
-    """A module that imports a function for each case, and describes it."""
+    """A module with a memory and a table of functions that imports a function for each case, and describes it."""
     types = [b"\x60" + vector([I32] * len(case["args"])) + vector([I32] * case["result"]) for case in cases]
     imports = [
         name("__wbindgen_placeholder__") + name(f"f{place}") + b"\0" + leb128(place) for place in range(len(cases))
@@ -116,9 +116,12 @@ def module(cases):
         "implements": [[place, 2 * place] for place in range(len(cases))],
         "imports": [{"adapter": 2 * place + 1, "what": case["what"]} for place, case in enumerate(cases)],
         "variadic": [2 * place + 1 for place, case in enumerate(cases) if case["variadic"]],
+        "parts": {"function_table": 0},
     }
     glue = name("__wbg_glue") + json.dumps(description).encode()
-    return b"\0asm\x01\0\0\0" + section(1, vector(types)) + section(2, vector(imports)) + section(0, glue)
+    exports = [name("memory") + b"\2\0", name("table") + b"\1\0"]
+    parts = [(1, types), (2, imports), (4, [b"\x70\0\1"]), (5, [b"\0\1"]), (7, exports)]
+    return b"\0asm\x01\0\0\0" + b"".join(section(number, vector(entries)) for number, entries in parts) + section(0, glue)
 
 
 def listing(command, cases):
