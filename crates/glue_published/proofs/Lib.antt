@@ -1,0 +1,6 @@
+pub mod FixedNames
+pub mod Known
+pub mod Lists
+pub mod Names
+pub mod Qualified
+pub mod Seen

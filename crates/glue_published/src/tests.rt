@@ -1,0 +1,3 @@
+mod clashes;
+mod conditions;
+mod described;
