@@ -13,6 +13,7 @@ pub mod Keys
 pub mod Linkage
 pub mod Named
 pub mod NoteFacts
+pub mod Noted
 pub mod Order
 pub mod Pairs
 pub mod Pieces

@@ -8,13 +8,15 @@ use Rattle.glue_exports.specs.Printed.{RootNames, root_name, tree_items}
 use Rattle.glue_words.specs.Names.{bound_names}
 use Rattle.glue_exports.proofs.Joined.{in_map, from_map}
 -- the namespaces at the root
-pub use Rattle.glue_exports.proofs.Items.{IsNamespace}
+pub use Rattle.glue_exports.proofs.Items.{IsNamespace, OfEach, each_printed}
 -- what items declare: the names of definitions' items and of namespaces at the root, each once
 pub use Rattle.glue_exports.proofs.Bound.{own_names, root_segments, root_names, segment_all, segment_only, each_segment, bound_only, bound_all, bound_distinct}
 -- items belong into a file where those of definitions do, and the file has the names
 pub use Rattle.glue_exports.proofs.Belonging.{HasName, is_hosted, HasTree, printed_belong}
 -- and words behind notes and behind `export ` do
 pub use Rattle.glue_exports.proofs.Behind.{behind_belong, export_belongs}
+-- words behind the note of a comment
+pub use Rattle.glue_exports.proofs.Noted.{noted_belong, noted_binds, noted_unexported, noted_exported}
 -- the names under which items publish things stand for them
 pub use Rattle.glue_exports.proofs.Named.{IsDeclaredBy, IsObjectOf, IsReexportOf, Stands, Declared, Grouped, Reexported, IsNamed, printed_named}
 -- items have the words that their roles ask for

@@ -41,6 +41,7 @@ mod tree;
 
 pub use definition::ExportDefinition;
 pub use enums::enum_definition;
+pub use notes::push_comments;
 pub use paths::{add_paths, fronts};
 pub use printed::tree_items;
 pub use qualified::qualified_name;

@@ -74,3 +74,17 @@ pub(crate) fn push_comment(
         texts => push_note(words, texts),
     }
 }
+
+/// Adds the note of a comment that may be missing, none where it has no lines. Want of memory is the only error.
+pub fn push_comments(
+    alloc: Global,
+    words: &mut WordBuilder,
+    comment: &Option<Text>,
+) -> Result<(), AllocError>
+    ensures words { OnOk result (words.new ≡ words.old ++ spec.note_of (spec.lines_of comment.now)) }
+{
+    match comment {
+        None => Ok(()),
+        Some(text) => push_comment(alloc, words, text.as_str()),
+    }
+}
