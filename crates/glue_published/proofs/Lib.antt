@@ -3,4 +3,5 @@ pub mod Known
 pub mod Lists
 pub mod Names
 pub mod Qualified
+pub mod RootNames
 pub mod Seen

@@ -1,18 +1,15 @@
 //! Names under which nothing can be published.
-ghost use Rattle.std.specs.Prelude.{◌≡◌, find, IfOk, option_map};
+ghost use Rattle.std.specs.Prelude.{◌≡◌, find, option_map};
 ghost use Rattle.std.specs.Option.{option_copied};
 ghost use Rattle.glue_faults.specs.First as first;
 ghost use Rattle.glue_published.specs.Named as spec;
 
-use crate::things::stands_alone;
-use glue_faults::Fault;
-use glue_shared::{AuxEnum, AuxExport, AuxStruct, JsImport, WasmBindgenAux};
+use glue_shared::{AuxEnum, AuxExport, AuxStruct, WasmBindgenAux};
 use glue_words::is_valid_ident;
-use std::alloc::{AllocError, Global};
-use values::{Duplicate, Text};
+use values::Text;
 
-// Whether no object has the name as a key of its own.
-fn is_proto_name(name: &str) -> bool
+/// Whether the name is `__proto__`, which no object has as a key of its own. There is no error.
+pub fn is_proto_name(name: &str) -> bool
     ensures test { result ≡ spec.is_proto_name name.now }
 {
     name == "__proto__"
@@ -41,21 +38,13 @@ fn bad_path<'a>(namespace: &'a [Text], name: &'a Text) -> Option<&'a Text>
     }
 }
 
-fn bad_function(export: &AuxExport) -> Option<&Text>
-    ensures bad { option_copied result ≡ spec.bad_function export.now }
-{
-    if stands_alone(export.kind) {
-        bad_path(export.namespace.as_slice(), &export.name)
-    } else {
-        None
-    }
-}
-
-fn first_bad_function(exports: &[AuxExport]) -> Option<&Text>
-    ensures first { option_copied result ≡ first.first_of spec.bad_function exports.now }
+/// The first name of an export that can't stand where it is published: a segment of its path that is `__proto__`, of a member of a class
+/// too. There is no error.
+pub fn bad_export_name(exports: &[AuxExport]) -> Option<&Text>
+    ensures first { option_copied result ≡ spec.bad_export_name exports.now }
 {
     for export in exports {
-        let name = bad_function(export);
+        let name = bad_path(export.namespace.as_slice(), &export.name);
         if name.is_some() {
             return name;
         }
@@ -113,45 +102,15 @@ fn first_bad_enum(enums: &[AuxEnum]) -> Option<&Text>
     None
 }
 
-fn first_bad_reexport(reexports: &[(Text, JsImport, bool)]) -> Option<&Text>
-    ensures first { option_copied result ≡ option_map (λ r. r.0) (find (λ r. spec.is_proto_name r.0) reexports.now) }
+/// The first name that can't stand where it is published, of a class or an enum: a segment of its path that is `__proto__`, or a variant
+/// of an enum that is `__proto__` or no identifier. Classes come first, then enums, each with its path before its variants. There is no
+/// error.
+pub fn bad_declared_name(aux: &WasmBindgenAux) -> Option<&Text>
+    ensures first { option_copied result ≡ spec.bad_declared_name aux.now }
 {
-    let reexport = reexports
-        .iter()
-        .find(|reexport| is_proto_name(reexport.0.as_str()))?;
-    Some(&reexport.0)
-}
-
-// The first bad name of all.
-#[tactic(auto, unfolding(crate::specs::Named::bad_public_name))]
-fn bad_public_name(aux: &WasmBindgenAux) -> Option<&Text>
-    ensures bad { option_copied result ≡ spec.bad_public_name aux.now }
-{
-    let function = first_bad_function(aux.exports.as_slice());
-    if function.is_some() {
-        return function;
-    }
     let class = first_bad_class(aux.structs.as_slice());
     if class.is_some() {
         return class;
     }
-    let one = first_bad_enum(aux.enums.as_slice());
-    if one.is_some() {
-        return one;
-    }
-    first_bad_reexport(aux.reexports.as_slice())
-}
-
-/// The first name that can't stand where it is published: a segment of the path of a function, a class or an enum, a variant of an
-/// enum or a re-export that is `__proto__`, or a variant that is no identifier. Functions come first, then classes, then enums, each
-/// with its path before its variants, then re-exports. Want of memory is the only error.
-pub fn bad_thing_name(alloc: Global, aux: &WasmBindgenAux) -> Result<Option<Fault>, AllocError>
-    ensures fault { IfOk result (λ fault. fault ≡ spec.bad_thing_name aux.now) }
-{
-    match bad_public_name(aux) {
-        None => Ok(None),
-        Some(name) => Ok(Some(Fault::BadName {
-            name: name.copy(alloc)?,
-        })),
-    }
+    first_bad_enum(aux.enums.as_slice())
 }

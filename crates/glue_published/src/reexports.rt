@@ -59,8 +59,11 @@ fn add_parent(alloc: Global, set: &mut Map<Text, bool>, path: &[Text]) -> Result
     Ok(())
 }
 
-// The names below which something is published.
-fn parents(alloc: Global, things: &[PublishedThing]) -> Result<Map<Text, bool>, AllocError>
+/// The names below which something is published. Want of memory is the only error.
+pub(crate) fn parents(
+    alloc: Global,
+    things: &[PublishedThing],
+) -> Result<Map<Text, bool>, AllocError>
     ensures parents { IfOk result (λ set. AreNames set (spec.has_members things.now)) }
 {
     let mut set = Map::new(alloc);

@@ -1,3 +1,4 @@
 mod clashes;
 mod conditions;
 mod described;
+mod namespaces;

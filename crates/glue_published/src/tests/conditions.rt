@@ -3,7 +3,7 @@ use super::described::Begin::{Host, Inline, Module, Vendor};
 use super::described::Part::{Class, Enum, Field, Function, Method, PrivateClass, Reexport};
 use super::described::{Part, described, named, settings, texts};
 use crate::fixed::fixed_thing;
-use crate::named::bad_thing_name;
+use crate::named::{bad_declared_name, bad_export_name};
 use crate::reexports::bad_reexport;
 use glue_shared::{Settings, Target};
 use std::alloc::{AllocError, Global};
@@ -75,42 +75,71 @@ fn what_is_published_has_no_fixed_name(rt: HostRuntime) -> Result<(), AllocError
     Ok(())
 }
 
-// A description, and the first name in it that can't stand.
-const NAMES: [(&[Part], Option<&str>); 10] = [
+// A description, and the first name of an export in it that can't stand.
+const EXPORTS: [(&[Part], Option<&str>); 6] = [
+    (&[Function((&[], "a b")), Function((&["1"], "if"))], None),
     (
         &[
-            Function((&[], "a b")),
+            Function((&[], "f")),
+            Function((&["a", "__proto__", "b"], "f")),
+        ],
+        Some("__proto__"),
+    ),
+    (&[Function((&[], "__proto__"))], Some("__proto__")),
+    (&[Method((&[], "__proto__"))], Some("__proto__")),
+    // what else is published isn't looked at
+    (&[Class((&[], "__proto__"))], None),
+    (&[Enum((&["__proto__"], "E"), &["1"])], None),
+];
+
+// The same of a class or an enum.
+const DECLARED: [(&[Part], Option<&str>); 10] = [
+    (
+        &[
             Class((&["1"], "if")),
             Enum((&[], ""), &["A", "B"]),
+            Enum((&["a b"], "if"), &[]),
         ],
         None,
     ),
-    (
-        &[Function((&["a", "__proto__", "b"], "f"))],
-        Some("__proto__"),
-    ),
-    (&[Class((&[], "__proto__"))], Some("__proto__")),
-    (&[Reexport("__proto__", Host("x"))], Some("__proto__")),
+    (&[Class((&["a"], "__proto__"))], Some("__proto__")),
     (&[Enum((&[], "E"), &["A", "__proto__"])], Some("__proto__")),
     (&[Enum((&[], "E"), &["A", "a b"])], Some("a b")),
     (&[Enum((&[], "E"), &["if"])], Some("if")),
-    // a method's name is no path
-    (&[Method((&[], "__proto__"))], None),
-    // the path of an enum before its variants, and enums before re-exports
+    (&[Enum((&[], "E"), &[""])], Some("")),
+    // the path of an enum before its variants, the first enum, and classes before enums
     (&[Enum((&["__proto__"], "E"), &["1"])], Some("__proto__")),
     (
-        &[Reexport("__proto__", Host("x")), Enum((&[], "E"), &["1"])],
+        &[Enum((&[], "E"), &["1"]), Enum((&[], "__proto__"), &[])],
         Some("1"),
+    ),
+    (
+        &[Enum((&[], "E"), &["1"]), Class((&["__proto__"], "C"))],
+        Some("__proto__"),
+    ),
+    // exports and re-exports aren't looked at
+    (
+        &[
+            Function((&[], "__proto__")),
+            Reexport("__proto__", Host("x")),
+        ],
+        None,
     ),
 ];
 
 #[test]
-fn names_that_no_object_has_are_refused(rt: HostRuntime) -> Result<(), AllocError> {
+fn names_that_no_object_has_are_told(rt: HostRuntime) -> Result<(), AllocError> {
     let alloc = rt.alloc();
-    for (parts, want) in NAMES {
+    for (parts, want) in EXPORTS {
         let aux = described(alloc, parts)?;
-        let fault = bad_thing_name(alloc, &aux)?;
-        assert!(&rt; named(&fault) == want, "{fault:?} in place of {want:?}");
+        let name = bad_export_name(aux.exports.as_slice());
+        let name = name.map(|name| name.as_str());
+        assert!(&rt; name == want, "{name:?} in place of {want:?}");
+    }
+    for (parts, want) in DECLARED {
+        let aux = described(alloc, parts)?;
+        let name = bad_declared_name(&aux).map(|name| name.as_str());
+        assert!(&rt; name == want, "{name:?} in place of {want:?}");
     }
     Ok(())
 }

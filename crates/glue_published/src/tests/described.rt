@@ -189,8 +189,7 @@ pub(super) fn named(fault: &Option<Fault>) -> Option<&str> {
     match fault {
         Some(Fault::ExportClash { name })
         | Some(Fault::FixedExport { name })
-        | Some(Fault::BadReexport { name })
-        | Some(Fault::BadName { name }) => Some(name.as_str()),
+        | Some(Fault::BadReexport { name }) => Some(name.as_str()),
         _ => None,
     }
 }
