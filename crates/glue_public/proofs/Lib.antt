@@ -1,0 +1,10 @@
+pub mod Entries
+pub mod Grown
+pub mod Namespaces
+pub mod Pairs
+pub mod Public
+pub mod Put
+pub mod Sound
+pub mod Steps
+pub mod TreeFacts
+pub mod Unclashed
