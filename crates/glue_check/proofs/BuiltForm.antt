@@ -23,7 +23,7 @@ use Rattle.glue_check.specs.declared.verdict.Condition.TheVariants as conditions
 use Rattle.glue_check.specs.Answers.{answer}
 use Rattle.glue_check.specs.Unbuilt as spec
 use Rattle.glue_imports.specs.Expressions.{has_expression}
-use Rattle.glue_check.specs.Unbuilt.{is_told, is_unbuilt_entry, is_unbuilt_export, is_unbuilt_adapter}
+use Rattle.glue_check.specs.Unbuilt.{is_told, is_unbuilt_entry, is_unbuilt_adapter}
 use Rattle.glue_check.specs.Verdict.{unbuilt}
 use Rattle.glue_check.proofs.Conditions.{none_unbuilt}
 
@@ -109,9 +109,8 @@ imports_built f s l h =
 
 -- ---- exports
 
--- a function at the top level
+-- a function, in whatever namespace
 pub record IsBuiltExport (e : AuxExport) : Type 0 where
-  pub top : e.namespace ≡ []
   pub function : e.kind ≡ export_kinds.Function
 
 -- neither a member nor a function that takes `this`
@@ -123,47 +122,33 @@ function_is (export_kinds.Method m) h t = absurd (true≢false h)
 
 -- each export is such a function
 pub exports_built : (f : FileFlags) (s : Settings) (l : Lowered) → unbuilt f s l ≡ None → (e : AuxExport) → IsIn e l.aux.exports → IsBuiltExport e
-unfolding answer is_unbuilt_export
+unfolding answer
 exports_built f s l h e i =
-    let asked = list_any is_unbuilt_export l.aux.exports in
-    let others = is_some_item l.aux.enums || (is_some_item l.aux.string_enums || is_some_item l.aux.reexports) in
-    let listed = (neither asked others (where_true-none (asked || others) _ (none_unbuilt conditions.UnbuiltExports f s l (search rules) h))).0 in
-    let place = neither (is_some_item e.namespace) (spec.has_text e.comments) (list_any-none is_unbuilt_export l.aux.exports e listed i) in
     let classes = neither (is_some_item l.aux.structs) (list_any spec.is_member l.aux.exports) (where_true-none (is_some_item l.aux.structs || list_any spec.is_member l.aux.exports) _ (none_unbuilt conditions.UnbuiltClasses f s l (search rules) h)) in
     let alone = list_any-none spec.is_member l.aux.exports e classes.1 i in
     let codes = list_any is_unbuilt_adapter l.wit.adapters || is_some_item l.wit.exports in
     let kept = is_some_item l.aux.imports_with_catch || list_any spec.is_special_export l.aux.exports in
     let passed = neither codes kept (where_true-none (codes || kept) _ (none_unbuilt conditions.UnbuiltInstructions f s l (search rules) h)) in
     let special = list_any-none spec.is_special_export l.aux.exports e (neither (is_some_item l.aux.imports_with_catch) (list_any spec.is_special_export l.aux.exports) passed.1).1 i in
-    let this = (neither (spec.takes_this e.kind) (e.variadic || e.jsdoc) special).0 in record {
-      top = nothing e.namespace place.0;
-      function = function_is e.kind alone this;
-    }
+    let this = (neither (spec.takes_this e.kind) (e.variadic || e.jsdoc) special).0 in record { function = function_is e.kind alone this }
 
--- nothing but functions is described
-pub record AreOnlyFunctions (l : Lowered) : Type 0 where
+-- no class is described, no re-export, no closure and no caught import
+pub record AreAbsent (l : Lowered) : Type 0 where
   pub structs : l.aux.structs ≡ []
-  pub enums : l.aux.enums ≡ []
-  pub string_enums : l.aux.string_enums ≡ []
   pub reexports : l.aux.reexports ≡ []
   pub callbacks : l.wit.exports ≡ []
   pub caught : l.aux.imports_with_catch ≡ []
 
-pub only_functions : (f : FileFlags) (s : Settings) (l : Lowered) → unbuilt f s l ≡ None → AreOnlyFunctions l
+pub absent_built : (f : FileFlags) (s : Settings) (l : Lowered) → unbuilt f s l ≡ None → AreAbsent l
 unfolding answer
-only_functions f s l h =
-    let others = is_some_item l.aux.enums || (is_some_item l.aux.string_enums || is_some_item l.aux.reexports) in
-    let listed = (neither (list_any is_unbuilt_export l.aux.exports) others (where_true-none (list_any is_unbuilt_export l.aux.exports || others) _ (none_unbuilt conditions.UnbuiltExports f s l (search rules) h))).1 in
-    let more = neither (is_some_item l.aux.enums) (is_some_item l.aux.string_enums || is_some_item l.aux.reexports) listed in
-    let last = neither (is_some_item l.aux.string_enums) (is_some_item l.aux.reexports) more.1 in
+absent_built f s l h =
+    let listed = where_true-none (is_some_item l.aux.reexports) _ (none_unbuilt conditions.UnbuiltExports f s l (search rules) h) in
     let classes = neither (is_some_item l.aux.structs) (list_any spec.is_member l.aux.exports) (where_true-none (is_some_item l.aux.structs || list_any spec.is_member l.aux.exports) _ (none_unbuilt conditions.UnbuiltClasses f s l (search rules) h)) in
     let codes = list_any is_unbuilt_adapter l.wit.adapters || is_some_item l.wit.exports in
     let kept = is_some_item l.aux.imports_with_catch || list_any spec.is_special_export l.aux.exports in
     let passed = neither codes kept (where_true-none (codes || kept) _ (none_unbuilt conditions.UnbuiltInstructions f s l (search rules) h)) in record {
       structs = nothing l.aux.structs classes.0;
-      enums = nothing l.aux.enums more.0;
-      string_enums = nothing l.aux.string_enums last.0;
-      reexports = nothing l.aux.reexports last.1;
+      reexports = nothing l.aux.reexports listed;
       callbacks = nothing l.wit.exports (neither (list_any is_unbuilt_adapter l.wit.adapters) (is_some_item l.wit.exports) passed.0).1;
       caught = nothing l.aux.imports_with_catch (neither (is_some_item l.aux.imports_with_catch) (list_any spec.is_special_export l.aux.exports) passed.1).0;
     }

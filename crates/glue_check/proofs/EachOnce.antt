@@ -1,11 +1,11 @@
 -- Which names stand in a list where each comes once.
-use Rattle.std.proofs.Common.{◌≡◌, Bool, true, false, not, cond, true≢false, List, [], ◌∷◌, refl, sym, ap, ◌∙◌, inl, inr}
+use Rattle.std.proofs.Common.{◌≡◌, Bool, true, false, not, ◌||◌, cond, true≢false, List, [], ◌∷◌, refl, sym, ap, ◌∙◌, inl, inr}
 use Rattle.std.specs.Prelude.{filter}
 use Rattle.std.specs.Cmp.{tied_itself}
 use Rattle.std.specs.Ordering.{is_eq}
 use Rattle.values.specs.Lists.{IsIn, IsAway, AreDistinct}
 use Rattle.glue_shared.specs.declared.import.JsImportName.{JsImportName}
-use Rattle.glue_check.specs.Once.{is_same, each_once}
+use Rattle.glue_check.specs.Once.{is_same, has_name, each_once, each_new}
 use Rattle.glue_check.proofs.ImportOrder.{import_order_total, import_same}
 
 module _ {A : Type 0} (p : A → Bool) where
@@ -71,3 +71,16 @@ once_distinct (name ∷ names) = (
       true≢false (sym (sym (ap not (ap is_eq (tied_itself import_order_total name))) ∙ differs)),
   filter_distinct (other_than name) (each_once names) (once_distinct names),
 )
+
+-- a name that is found is one of them
+pub name_in : (n : JsImportName) (names : List JsImportName) → has_name n names ≡ true → IsIn n names
+name_in n [] h = absurd (true≢false (sym h))
+name_in n (name ∷ names) h = here (is_same n name) refl h (name_in n names)
+  where
+    here : (b : Bool) → is_same n name ≡ b → (b || has_name n names) ≡ true → (has_name n names ≡ true → IsIn n names) → IsIn n (name ∷ names)
+    here true e h later = inl (import_same n name e)
+    here false e h later = inr (later h)
+
+-- each of the names that didn't come before is there
+pub new_has : (n : JsImportName) (before names : List JsImportName) → IsIn n names → has_name n before ≡ false → IsIn n (each_new before names)
+new_has n before names i e = in_filtered (λ name. not (has_name name before)) n (each_once names) (once_has n names i) (ap not e)

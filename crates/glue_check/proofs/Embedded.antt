@@ -1,5 +1,5 @@
 -- Where there is no fault and all is built, each described import has an expression, and the item of the module that it gives stands.
-use Rattle.std.proofs.Common.{◌≡◌, ℕ, List, Bool, true, false, not, ◌&&◌, cond, Option, None, Some, refl, ap, sym, ◌∙◌, rules, true≢false}
+use Rattle.std.proofs.Common.{◌≡◌, ℕ, List, Bool, true, false, cond, Option, None, Some, refl, ap, sym, ◌∙◌, rules, true≢false}
 use Rattle.std.specs.Prelude.{◌||◌, codes, is_some}
 use Rattle.std.proofs.lemmas.Bool.{and_parts}
 use Rattle.std.specs.List.{list_any}

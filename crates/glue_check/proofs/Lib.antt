@@ -3,18 +3,16 @@ pub mod Called
 pub mod Conditions
 mod Described
 pub mod EachOnce
-pub mod ExportNames
 pub mod FaultKinds
 pub mod Globals
 pub mod Embedded
 pub mod ImportOrder
 mod SeenNames
-mod OmittedNames
+mod GivenNames
 pub mod OwnNames
 mod Operands
 pub mod OwnPairs
 pub mod Passed
-pub mod PublicNames
 pub mod SameNames
 pub mod Steps
 mod TakenNames

@@ -1,9 +1,9 @@
 -- What is known of a description that has no fault: one lemma a condition, in the words of its users.
-use Rattle.std.proofs.Common.{◌≡◌, ℕ, zero, suc, ◌+◌, ◌==◌, List, [], ◌∷◌, map, length, arith, Bool, true, false, not, ◌&&◌, ◌||◌, cond, Option, Some, None, true≢false, refl, sym, ap, ◌∙◌, inl, inr, rules}
+use Rattle.std.proofs.Common.{◌≡◌, ℕ, ℤ, zero, suc, ◌+◌, ◌==◌, List, [], ◌∷◌, map, length, arith, Bool, true, false, not, ◌&&◌, ◌||◌, cond, Option, Some, None, true≢false, refl, sym, ap, ◌∙◌, inl, inr, rules}
 use Rattle.std.specs.Prelude.{option_map, option_and_then}
 use Rattle.std.specs.Option.{option_or}
 use Rattle.std.specs.Str.{bytes_eq}
-use Rattle.std.specs.List.{list_any, filter_map, find}
+use Rattle.std.specs.List.{list_any, filter_map, find, flat_map}
 use Rattle.std.specs.Ordering.{nat_cmp}
 use Rattle.std.specs.BTreeMap.{is_at}
 use Rattle.std.specs.Cmp.{Equal-is}
@@ -12,18 +12,22 @@ use Rattle.std.proofs.lemmas.Map.Lookups.{exact_unsigned}
 use Rattle.std.proofs.lemmas.Slice.Eq.{bytes_eq-Decides}
 use Rattle.values.specs.Lists.{IsIn, IsAway, AreDistinct}
 use Rattle.values.specs.Map.{look_up}
+use Rattle.values.proofs.Members.{in_left, in_either}
 use Rattle.wasm_core.specs.ids.ImportId.{ImportId}
 use Rattle.wasm_core.specs.types.FuncType.{FuncType}
 use Rattle.wasm_core.specs.declared.types.Import.{Import}
 use Rattle.wasm_core.specs.entries.Export.{Export}
 use Rattle.glue_words.specs.Ident.{is_ident}
 use Rattle.glue_shared.specs.declared.adapter.Adapter.{Adapter}
+use Rattle.glue_shared.specs.declared.aux.AuxEnum.{AuxEnum}
 use Rattle.glue_shared.specs.declared.aux.AuxExport.{AuxExport}
 use Rattle.glue_shared.specs.declared.import.AuxImport.{AuxImport}
 use Rattle.glue_shared.specs.declared.description.Lowered.{Lowered}
 use Rattle.glue_shared.specs.declared.settings.Settings.{Settings}
+use Rattle.glue_shared.specs.declared.import.JsImport.{JsImport}
 use Rattle.glue_shared.specs.declared.import.JsImportName.{JsImportName}
-use Rattle.glue_shared.specs.Names.{is_one_of, has_number, fixed_names, described_names, own_imports, own_names}
+use Rattle.glue_shared.specs.Names as names
+use Rattle.glue_shared.specs.Names.{is_one_of, has_number, js_import, fixed_names, described_hosts, described_names, own_imports, own_names}
 use Rattle.glue_adapters.specs.Resolving.{entry_at}
 use Rattle.glue_faults.specs.declared.fault.Fault.TheVariants as faults
 use Rattle.glue_faults.specs.First.{first_of, first_after, where_true}
@@ -39,18 +43,23 @@ use Rattle.glue_adapters.specs.Pairs.{is_bad_code, is_bad_pair, is_bad_export, b
 use Rattle.glue_check.specs.declared.verdict.Condition.TheVariants as conditions
 use Rattle.glue_check.specs.Answers.{answer}
 use Rattle.glue_adapters.specs.Exported.{export_name, export_names}
+use Rattle.glue_exports.proofs.Joined.{from_map}
+use Rattle.glue_published.specs.Clash.{thing_clash}
+use Rattle.glue_published.specs.Fixed.{fixed_thing}
+use Rattle.glue_published.specs.Named.{is_proto_name, bad_path, is_bad_variant, bad_class, bad_enum, bad_declared_name, bad_export_name}
+use Rattle.glue_published.specs.Reexports.{bad_reexport}
 use Rattle.glue_check.specs.declared.modules.Claimed.{Claimed}
+use Rattle.glue_check.specs.Given.{given_names, other_names}
 use Rattle.glue_check.specs.Modules as modules
 use Rattle.glue_check.specs.Modules.{clashing_module, foreign_module}
 use Rattle.glue_check.specs.Naming as naming
 use Rattle.glue_check.specs.Naming.{bad_text, name_clash, written_clash}
-use Rattle.glue_check.specs.Publishing as publishing
-use Rattle.glue_check.specs.Omitted.{omitted_names, other_names}
-use Rattle.glue_check.specs.Taken.{brought, global_begun, name_if}
+use Rattle.glue_check.specs.Taken.{brought, global_of, name_if}
 use Rattle.glue_check.specs.Verdict.{verdict, is_shared}
 use Rattle.glue_check.proofs.Conditions.{none_of}
 use Rattle.glue_check.proofs.BuiltForm.{away, not_false}
-use Rattle.glue_check.proofs.OmittedNames.{either_brought, none_fixed}
+use Rattle.glue_check.proofs.GivenNames.{either_host, none_fixed, omitted_given}
+use Rattle.glue_check.proofs.Globals.{from_flat, in_flat}
 
 -- no memory is shared
 pub no_threads : (s : Settings) (l : Lowered) → verdict s l ≡ None → list_any is_shared l.«module».memories ≡ false
@@ -231,35 +240,92 @@ chosen-none : (name : List ℕ) (o : Option (List ℕ)) (f : List ℕ → Option
 chosen-none name None f e h = cc
 chosen-none name (Some other) f e h = let same : name ≡ other = cc in ap f same ∙ h
 
--- the names of the outside that an import brings are identifiers
-pub brought_ident : (s : Settings) (l : Lowered) → verdict s l ≡ None → (e : ℕ × AuxImport) → IsIn e l.aux.imports → (name : List ℕ)
-    → IsIn name (brought s.omit_imports e.1) → is_ident name ≡ true
-unfolding bad_text
-brought_ident s l h e i name k =
-    let bad = naming.bad_brought s.omit_imports in
-    let none = some-none (first_of naming.bad_segment l.aux.exports ∷ first_of bad l.aux.imports ∷ find naming.is_proto (names_of s l) ∷ []) (first_of bad l.aux.imports) (no_texts s l h) (inr (inl refl)) in
-    not_false (is_ident name) (find-none (λ (n : List ℕ). not (is_ident n)) (brought s.omit_imports e.1) name (first_of-none bad l.aux.imports e none i) k)
-
 neither_answer : {A : Type 0} (o later : Option A) → option_or o later ≡ None → (o ≡ None) × (later ≡ None)
 neither_answer None later h = (refl, h)
 neither_answer (Some x) later h = cc
 
--- of those that it brings where imports are kept none is one that the glue file binds
-kept_apart : (s : Settings) (l : Lowered) → verdict s l ≡ None → (e : ℕ × AuxImport) → IsIn e l.aux.imports → (name : List ℕ)
-    → IsIn name (brought false e.1) → IsAway name (fixed_names s l.«module»)
+-- the answers of which the first is the first bad name
+abbrev bad_names : Settings → Lowered → List (Option (List ℕ))
+bad_names s l =
+    bad_export_name l.aux.exports
+    ∷ first_of (naming.bad_import s.omit_imports) l.aux.imports
+    ∷ bad_declared_name l.aux
+    ∷ first_of naming.bad_values l.aux.string_enums
+    ∷ first_of (naming.bad_reexported s.omit_imports) l.aux.reexports
+    ∷ find is_proto_name (names_of s l)
+    ∷ []
+
+no_bad : (s : Settings) (l : Lowered) → verdict s l ≡ None → (one : Option (List ℕ)) → IsIn one (bad_names s l) → one ≡ None
+unfolding bad_text
+no_bad s l h one i = some-none (bad_names s l) one (no_texts s l h) i
+
+-- what a described name brings of the outside is an identifier
+pub described_ident : (s : Settings) (l : Lowered) → verdict s l ≡ None → (name : JsImportName) → IsIn name (described_names l.aux) → (x : List ℕ)
+    → IsIn x (described_hosts s.omit_imports name) → is_ident x ≡ true
+described_ident s l h name i x k =
+    let bad = naming.bad_described s.omit_imports in
+    let begins = λ (e : ℕ × AuxImport). names.names_of (js_import e.1) in
+    let imports = no_bad s l h (first_of (naming.bad_import s.omit_imports) l.aux.imports) (inr (inl refl)) in
+    let reexports = no_bad s l h (first_of (naming.bad_reexported s.omit_imports) l.aux.reexports) (inr (inr (inr (inr (inl refl))))) in
+    let none : bad name ≡ None = elim (in_either name (flat_map begins l.aux.imports) (map (λ r. r.1.name) l.aux.reexports) i) [
+      | inl here ↦
+          let r = from_flat begins l.aux.imports name here in
+          first_of-none bad (begins r.0) name (first_of-none (naming.bad_import s.omit_imports) l.aux.imports r.0 imports r.1) r.2
+      | inr there ↦
+          let r = from_map (λ (r : List ℕ × JsImport × Bool). r.1.name) name l.aux.reexports there in
+          let entry = first_of-none (naming.bad_reexported s.omit_imports) l.aux.reexports r.0 reexports r.1 in
+          ap bad r.2 ∙ (neither_answer (where_true (is_proto_name (r.0).0) (r.0).0) (bad (r.0).1.name) entry).1
+    ] in
+    not_false (is_ident x) (find-none (λ (n : List ℕ). not (is_ident n)) (described_hosts s.omit_imports name) x none k)
+
+-- a name that an import begins with is described
+begun_described : (l : Lowered) (e : ℕ × AuxImport) → IsIn e l.aux.imports → (name : JsImportName) → IsIn name (names.names_of (js_import e.1))
+    → IsIn name (described_names l.aux)
+begun_described l e i name k =
+    let begins = λ (e : ℕ × AuxImport). names.names_of (js_import e.1) in
+    in_left name (flat_map begins l.aux.imports) (map (λ r. r.1.name) l.aux.reexports) (in_flat begins l.aux.imports e name i k)
+
+-- so is what an import brings
+pub brought_ident : (s : Settings) (l : Lowered) → verdict s l ≡ None → (e : ℕ × AuxImport) → IsIn e l.aux.imports → (name : List ℕ)
+    → IsIn name (brought s.omit_imports e.1) → is_ident name ≡ true
+brought_ident s l h e i name k =
+    let r = from_flat (described_hosts s.omit_imports) (names.names_of (js_import e.1)) name k in
+    described_ident s l h r.0 (begun_described l e i r.0 r.1) name r.2
+
+-- each variant of an enum is an identifier
+pub variants_ident : (s : Settings) (l : Lowered) → verdict s l ≡ None → (e : AuxEnum) → IsIn e l.aux.enums
+    → (v : List ℕ × ℤ × List ℕ) → IsIn v e.variants → is_ident v.0 ≡ true
+variants_ident s l h e i v k =
+    let declared = no_bad s l h (bad_declared_name l.aux) (inr (inr (inl refl))) in
+    let enums = (neither_answer (first_of bad_class l.aux.structs) (first_of bad_enum l.aux.enums) declared).1 in
+    let variant = find (λ (v : List ℕ × ℤ × List ℕ). is_bad_variant v.0) e.variants in
+    let one = option_map (λ (v : List ℕ × ℤ × List ℕ). v.0) variant in
+    let bad = (neither_answer (bad_path e.namespace e.name) one (first_of-none bad_enum l.aux.enums e enums i)).1 in
+    let good = find-none (λ (v : List ℕ × ℤ × List ℕ). is_bad_variant v.0) e.variants v (option_map-none (λ (v : List ℕ × ℤ × List ℕ). v.0) variant bad) k in
+    not_false (is_ident v.0) (neither (is_proto_name v.0) (not (is_ident v.0)) good).1
+
+-- no import that the glue file defines is called `__proto__`
+pub import_named : (s : Settings) (l : Lowered) → verdict s l ≡ None → (name : List ℕ) → IsIn name (names_of s l) → is_proto_name name ≡ false
+import_named s l h name i =
+    let none = no_bad s l h (find is_proto_name (names_of s l)) (inr (inr (inr (inr (inr (inl refl)))))) in
+    find-none is_proto_name (names_of s l) name none i
+
+-- of what a described name brings where imports are kept none is one that the glue file binds
+kept_apart : (s : Settings) (l : Lowered) → verdict s l ≡ None → (name : JsImportName) → IsIn name (described_names l.aux) → (x : List ℕ)
+    → IsIn x (described_hosts false name) → IsAway x (fixed_names s l.«module»)
 unfolding answer
-kept_apart s l h e i name k =
+kept_apart s l h name i x k =
     let taken = fixed_names s l.«module» in
-    let given = omitted_names s.omit_imports l.aux.imports in
-    let twice = naming.taken_brought taken given in
-    let none = option_map-none faults.GlobalTwice (first_of twice l.aux.imports) (none_of conditions.GlobalTwice s l (search rules) h) in
-    let both = neither_answer (find (is_one_of taken) (brought false e.1)) (name_if (is_one_of given) (global_begun e.1)) (first_of-none twice l.aux.imports e none i) in
-    away name taken (find-none (is_one_of taken) (brought false e.1) name both.0 k)
+    let given = given_names s.omit_imports l.aux in
+    let twice = naming.taken_described taken given in
+    let none = option_map-none faults.GlobalTwice (first_of twice (described_names l.aux)) (none_of conditions.GlobalTwice s l (search rules) h) in
+    let both = neither_answer (find (is_one_of taken) (described_hosts false name)) (name_if (is_one_of given) (global_of name)) (first_of-none twice (described_names l.aux) name none i) in
+    away x taken (find-none (is_one_of taken) (described_hosts false name) x both.0 k)
 
 -- no name stands for two things
-no_clashes : (s : Settings) (l : Lowered) → verdict s l ≡ None → (naming.omitted_clash s l ≡ None) × (written_clash s l ≡ None)
+no_clashes : (s : Settings) (l : Lowered) → verdict s l ≡ None → (naming.given_clash s l ≡ None) × (written_clash s l ≡ None)
 unfolding answer name_clash
-no_clashes s l h = neither_answer (naming.omitted_clash s l) (written_clash s l) (none_of conditions.NameClash s l (search rules) h)
+no_clashes s l h = neither_answer (naming.given_clash s l) (written_clash s l) (none_of conditions.NameClash s l (search rules) h)
 
 -- of the module that is written
 no_written : (s : Settings) (l : Lowered) → verdict s l ≡ None → (one : Option Fault)
@@ -268,29 +334,28 @@ unfolding written_clash
 no_written s l h one i =
     some-none (naming.import_clash (names_of s l) ∷ naming.wasm_clash l.«module».exports ∷ naming.start_clash l.«module» ∷ []) one (no_clashes s l h).1 i
 
--- and of names from modules, by which imports are used where they are left out, none is
-omitted_apart : (s : Settings) (l : Lowered) → verdict s l ≡ None → (name : List ℕ) → IsIn name (omitted_names s.omit_imports l.aux.imports)
+-- and no given name is one that the glue file binds
+pub given_apart : (s : Settings) (l : Lowered) → verdict s l ≡ None → (name : List ℕ) → IsIn name (given_names s.omit_imports l.aux)
     → IsAway name (fixed_names s l.«module»)
-omitted_apart s l h name i =
-    let names = omitted_names s.omit_imports l.aux.imports in
+given_apart s l h name i =
+    let names = given_names s.omit_imports l.aux in
     let none = option_map-none faults.NameClash (first_clash_after bytes_eq (other_names s l) names) (no_clashes s l h).0 in
     away name (fixed_names s l.«module») (none_fixed s l names name none i)
 
--- so none that it brings is one that the glue file binds
-pub brought_apart : (s : Settings) (l : Lowered) → verdict s l ≡ None → (e : ℕ × AuxImport) → IsIn e l.aux.imports → (name : List ℕ)
-    → IsIn name (brought s.omit_imports e.1) → IsAway name (fixed_names s l.«module»)
-brought_apart s l h e i name k = elim (either_brought s.omit_imports l.aux.imports e i name k) [
-  | inl here ↦ kept_apart s l h e i name here
-  | inr named ↦ omitted_apart s l h name named
+-- so none that a described name brings is one that the glue file binds
+pub described_apart : (s : Settings) (l : Lowered) → verdict s l ≡ None → (name : JsImportName) → IsIn name (described_names l.aux) → (x : List ℕ)
+    → IsIn x (described_hosts s.omit_imports name) → IsAway x (fixed_names s l.«module»)
+described_apart s l h name i x k = elim (either_host s.omit_imports name x k) [
+  | inl here ↦ kept_apart s l h name i x here
+  | inr named ↦ given_apart s l h x (omitted_given s.omit_imports l.aux name i x named)
 ]
 
--- no import that the glue file defines is called `__proto__`
-pub import_named : (s : Settings) (l : Lowered) → verdict s l ≡ None → (name : List ℕ) → IsIn name (names_of s l) → naming.is_proto name ≡ false
-unfolding bad_text
-import_named s l h name i =
-    let bad = first_of (naming.bad_brought s.omit_imports) l.aux.imports in
-    let none = some-none (first_of naming.bad_segment l.aux.exports ∷ bad ∷ find naming.is_proto (names_of s l) ∷ []) (find naming.is_proto (names_of s l)) (no_texts s l h) (inr (inr (inl refl))) in
-    find-none naming.is_proto (names_of s l) name none i
+-- nor one that an import brings
+pub brought_apart : (s : Settings) (l : Lowered) → verdict s l ≡ None → (e : ℕ × AuxImport) → IsIn e l.aux.imports → (name : List ℕ)
+    → IsIn name (brought s.omit_imports e.1) → IsAway name (fixed_names s l.«module»)
+brought_apart s l h e i name k =
+    let r = from_flat (described_hosts s.omit_imports) (names.names_of (js_import e.1)) name k in
+    described_apart s l h r.0 (begun_described l e i r.0 r.1) name r.2
 
 -- ---- things of one name
 
@@ -368,10 +433,19 @@ foreign_apart s l h k i e foreign claim c =
     let unfound : found ≡ None = ap (λ b. cond b None found) (sym foreign) ∙ clash in
     find-none (modules.is_from paired k i) (modules.claims s l) claim (option_map-none (λ (claim : Claimed). claim.name) (find (modules.is_from paired k i) (modules.claims s l)) unfound) c
 
--- ---- paths
+-- ---- what is published
 
--- no two exported functions have one path
-pub compatible_paths : (s : Settings) (l : Lowered) → verdict s l ≡ None → AreCompatible publishing.same_path l.aux.exports
+-- no two published things clash
+pub things_apart : (s : Settings) (l : Lowered) → verdict s l ≡ None → thing_clash s l.aux ≡ None
 unfolding answer
-compatible_paths s l h =
-    compatible publishing.same_path l.aux.exports (option_map-none (λ e. faults.ExportClash (publishing.qualified e)) (first_clash publishing.same_path l.aux.exports) (none_of conditions.ExportClash s l (search rules) h))
+things_apart s l h = none_of conditions.ExportClash s l (search rules) h
+
+-- nothing is published under a name that the glue file publishes itself
+pub things_unfixed : (s : Settings) (l : Lowered) → verdict s l ≡ None → fixed_thing s (names_of s l) l.aux ≡ None
+unfolding answer
+things_unfixed s l h = none_of conditions.FixedExport s l (search rules) h
+
+-- each re-export can be one
+pub reexports_fit : (s : Settings) (l : Lowered) → verdict s l ≡ None → bad_reexport s l.aux ≡ None
+unfolding answer
+reexports_fit s l h = none_of conditions.BadReexport s l (search rules) h

@@ -2,18 +2,13 @@
 use Rattle.std.proofs.Common.{◌≡◌, Bool, true, false, not, ◌||◌, cond, List, [], ◌∷◌, ◌++◌, refl, ap, sym, ◌∙◌}
 use Rattle.std.specs.Prelude.{filter, is_some, None, Some, Option}
 use Rattle.std.specs.BTreeMap.{insert_entry}
-use Rattle.std.specs.List.{list_any}
 use Rattle.std.proofs.lemmas.List.Elements.{filter-append}
 use Rattle.std.proofs.lemmas.List.Folds.{list_any-append}
 use Rattle.values.specs.Map.{look_up}
 use Rattle.values.proofs.Maps.{look_up_inserted}
 use Rattle.glue_shared.specs.declared.import.JsImportName.{JsImportName}
-use Rattle.glue_check.specs.Once.{import_order, is_same, each_once}
+use Rattle.glue_check.specs.Once.{import_order, is_same, has_name, each_once, each_new}
 use Rattle.glue_check.proofs.ImportOrder.{import_order_total}
-
--- the name is one of these
-abbrev pub has_name : JsImportName → List JsImportName → Bool
-has_name name names = list_any (is_same name) names
 
 -- a name that came before isn't added, whatever is left out
 left : (p : JsImportName → Bool) (x : JsImportName) (same has : Bool) → p x ≡ not same → filter p (cond has [] (x ∷ [])) ≡ cond (same || has) [] (x ∷ [])
@@ -50,3 +45,13 @@ seen-push es v xs x h q =
     ∙ ap (λ b. b || is_same q x) (h q)
     ∙ ap (λ b. has_name q xs || b) (sym (or_none (is_same q x)))
     ∙ sym (list_any-append (is_same q) xs (x ∷ []))
+
+-- of names that haven't come before, with one more
+pub new-push : (before xs : List JsImportName) (x : JsImportName)
+    → each_new before (xs ++ x ∷ []) ≡ each_new before xs ++ cond (has_name x (before ++ xs)) [] (x ∷ [])
+new-push before xs x =
+    let new : JsImportName → Bool = λ name. not (has_name name before) in
+    ap (filter new) (once-push xs x)
+    ∙ filter-append new (each_once xs) (cond (has_name x xs) [] (x ∷ []))
+    ∙ ap (λ (zs : List JsImportName). each_new before xs ++ zs) (left new x (has_name x before) (has_name x xs) refl)
+    ∙ ap (λ b. each_new before xs ++ cond b [] (x ∷ [])) (sym (list_any-append (is_same x) before xs))

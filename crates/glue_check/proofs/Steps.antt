@@ -5,7 +5,6 @@ use Rattle.std.specs.Prelude.{◌||◌, cond, option_and_then, option_map, IsSom
 use Rattle.std.specs.List.{AllByRecursion, list_any, list_all, filter_map, find}
 use Rattle.std.specs.Option.{is_some}
 use Rattle.std.proofs.lemmas.Bool.{and_parts, eqb-true}
-use Rattle.std.proofs.lemmas.Bool.Decides.{nat_tests}
 use Rattle.values.specs.Lists.{IsIn}
 use Rattle.wasm_core.specs.ids.ImportId.{ImportId}
 use Rattle.wasm_core.specs.entries.Export.{Export}

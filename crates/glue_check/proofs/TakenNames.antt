@@ -1,8 +1,8 @@
 -- Names that are put into a set one list after another, and what is asked of such a set.
-use Rattle.std.proofs.Common.{◌≡◌, ℕ, zero, suc, ◌+◌, ◌-◌, ◌<◌, List, [], ◌∷◌, ◌++◌, map, length, drop, get_or, codes, Bool, true, false, ◌&&◌, ◌||◌, not, Option, Some, None, refl, sym, ap, ◌∙◌, arith, add-one, drop-cons}
+use Rattle.std.proofs.Common.{◌≡◌, ℕ, zero, suc, ◌+◌, ◌-◌, ◌<◌, List, [], ◌∷◌, ◌++◌, map, length, drop, get_or, codes, Bool, true, false, ◌||◌, Option, Some, None, refl, sym, ap, ◌∙◌, arith, add-one, drop-cons}
 use Rattle.std.specs.Fmt.{decimal}
-use Rattle.std.specs.Prelude.{cond, find, option_and_then}
-use Rattle.std.specs.List.{list_any, flat_map}
+use Rattle.std.specs.Prelude.{cond, find}
+use Rattle.std.specs.List.{flat_map}
 use Rattle.std.specs.Option.{option_or}
 use Rattle.std.specs.Ordering.{nat_cmp}
 use Rattle.std.specs.Cmp.Lexicographic.{slice_cmp}
@@ -16,13 +16,14 @@ use Rattle.glue_scope.proofs.Drawn.{with_texts-append}
 use Rattle.glue_shared.specs.declared.aux.WasmBindgenAux.{WasmBindgenAux}
 use Rattle.glue_shared.specs.declared.import.AuxImport.{AuxImport}
 use Rattle.glue_shared.specs.declared.import.JsImport.{JsImport}
+use Rattle.glue_shared.specs.declared.import.JsImportName.{JsImportName}
 use Rattle.glue_shared.specs.declared.names.TheConstants.{HOSTS, HELPER_NAMES, MEMORY_NAMES, TABLE_NAMES, TARGET_NAMES}
 use Rattle.glue_shared.specs.declared.settings.Settings.{Settings}
 use Rattle.glue_shared.specs.Names.{is_one_of, names_of, js_import, described_names, described_hosts, target_hosts, inspect_names, host_names, placed_names, import_names, live_count, global_names, helper_names, fixed_names}
 use Rattle.glue_faults.specs.First.{first_of, where_true}
 use Rattle.glue_faults.proofs.Clashes.{told_more}
-use Rattle.glue_check.specs.Naming.{taken_brought}
-use Rattle.glue_check.specs.Taken.{brought, global_begun, global_of, name_if, numbered_by, entry_names, brought_in}
+use Rattle.glue_check.specs.Naming.{taken_described}
+use Rattle.glue_check.specs.Taken.{brought, global_of, name_if, numbered_by, entry_names, taken_in}
 
 -- ---- lists that are put in one after another
 
@@ -42,13 +43,6 @@ brought_some omitted what js h = ap (λ o. flat_map (described_hosts omitted) (n
 
 pub brought_none : (omitted : Bool) (what : AuxImport) → js_import what ≡ None → brought omitted what ≡ []
 brought_none omitted what h = ap (λ o. flat_map (described_hosts omitted) (names_of o)) h
-
--- the global that an import begins with, where it begins with a name and where it begins with none
-pub global_some : (what : AuxImport) (js : JsImport) → js_import what ≡ Some js → global_begun what ≡ global_of js.name
-global_some what js h = ap (option_and_then (λ (js : JsImport). global_of js.name)) h
-
-pub global_none : (what : AuxImport) → js_import what ≡ None → global_begun what ≡ None
-global_none what h = ap (option_and_then (λ (js : JsImport). global_of js.name)) h
 
 flat_twice : {A B C : Type 0} (f : B → List C) (g : A → List B) (xs : List A) → flat_map f (flat_map g xs) ≡ flat_map (λ x. flat_map f (g x)) xs
 flat_twice f g [] = refl
@@ -170,19 +164,20 @@ named_alike : (f g : List ℕ → Bool) → ((x : List ℕ) → f x ≡ g x) →
 named_alike f g same None = refl
 named_alike f g same (Some x) = ap (λ (b : Bool). where_true b x) (same x)
 
-brought_alike : (names others : List (List ℕ)) (entry : ℕ × AuxImport)
-    → brought_in (with_texts set.empty names) (with_texts set.empty others) entry ≡ taken_brought names others entry
-brought_alike names others entry =
+taken_alike : (names others : List (List ℕ)) (described : JsImportName)
+    → taken_in (with_texts set.empty names) (with_texts set.empty others) described ≡ taken_described names others described
+taken_alike names others described =
     let test : List (List ℕ) → List ℕ → Bool = λ list. set.contains (with_texts set.empty list) in
     let same : (list : List (List ℕ)) (name : List ℕ) → test list name ≡ is_one_of list name = λ list name. in_set list name ∙ or_false (is_one_of list name) in
-    ap (λ o. option_or o (name_if (test others) (global_begun entry.1))) (found_alike (test names) (is_one_of names) (same names) (brought false entry.1))
-    ∙ ap (option_or (find (is_one_of names) (brought false entry.1))) (named_alike (test others) (is_one_of others) (same others) (global_begun entry.1))
+    let hosts = described_hosts false described in
+    ap (λ o. option_or o (name_if (test others) (global_of described))) (found_alike (test names) (is_one_of names) (same names) hosts)
+    ∙ ap (option_or (find (is_one_of names) hosts)) (named_alike (test others) (is_one_of others) (same others) (global_of described))
 
 -- the first name that is taken or given by the sets is the first by the lists
-pub brought_same : (taken given : TextSet) (names others : List (List ℕ)) (entries : List (ℕ × AuxImport))
+pub taken_same : (taken given : TextSet) (names others : List (List ℕ)) (described : List JsImportName)
     → taken ≡ with_texts set.empty names → given ≡ with_texts set.empty others
-    → first_of (brought_in taken given) entries ≡ first_of (taken_brought names others) entries
-brought_same taken given names others entries is are =
-    ap (λ (t : TextSet). first_of (brought_in t given) entries) is
-    ∙ ap (λ (t : TextSet). first_of (brought_in (with_texts set.empty names) t) entries) are
-    ∙ first_alike (brought_in (with_texts set.empty names) (with_texts set.empty others)) (taken_brought names others) (brought_alike names others) entries
+    → first_of (taken_in taken given) described ≡ first_of (taken_described names others) described
+taken_same taken given names others described is are =
+    ap (λ (t : TextSet). first_of (taken_in t given) described) is
+    ∙ ap (λ (t : TextSet). first_of (taken_in (with_texts set.empty names) t) described) are
+    ∙ first_alike (taken_in (with_texts set.empty names) (with_texts set.empty others)) (taken_described names others) (taken_alike names others) described

@@ -2,9 +2,13 @@
 use Rattle.std.specs.Prelude.{Option}
 use Rattle.glue_shared.specs.declared.description.Lowered.{Lowered}
 use Rattle.glue_shared.specs.declared.settings.Settings.{Settings}
+use Rattle.glue_shared.specs.Names.{own_names}
 use Rattle.glue_faults.specs.declared.fault.Fault.{Fault}
 use Rattle.glue_adapters.specs.Adapters.{unsupported}
 use Rattle.glue_adapters.specs.Pairs.{bad_adapter, unbound_import}
+use Rattle.glue_published.specs.Clash.{thing_clash}
+use Rattle.glue_published.specs.Fixed.{fixed_thing}
+use Rattle.glue_published.specs.Reexports.{bad_reexport}
 use Rattle.glue_check.specs.declared.files.FileFlags.{FileFlags}
 use Rattle.glue_check.specs.declared.verdict.Condition.{Condition}
 use Rattle.glue_check.specs.declared.verdict.Condition.TheVariants as conditions
@@ -12,7 +16,6 @@ use Rattle.glue_check.specs.Links.{link_not_embedded}
 use Rattle.glue_check.specs.Missing.{missing_part}
 use Rattle.glue_check.specs.Modules.{module_clash}
 use Rattle.glue_check.specs.Naming.{bad_name, global_twice, name_clash}
-use Rattle.glue_check.specs.Publishing.{export_clash, fixed_export}
 use Rattle.glue_check.specs.TargetValues.{intrinsic_target}
 use Rattle.glue_check.specs.Unbuilt.{unbuilt_target, unbuilt_imports, unbuilt_exports, unbuilt_instructions, unbuilt_classes, unbuilt_settings, unbuilt_lifecycle, unbuilt_files}
 use Rattle.glue_check.specs.Verdict.{threads, package_json}
@@ -36,8 +39,9 @@ answer files settings l conditions.BadName = bad_name settings l
 answer files settings l conditions.GlobalTwice = global_twice settings l
 answer files settings l conditions.NameClash = name_clash settings l
 answer files settings l conditions.ModuleClash = module_clash settings l
-answer files settings l conditions.ExportClash = export_clash l.aux
-answer files settings l conditions.FixedExport = fixed_export settings l
+answer files settings l conditions.ExportClash = thing_clash settings l.aux
+answer files settings l conditions.FixedExport = fixed_thing settings (own_names settings l.«module» l.wit l.aux) l.aux
+answer files settings l conditions.BadReexport = bad_reexport settings l.aux
 answer files settings l conditions.IntrinsicTarget = intrinsic_target settings l
 answer files settings l conditions.LinkNotEmbedded = link_not_embedded settings l
 answer files settings l conditions.MissingPart = missing_part settings l

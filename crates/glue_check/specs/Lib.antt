@@ -1,5 +1,6 @@
 pub mod Answers
 pub mod FaultKinds
+pub mod Given
 pub mod Handed
 pub mod Links
 pub mod Missing

@@ -8,7 +8,6 @@ use Rattle.glue_shared.specs.declared.import.Intrinsic.{Intrinsic}
 use Rattle.glue_shared.specs.declared.import.Intrinsic.TheVariants as i
 use Rattle.glue_shared.specs.declared.description.Lowered.{Lowered}
 use Rattle.glue_shared.specs.declared.settings.Settings.{Settings}
-use Rattle.glue_shared.specs.Roots.{first_memory}
 use Rattle.glue_imports.specs.Given.{given_item}
 use Rattle.glue_faults.specs.declared.fault.Fault.{Fault}
 use Rattle.glue_faults.specs.declared.fault.Fault.TheVariants as faults

@@ -1,12 +1,11 @@
 -- Names that are taken, as a set.
-use Rattle.std.specs.Prelude.{ℕ, Bool, false, List, [], ◌++◌, map, Option, Some, None, find, option_and_then}
+use Rattle.std.specs.Prelude.{ℕ, Bool, false, List, [], ◌++◌, map, Option, Some, None, find}
 use Rattle.std.specs.Fmt.{decimal}
 use Rattle.std.specs.List.{flat_map}
 use Rattle.std.specs.Option.{option_or}
 use Rattle.std.specs.FinSet as set
 use Rattle.values.specs.TextSet.{TextSet, with_texts}
 use Rattle.glue_shared.specs.declared.import.AuxImport.{AuxImport}
-use Rattle.glue_shared.specs.declared.import.JsImport.{JsImport}
 use Rattle.glue_shared.specs.declared.import.JsImportName.{JsImportName}
 use Rattle.glue_shared.specs.declared.import.JsImportName.TheVariants as names
 use Rattle.glue_shared.specs.declared.settings.Settings.{Settings}
@@ -36,15 +35,11 @@ abbrev pub global_of : JsImportName → Option (List ℕ)
 global_of (names.Global name) = Some name
 global_of other = None
 
--- the global that an import begins with
-abbrev pub global_begun : AuxImport → Option (List ℕ)
-global_begun what = option_and_then (λ (js : JsImport). global_of js.name) (js_import what)
-
 -- the name, where there is one that passes a test
 abbrev pub name_if : (List ℕ → Bool) → Option (List ℕ) → Option (List ℕ)
 name_if test None = None
 name_if test (Some name) = where_true (test name) name
 
--- the first name of the outside that an import brings where imports are kept and that is taken, or the global, where that is given to another
-abbrev pub brought_in : (taken given : TextSet) → ℕ × AuxImport → Option (List ℕ)
-brought_in taken given entry = option_or (find (set.contains taken) (brought false entry.1)) (name_if (set.contains given) (global_begun entry.1))
+-- the first name of the outside that a described name brings where imports are kept and that is taken, or the global, where that is given
+abbrev pub taken_in : (taken given : TextSet) → JsImportName → Option (List ℕ)
+taken_in taken given name = option_or (find (set.contains taken) (described_hosts false name)) (name_if (set.contains given) (global_of name))

@@ -100,21 +100,9 @@ is_function_kind export_kinds.FunctionThis = true
 is_function_kind export_kinds.Constructor = false
 is_function_kind (export_kinds.Method m) = false
 
--- a text that isn't empty
-abbrev pub has_text : Option (List ℕ) → Bool
-has_text None = false
-has_text (Some text) = is_some_item text
-
--- an export in a namespace, or one with comments
-unfoldable pub is_unbuilt_export : AuxExport → Bool
-is_unbuilt_export e = is_some_item e.namespace || has_text e.comments
-
--- such exports, enums and re-exports
+-- re-exports
 abbrev pub unbuilt_exports : Lowered → Option Fault
-unbuilt_exports l = where_true (
-    list_any is_unbuilt_export l.aux.exports
-    || (is_some_item l.aux.enums || (is_some_item l.aux.string_enums || is_some_item l.aux.reexports))
-    ) (faults.NotBuilt (codes "exports"))
+unbuilt_exports l = where_true (is_some_item l.aux.reexports) (faults.NotBuilt (codes "exports"))
 
 -- ---- instructions
 

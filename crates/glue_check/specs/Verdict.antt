@@ -6,18 +6,21 @@ use Rattle.wasm_core.specs.declared.types.Memory.{Memory}
 use Rattle.glue_shared.specs.declared.aux.WasmBindgenAux.{WasmBindgenAux}
 use Rattle.glue_shared.specs.declared.description.Lowered.{Lowered}
 use Rattle.glue_shared.specs.declared.settings.Settings.{Settings}
+use Rattle.glue_shared.specs.Names.{own_names}
 use Rattle.glue_adapters.specs.Resolving.{is_some_item}
 use Rattle.glue_faults.specs.declared.fault.Fault.{Fault}
 use Rattle.glue_faults.specs.declared.fault.Fault.TheVariants as faults
 use Rattle.glue_faults.specs.First.{first_some, where_true}
 use Rattle.glue_adapters.specs.Adapters.{unsupported}
 use Rattle.glue_adapters.specs.Pairs.{bad_adapter, unbound_import}
+use Rattle.glue_published.specs.Clash.{thing_clash}
+use Rattle.glue_published.specs.Fixed.{fixed_thing}
+use Rattle.glue_published.specs.Reexports.{bad_reexport}
 use Rattle.glue_check.specs.declared.files.FileFlags.{FileFlags}
 use Rattle.glue_check.specs.Links.{link_not_embedded}
 use Rattle.glue_check.specs.Missing.{missing_part}
 use Rattle.glue_check.specs.Modules.{module_clash}
 use Rattle.glue_check.specs.Naming.{bad_name, global_twice, name_clash}
-use Rattle.glue_check.specs.Publishing.{export_clash, fixed_export}
 use Rattle.glue_check.specs.TargetValues.{intrinsic_target}
 use Rattle.glue_check.specs.Unbuilt.{unbuilt_target, unbuilt_imports, unbuilt_exports, unbuilt_instructions, unbuilt_classes, unbuilt_settings, unbuilt_lifecycle, unbuilt_files}
 
@@ -46,8 +49,9 @@ verdict settings l = first_some (
     ∷ global_twice settings l
     ∷ name_clash settings l
     ∷ module_clash settings l
-    ∷ export_clash l.aux
-    ∷ fixed_export settings l
+    ∷ thing_clash settings l.aux
+    ∷ fixed_thing settings (own_names settings l.«module» l.wit l.aux) l.aux
+    ∷ bad_reexport settings l.aux
     ∷ intrinsic_target settings l
     ∷ link_not_embedded settings l
     ∷ missing_part settings l

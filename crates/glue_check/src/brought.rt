@@ -1,11 +1,11 @@
-//! The names of the outside that described imports bring, as a list.
+//! The names of the outside that described names bring, as a list.
 ghost use Rattle.std.specs.Prelude.{◌≡◌, ◌++◌, IfOk, OnOk, map};
 ghost use Rattle.std.specs.Option.{option_copied};
 ghost use Rattle.glue_shared.specs.Names as names;
 ghost use Rattle.glue_check.specs.Taken as spec;
 
 use crate::omitted::push_where;
-use glue_shared::{AuxImport, JsImportName, js_import};
+use glue_shared::JsImportName;
 use std::alloc::{AllocError, Global};
 use values::{Duplicate, Seq, Text};
 
@@ -43,8 +43,8 @@ fn push_prefixed(
     Ok(())
 }
 
-// The names of the outside that a described name brings, where imports are left out or kept.
-fn described_hosts(
+/// The names of the outside that a described name brings, where imports are left out or kept. Want of memory is the only error.
+pub(crate) fn described_hosts(
     alloc: Global,
     omitted: bool,
     described: &JsImportName,
@@ -65,38 +65,12 @@ fn described_hosts(
     Ok(hosts)
 }
 
-/// The names of the outside that what an import evaluates brings, where imports are left out or kept. Want of memory is the only error.
-#[tactic(auto, using(crate::proofs::TakenNames::brought_none, crate::proofs::TakenNames::brought_some))]
-pub(crate) fn brought(
-    alloc: Global,
-    omitted: bool,
-    what: &AuxImport,
-) -> Result<Seq<Text>, AllocError>
-    ensures names { IfOk result (λ names. names ≡ spec.brought omitted what.now) }
-{
-    match js_import(what) {
-        None => Ok(Seq::new(alloc)),
-        Some(js) => described_hosts(alloc, omitted, &js.name),
-    }
-}
-
-// The name of a global.
-fn global_of(name: &JsImportName) -> Option<&Text>
+/// The name of a global, where a described name is one. There is no error.
+pub(crate) fn global_of(name: &JsImportName) -> Option<&Text>
     ensures global { option_copied result ≡ spec.global_of name.now }
 {
     match name {
         JsImportName::Global { name } => Some(name),
         _ => None,
-    }
-}
-
-/// The global that an import begins with, where it begins with one.
-#[tactic(auto, using(crate::proofs::TakenNames::global_none, crate::proofs::TakenNames::global_some))]
-pub(crate) fn global_begun(what: &AuxImport) -> Option<&Text>
-    ensures global { option_copied result ≡ spec.global_begun what.now }
-{
-    match js_import(what) {
-        None => None,
-        Some(js) => global_of(&js.name),
     }
 }

@@ -1,36 +1,38 @@
 //! Names that can't stand where they would have to, and things of one name.
-ghost use Rattle.std.specs.Prelude.{◌≡◌, ℕ, List, Option, IfOk, find, not};
+ghost use Rattle.std.specs.Prelude.{◌≡◌, IfOk, bytes_eq, find, not, option_map};
 ghost use Rattle.std.specs.List.{list_any};
+ghost use Rattle.glue_faults.specs.Clash.{first_clash_after};
 ghost use Rattle.glue_faults.specs.declared.fault.Fault.TheVariants as faults;
 ghost use Rattle.std.specs.Option.{option_copied};
 ghost use Rattle.std.specs.FinSet as set;
 ghost use Rattle.values.specs.TextSet.{with_texts};
 ghost use Rattle.glue_faults.specs.First as first;
 ghost use Rattle.glue_words.specs.Ident.{is_ident};
-ghost use Rattle.glue_shared.specs.Names.{fixed_names};
+ghost use Rattle.glue_published.specs.Named.{is_proto_name};
+ghost use Rattle.glue_shared.specs.Names as names;
+ghost use Rattle.glue_shared.specs.Names.{fixed_names, names_of};
+ghost use Rattle.glue_check.specs.Given as given_spec;
+ghost use Rattle.glue_check.specs.Given.{other_names};
 ghost use Rattle.glue_check.specs.Naming as spec;
-ghost use Rattle.glue_check.specs.Omitted.{omitted_names, other_names};
-ghost use Rattle.glue_check.specs.Taken.{brought_in, global_begun, name_if};
+ghost use Rattle.glue_check.specs.Taken.{global_of, name_if, taken_in};
 
-use crate::brought::{brought, copied, global_begun};
+use crate::brought::{copied, described_hosts, global_of};
 use crate::clash::{Claim, first_clash, first_met};
-use crate::omitted::{kept, omitted_names};
+use crate::given::{given_names, kept, values_name};
+use crate::omitted::{begun, push_reexported};
 use crate::own::own_names;
 use crate::taken::{taken_names, with_each, with_fixed};
 use glue_faults::Fault;
+use glue_published::{bad_declared_name, bad_export_name, is_proto_name};
 use glue_scope::{IdentScope, Names};
-use glue_shared::{AdapterId, AuxExport, AuxImport, Lowered, Settings, WasmBindgenAux};
+use glue_shared::{
+    AdapterId, AuxImport, AuxStringEnum, JsImport, JsImportName, Lowered, Settings, WasmBindgenAux,
+    js_import,
+};
 use glue_words::is_valid_ident;
 use std::alloc::{AllocError, Global};
-use values::{Duplicate, Text};
+use values::{Duplicate, Seq, Text};
 use wasm_core::{Export, Module};
-
-// Whether an object can't hold the name.
-fn is_proto(name: &str) -> bool
-    ensures test { result ≡ spec.is_proto name.now }
-{
-    name == "__proto__"
-}
 
 /// The name, where a test holds.
 pub(crate) fn where_true(test: bool, name: &Text) -> Option<&Text>
@@ -41,33 +43,9 @@ pub(crate) fn where_true(test: bool, name: &Text) -> Option<&Text>
 
 // The first of the texts that an object can't hold as a name.
 fn first_proto(texts: &[Text]) -> Option<&Text>
-    ensures first { option_copied result ≡ find spec.is_proto texts.now }
+    ensures first { option_copied result ≡ find is_proto_name texts.now }
 {
-    texts.iter().find(|text| is_proto(text.as_str()))
-}
-
-// The first segment or name of an export that an object can't hold.
-fn bad_segment(export: &AuxExport) -> Option<&Text>
-    ensures bad { option_copied result ≡ spec.bad_segment export.now }
-{
-    let segment = first_proto(export.namespace.as_slice());
-    if segment.is_some() {
-        return segment;
-    }
-    where_true(is_proto(export.name.as_str()), &export.name)
-}
-
-// The first such of these exports.
-fn first_bad_segment(exports: &[AuxExport]) -> Option<&Text>
-    ensures first { option_copied result ≡ first.first_of spec.bad_segment exports.now }
-{
-    for export in exports {
-        let name = bad_segment(export);
-        if name.is_some() {
-            return name;
-        }
-    }
-    None
+    texts.iter().find(|text| is_proto_name(text.as_str()))
 }
 
 // The first of these names that is no identifier.
@@ -77,28 +55,95 @@ fn first_not_ident(names: &[Text]) -> Option<&Text>
     names.iter().find(|name| !is_valid_ident(name.as_str()))
 }
 
-// The first name of the outside that an import brings and that is no identifier.
-fn bad_brought(
+// The first name of the outside that a described name brings and that is no identifier.
+fn bad_described(
     alloc: Global,
     omitted: bool,
-    entry: &(AdapterId, AuxImport),
+    described: &JsImportName,
 ) -> Result<Option<Text>, AllocError>
-    ensures bad { IfOk result (λ bad. bad ≡ spec.bad_brought omitted entry.now) }
+    ensures bad { IfOk result (λ bad. bad ≡ spec.bad_described omitted described.now) }
 {
-    let names = brought(alloc, omitted, &entry.1)?;
-    copied(alloc, first_not_ident(names.as_slice()))
+    let hosts = described_hosts(alloc, omitted, described)?;
+    copied(alloc, first_not_ident(hosts.as_slice()))
+}
+
+// The first such name of what an import begins with.
+fn bad_import(alloc: Global, omitted: bool, what: &AuxImport) -> Result<Option<Text>, AllocError>
+    ensures bad { IfOk result (λ bad. bad ≡ first.first_of (spec.bad_described omitted) (names_of (names.js_import what.now))) }
+{
+    match js_import(what) {
+        None => Ok(None),
+        Some(js) => bad_described(alloc, omitted, &js.name),
+    }
 }
 
 // The first such of these imports.
-fn first_bad_brought(
+fn first_bad_import(
     alloc: Global,
     omitted: bool,
     entries: &[(AdapterId, AuxImport)],
 ) -> Result<Option<Text>, AllocError>
-    ensures first { IfOk result (λ found. found ≡ first.first_of (spec.bad_brought omitted) entries.now) }
+    ensures first { IfOk result (λ found. found ≡ first.first_of (spec.bad_import omitted) entries.now) }
 {
     for entry in entries {
-        let name = bad_brought(alloc, omitted, entry)?;
+        let name = bad_import(alloc, omitted, &entry.1)?;
+        if name.is_some() {
+            return Ok(name);
+        }
+    }
+    Ok(None)
+}
+
+// The name of a string enum's values, where it is no identifier.
+#[tactic(auto, unfolding(crate::specs::Naming::bad_values))]
+fn bad_values(alloc: Global, texts: &AuxStringEnum) -> Result<Option<Text>, AllocError>
+    ensures bad { IfOk result (λ bad. bad ≡ spec.bad_values texts.now) }
+{
+    let name = values_name(alloc, texts)?;
+    if is_valid_ident(name.as_str()) {
+        Ok(None)
+    } else {
+        Ok(Some(name))
+    }
+}
+
+// The first such of these.
+fn first_bad_values(alloc: Global, enums: &[AuxStringEnum]) -> Result<Option<Text>, AllocError>
+    ensures first { IfOk result (λ found. found ≡ first.first_of spec.bad_values enums.now) }
+{
+    for texts in enums {
+        let name = bad_values(alloc, texts)?;
+        if name.is_some() {
+            return Ok(name);
+        }
+    }
+    Ok(None)
+}
+
+// The name of a re-export that no object can hold, or the first name of the outside that its import brings and that is no identifier.
+fn bad_reexported(
+    alloc: Global,
+    omitted: bool,
+    entry: &(Text, JsImport, bool),
+) -> Result<Option<Text>, AllocError>
+    ensures bad { IfOk result (λ bad. bad ≡ spec.bad_reexported omitted entry.now) }
+{
+    if is_proto_name(entry.0.as_str()) {
+        return Ok(Some(entry.0.copy(alloc)?));
+    }
+    bad_described(alloc, omitted, &entry.1.name)
+}
+
+// The first such of these re-exports.
+fn first_bad_reexported(
+    alloc: Global,
+    omitted: bool,
+    entries: &[(Text, JsImport, bool)],
+) -> Result<Option<Text>, AllocError>
+    ensures first { IfOk result (λ found. found ≡ first.first_of (spec.bad_reexported omitted) entries.now) }
+{
+    for entry in entries {
+        let name = bad_reexported(alloc, omitted, entry)?;
         if name.is_some() {
             return Ok(name);
         }
@@ -116,20 +161,34 @@ fn bad_text(
 ) -> Result<Option<Text>, AllocError>
     ensures bad { IfOk result (λ bad. bad ≡ spec.bad_text omitted own.now aux.now) }
 {
-    let exported = first_bad_segment(aux.exports.as_slice());
+    let exported = bad_export_name(aux.exports.as_slice());
     if exported.is_some() {
         return copied(alloc, exported);
     }
-    let imported = first_bad_brought(alloc, omitted, aux.imports.as_slice())?;
+    let imported = first_bad_import(alloc, omitted, aux.imports.as_slice())?;
     if imported.is_some() {
         return Ok(imported);
+    }
+    let declared = bad_declared_name(aux);
+    if declared.is_some() {
+        return copied(alloc, declared);
+    }
+    let values = first_bad_values(alloc, aux.string_enums.as_slice())?;
+    if values.is_some() {
+        return Ok(values);
+    }
+    let reexported = first_bad_reexported(alloc, omitted, aux.reexports.as_slice())?;
+    if reexported.is_some() {
+        return Ok(reexported);
     }
     copied(alloc, first_proto(own))
 }
 
-/// The first bad name: a segment or name of an export that is `__proto__`, a described global, a vendor's name with or without one of its
-/// prefixes, or where imports are left out a name from a module, that is no identifier, or an import of the name `__proto__` that the glue file
-/// defines. Want of memory is the only error.
+/// The first name that can't stand where it would have to: a segment or name of an export, a class or an enum that is `__proto__`; a variant
+/// of an enum that is `__proto__` or no identifier; the name of a string enum's values that is no identifier; a described global, a vendor's
+/// name with or without one of its prefixes, or where imports are left out a name from a module, that is no identifier; a re-export or an
+/// import that the glue file defines of the name `__proto__`. They come in the order of the description, and the module's imports last. Want
+/// of memory is the only error.
 pub fn bad_name(
     alloc: Global,
     settings: &Settings,
@@ -151,44 +210,45 @@ fn first_bound<'a, N: Names>(taken: &N, names: &'a [Text]) -> Option<&'a Text>
     names.iter().find(|name| taken.is_bound(name.as_str()))
 }
 
-// The global that an import begins with, where that is given to another import.
-fn given_global<'a, N: Names>(given: &N, what: &'a AuxImport) -> Option<&'a Text>
-    ensures name { option_copied result ≡ name_if (set.contains (N.bound given.now)) (global_begun what.now) }
+// The global that a described name is, where that is given to something else.
+fn given_global<'a, N: Names>(given: &N, described: &'a JsImportName) -> Option<&'a Text>
+    ensures name { option_copied result ≡ name_if (set.contains (N.bound given.now)) (global_of described.now) }
 {
-    let name = global_begun(what)?;
+    let name = global_of(described)?;
     where_true(given.is_bound(name.as_str()), name)
 }
 
-// The first name of the outside that an import brings and that the glue file may bind, or the global, where that is given to another import.
-fn taken_brought<N: Names>(
+// The first name of the outside that a described name brings and that the glue file may bind, or the global, where that is given to something
+// else.
+fn taken_described<N: Names>(
     alloc: Global,
     taken: &N,
     given: &N,
-    entry: &(AdapterId, AuxImport),
+    described: &JsImportName,
 ) -> Result<Option<Text>, AllocError>
-    ensures name { IfOk result (λ name. name ≡ brought_in (N.bound taken.now) (N.bound given.now) entry.now) }
+    ensures name { IfOk result (λ name. name ≡ taken_in (N.bound taken.now) (N.bound given.now) described.now) }
 {
-    let names = brought(alloc, false, &entry.1)?;
+    let names = described_hosts(alloc, false, described)?;
     let found = first_bound(taken, names.as_slice());
     if found.is_some() {
         return copied(alloc, found);
     }
-    copied(alloc, given_global(given, &entry.1))
+    copied(alloc, given_global(given, described))
 }
 
-// The first such of these imports.
+// The first such of these.
 fn first_taken<N: Names>(
     alloc: Global,
     taken: &N,
     given: &N,
-    entries: &[(AdapterId, AuxImport)],
+    described: &[JsImportName],
 ) -> Result<Option<Text>, AllocError>
-    ensures name { IfOk result (λ found. found ≡ first.first_of (brought_in (N.bound taken.now) (N.bound given.now)) entries.now) }
+    ensures name { IfOk result (λ found. found ≡ first.first_of (taken_in (N.bound taken.now) (N.bound given.now)) described.now) }
 {
-    for entry in entries {
-        let name = taken_brought(alloc, taken, given, entry)?;
-        if name.is_some() {
-            return Ok(name);
+    for name in described {
+        let found = taken_described(alloc, taken, given, name)?;
+        if found.is_some() {
+            return Ok(found);
         }
     }
     Ok(None)
@@ -206,22 +266,32 @@ fn fixed_scope<N: Names>(
     with_fixed(alloc, none, settings, module)
 }
 
-// The names from modules by which imports are used, where they are left out.
-fn omitted_scope<N: Names>(
+// The given names.
+fn given_scope<N: Names>(
     alloc: Global,
     settings: &Settings,
     aux: &WasmBindgenAux,
 ) -> Result<N, AllocError>
-    ensures bound { IfOk result (λ given. N.bound given ≡ with_texts set.empty (omitted_names settings.now.omit_imports aux.now.imports)) }
+    ensures bound { IfOk result (λ given. N.bound given ≡ with_texts set.empty (given_spec.given_names settings.now.omit_imports aux.now)) }
 {
-    let names = omitted_names(alloc, settings.omit_imports, aux.imports.as_slice())?;
+    let names = given_names(alloc, settings.omit_imports, aux)?;
     let none: N = Names::new(alloc);
     with_each(none, names.as_slice())
 }
 
+// The names that imports and re-exports begin with.
+fn described_names(alloc: Global, aux: &WasmBindgenAux) -> Result<Seq<JsImportName>, AllocError>
+    ensures names { IfOk result (λ described. described ≡ names.described_names aux.now) }
+{
+    let mut described = begun(alloc, aux.imports.as_slice())?;
+    push_reexported(alloc, aux.reexports.as_slice(), &mut described)?;
+    Ok(described)
+}
+
 /// The first name of the outside, a described global or a vendor's name with or without one of its prefixes, that the glue file may bind itself,
-/// or that is a global and, where imports are left out, a name from a module too. Want of memory is the only error.
-#[tactic(auto, using(crate::proofs::TakenNames::brought_same))]
+/// or that is a global and a given name of another kind too: of the values of a string enum, or where imports are left out from a module. Those
+/// of imports come before those of re-exports. Want of memory is the only error.
+#[tactic(auto, using(crate::proofs::TakenNames::taken_same))]
 pub fn global_twice(
     alloc: Global,
     settings: &Settings,
@@ -230,8 +300,9 @@ pub fn global_twice(
     ensures fault { IfOk result (λ fault. fault ≡ spec.global_twice settings.now lowered.now) }
 {
     let taken: IdentScope = fixed_scope(alloc, settings, &lowered.module)?;
-    let given: IdentScope = omitted_scope(alloc, settings, &lowered.aux)?;
-    match first_taken(alloc, &taken, &given, lowered.aux.imports.as_slice())? {
+    let given: IdentScope = given_scope(alloc, settings, &lowered.aux)?;
+    let described = described_names(alloc, &lowered.aux)?;
+    match first_taken(alloc, &taken, &given, described.as_slice())? {
         None => Ok(None),
         Some(name) => Ok(Some(Fault::GlobalTwice { name })),
     }
@@ -284,8 +355,8 @@ fn name_of(alloc: Global, export: &Option<Export>) -> Result<Text, AllocError>
     }
 }
 
-// The names that none of the names from modules may be, by which imports are used where they are left out.
-#[tactic(auto, using(crate::proofs::OmittedNames::taken_are))]
+// The names that no given one may be.
+#[tactic(auto, using(crate::proofs::GivenNames::taken_are))]
 fn other_scope<N: Names>(
     alloc: Global,
     settings: &Settings,
@@ -297,19 +368,18 @@ fn other_scope<N: Names>(
     taken_names(alloc, &kept, lowered)
 }
 
-// The first of the names from modules, by which imports are used where they are left out, that is of the outside for another reason, that the
-// glue file may bind, or that an earlier one is.
-#[tactic(auto, using(crate::proofs::OmittedNames::first_omitted))]
-fn first_omitted(
+// The first of these given names that is of the outside for another reason, that the glue file may bind, or that an earlier one is.
+#[tactic(auto, using(crate::proofs::GivenNames::first_given))]
+fn first_given(
     alloc: Global,
     settings: &Settings,
     lowered: &Lowered,
+    names: &[Text],
 ) -> Result<Option<Fault>, AllocError>
-    ensures fault { IfOk result (λ fault. fault ≡ spec.omitted_clash settings.now lowered.now) }
+    ensures fault { IfOk result (λ fault. fault ≡ option_map faults.NameClash (first_clash_after bytes_eq (other_names settings.now lowered.now) names.now)) }
 {
-    let names = omitted_names(alloc, settings.omit_imports, lowered.aux.imports.as_slice())?;
     let taken: IdentScope = other_scope(alloc, settings, lowered)?;
-    match first_met(alloc, taken, names.as_slice())? {
+    match first_met(alloc, taken, names)? {
         None => Ok(None),
         Some(name) => Ok(Some(Fault::NameClash {
             name: name.copy(alloc)?,
@@ -317,19 +387,19 @@ fn first_omitted(
     }
 }
 
-// The same, without a look at names where there is none.
-fn omitted_clash(
+// The same of all, without a look at other names where there is none.
+fn given_clash(
     alloc: Global,
     settings: &Settings,
     lowered: &Lowered,
 ) -> Result<Option<Fault>, AllocError>
-    ensures fault { IfOk result (λ fault. fault ≡ spec.omitted_clash settings.now lowered.now) }
+    ensures fault { IfOk result (λ fault. fault ≡ spec.given_clash settings.now lowered.now) }
 {
-    if settings.omit_imports {
-        first_omitted(alloc, settings, lowered)
-    } else {
-        Ok(None)
+    let names = given_names(alloc, settings.omit_imports, &lowered.aux)?;
+    if names.is_empty() {
+        return Ok(None);
     }
+    first_given(alloc, settings, lowered, names.as_slice())
 }
 
 // The first of these names that an earlier one is.
@@ -424,8 +494,9 @@ fn written_clash(
     start_clash(alloc, &lowered.module)
 }
 
-/// The first name that two different imports from modules have, or one of them and something else, where imports are left out; that two imports
-/// have that the glue file defines, that two exports of the module have, or an export and the start function. Want of memory is the only error.
+/// The first given name that another has, that is of the outside for another reason, or that the glue file may bind, or else the first name that
+/// two imports have that the glue file defines, that two exports of the module have, or an export and the start function. Given names are those
+/// of the values of string enums, and where imports are left out those from modules, of each import once. Want of memory is the only error.
 #[tactic(auto, unfolding(crate::specs::Naming::name_clash))]
 pub fn name_clash(
     alloc: Global,
@@ -434,9 +505,9 @@ pub fn name_clash(
 ) -> Result<Option<Fault>, AllocError>
     ensures fault { IfOk result (λ fault. fault ≡ spec.name_clash settings.now lowered.now) }
 {
-    let omitted = omitted_clash(alloc, settings, lowered)?;
-    if omitted.is_some() {
-        return Ok(omitted);
+    let given = given_clash(alloc, settings, lowered)?;
+    if given.is_some() {
+        return Ok(given);
     }
     written_clash(alloc, settings, lowered)
 }

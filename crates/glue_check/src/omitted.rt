@@ -1,11 +1,10 @@
 //! Names from modules, by which imports are used where the setting leaves them out.
 ghost use Rattle.std.specs.Prelude.{◌≡◌, ◌++◌, IfOk, OnOk};
-ghost use Rattle.std.specs.List.{flat_map};
 ghost use Rattle.glue_shared.specs.Names as names;
 ghost use Rattle.glue_check.specs.Omitted as spec;
 
-use crate::once::{copied_import, each_once};
-use glue_shared::{AdapterId, AuxImport, JsImportName, Settings, js_import};
+use crate::once::copied_import;
+use glue_shared::{AdapterId, AuxImport, JsImport, JsImportName, js_import};
 use std::alloc::{AllocError, Global};
 use values::{Duplicate, Seq, Text};
 
@@ -26,8 +25,11 @@ fn push_begun(
     }
 }
 
-// What these imports begin with.
-fn begun(alloc: Global, imports: &[(AdapterId, AuxImport)]) -> Result<Seq<JsImportName>, AllocError>
+/// What these imports begin with. Want of memory is the only error.
+pub(crate) fn begun(
+    alloc: Global,
+    imports: &[(AdapterId, AuxImport)],
+) -> Result<Seq<JsImportName>, AllocError>
     ensures begun { IfOk result (λ list. list ≡ spec.begun imports.now) }
 {
     let mut list = Seq::new(alloc);
@@ -35,6 +37,20 @@ fn begun(alloc: Global, imports: &[(AdapterId, AuxImport)]) -> Result<Seq<JsImpo
         push_begun(alloc, &import.1, &mut list)?;
     }
     Ok(list)
+}
+
+/// Adds what the imports of these re-exports begin with. Want of memory is the only error.
+pub(crate) fn push_reexported(
+    alloc: Global,
+    reexports: &[(Text, JsImport, bool)],
+    list: &mut Seq<JsImportName>,
+) -> Result<(), AllocError>
+    ensures pushed { OnOk result (list.new ≡ list.old ++ spec.reexported reexports.now) }
+{
+    for reexport in reexports {
+        list.push(copied_import(alloc, &reexport.1.name)?)?;
+    }
+    Ok(())
 }
 
 /// Adds a name, where it counts. Want of memory is the only error.
@@ -69,43 +85,17 @@ fn push_omitted(
     }
 }
 
-// Those of these.
-fn each_omitted(
+/// Adds those of these. Want of memory is the only error.
+pub(crate) fn push_omitted_names(
     alloc: Global,
     omitted: bool,
     imports: &[JsImportName],
-) -> Result<Seq<Text>, AllocError>
-    ensures omitted { IfOk result (λ list. list ≡ flat_map (spec.omitted_name omitted) imports.now) }
+    list: &mut Seq<Text>,
+) -> Result<(), AllocError>
+    ensures pushed { OnOk result (list.new ≡ list.old ++ spec.omitted_names omitted imports.now) }
 {
-    let mut list = Seq::new(alloc);
     for import in imports {
-        push_omitted(alloc, omitted, import, &mut list)?;
+        push_omitted(alloc, omitted, import, list)?;
     }
-    Ok(list)
-}
-
-/// The names from modules by which these imports are used, of each import once; none where imports are kept. Want of memory is the only error.
-#[tactic(auto, using(crate::proofs::OmittedNames::none_omitted))]
-pub(crate) fn omitted_names(
-    alloc: Global,
-    omitted: bool,
-    imports: &[(AdapterId, AuxImport)],
-) -> Result<Seq<Text>, AllocError>
-    ensures omitted { IfOk result (λ list. list ≡ spec.omitted_names omitted imports.now) }
-{
-    if !omitted {
-        return Ok(Seq::new(alloc));
-    }
-    let begun = begun(alloc, imports)?;
-    let once = each_once(alloc, begun.as_slice())?;
-    each_omitted(alloc, omitted, once.as_slice())
-}
-
-/// The same settings with imports kept. Want of memory is the only error.
-pub(crate) fn kept(alloc: Global, settings: &Settings) -> Result<Settings, AllocError>
-    ensures kept { IfOk result (λ kept. kept ≡ spec.kept settings.now) }
-{
-    let mut kept = settings.copy(alloc)?;
-    kept.omit_imports = false;
-    Ok(kept)
+    Ok(())
 }

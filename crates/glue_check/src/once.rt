@@ -67,3 +67,30 @@ pub fn each_once(alloc: Global, list: &[JsImportName]) -> Result<Seq<JsImportNam
     }
     Ok(once)
 }
+
+// The set of these names.
+fn seen_names(alloc: Global, before: &[JsImportName]) -> Result<Map<JsImportName, ()>, AllocError>
+    ensures seen { IfOk result (λ seen. (name : JsImportName) → is_some (look_up spec.import_order seen name) ≡ spec.has_name name before.now) }
+{
+    let mut seen = Map::new(alloc);
+    for name in before {
+        seen.insert(copied_import(alloc, name)?, ())?;
+    }
+    Ok(seen)
+}
+
+/// Each of these names that isn't among those before, once, where it comes first. Want of memory is the only error.
+pub(crate) fn each_new(
+    alloc: Global,
+    before: &[JsImportName],
+    list: &[JsImportName],
+) -> Result<Seq<JsImportName>, AllocError>
+    ensures new { IfOk result (λ new. new ≡ spec.each_new before.now list.now) }
+{
+    let mut seen = seen_names(alloc, before)?;
+    let mut new = Seq::new(alloc);
+    for name in list {
+        push_new(alloc, &mut seen, name, &mut new)?;
+    }
+    Ok(new)
+}

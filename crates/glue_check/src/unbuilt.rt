@@ -164,38 +164,11 @@ pub fn is_function_kind(kind: AuxExportKind) -> bool
     }
 }
 
-fn has_text(text: &Option<Text>) -> bool
-    ensures test { result ≡ spec.has_text text.now }
-{
-    match text {
-        None => false,
-        Some(text) => !text.is_empty(),
-    }
-}
-
-// Whether an export stands in a namespace, or has comments.
-#[tactic(auto, unfolding(crate::specs::Unbuilt::is_unbuilt_export))]
-fn is_unbuilt_export(export: &AuxExport) -> bool
-    ensures test { result ≡ spec.is_unbuilt_export export.now }
-{
-    !export.namespace.is_empty() || has_text(&export.comments)
-}
-
-fn has_unbuilt_export(exports: &[AuxExport]) -> bool
-    ensures test { result ≡ list_any spec.is_unbuilt_export exports.now }
-{
-    exports.iter().any(|export| is_unbuilt_export(export))
-}
-
-/// That exports of this form aren't built. Want of memory is the only error.
+/// That re-exports aren't built. Want of memory is the only error.
 pub(crate) fn unbuilt_exports(alloc: Global, lowered: &Lowered) -> Result<Option<Fault>, AllocError>
     ensures fault { IfOk result (λ fault. fault ≡ spec.unbuilt_exports lowered.now) }
 {
-    let asked = has_unbuilt_export(lowered.aux.exports.as_slice())
-        || !lowered.aux.enums.is_empty()
-        || !lowered.aux.string_enums.is_empty()
-        || !lowered.aux.reexports.is_empty();
-    not_built(alloc, asked, "exports")
+    not_built(alloc, !lowered.aux.reexports.is_empty(), "exports")
 }
 
 // Whether an instruction passes another value than a number, or keeps something for later.

@@ -11,7 +11,7 @@ use crate::links::link_not_embedded;
 use crate::missing::missing_part;
 use crate::modules::module_clash;
 use crate::naming::{bad_name, global_twice, name_clash};
-use crate::publishing::{export_clash, fixed_export};
+use crate::publishing::fixed_export;
 use crate::target_values::intrinsic_target;
 use crate::unbuilt::{
     unbuilt_classes, unbuilt_exports, unbuilt_files, unbuilt_imports, unbuilt_instructions,
@@ -19,6 +19,7 @@ use crate::unbuilt::{
 };
 use glue_adapters::{bad_adapter, unbound_import, unsupported};
 use glue_faults::{Fault, where_true};
+use glue_published::{bad_reexport, thing_clash};
 use glue_shared::{Lowered, NonstandardWitSection, Settings, WasmBindgenAux};
 use std::alloc::{AllocError, Global};
 use values::Duplicate;
@@ -46,6 +47,7 @@ enum Condition {
     ModuleClash,
     ExportClash,
     FixedExport,
+    BadReexport,
     IntrinsicTarget,
     LinkNotEmbedded,
     MissingPart,
@@ -64,7 +66,7 @@ const UNBUILT: [Condition; 8] = [
 ];
 
 /// The conditions in their order: the first that gives a fault decides.
-const CONDITIONS: [Condition; 14] = [
+const CONDITIONS: [Condition; 15] = [
     Condition::Threads,
     Condition::PackageJson,
     Condition::UnsupportedInstr,
@@ -76,6 +78,7 @@ const CONDITIONS: [Condition; 14] = [
     Condition::ModuleClash,
     Condition::ExportClash,
     Condition::FixedExport,
+    Condition::BadReexport,
     Condition::IntrinsicTarget,
     Condition::LinkNotEmbedded,
     Condition::MissingPart,
@@ -145,8 +148,9 @@ fn answer(
         Condition::GlobalTwice => global_twice(alloc, settings, lowered),
         Condition::NameClash => name_clash(alloc, settings, lowered),
         Condition::ModuleClash => module_clash(alloc, settings, lowered),
-        Condition::ExportClash => export_clash(alloc, aux),
+        Condition::ExportClash => thing_clash(alloc, settings, aux),
         Condition::FixedExport => fixed_export(alloc, settings, lowered),
+        Condition::BadReexport => bad_reexport(alloc, settings, aux),
         Condition::IntrinsicTarget => Ok(intrinsic_target(settings, lowered)),
         Condition::LinkNotEmbedded => link_not_embedded(alloc, settings, lowered),
         Condition::MissingPart => missing_part(alloc, settings, lowered),

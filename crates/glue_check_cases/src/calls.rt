@@ -1,8 +1,7 @@
-//! Conditions by their own calls: those that stand behind what isn't built are met there alone. Each with what its fault names, and
-//! near misses.
-use crate::checking::{Asked, Case, asked_settings, fault_text};
-use crate::compare::assert_case;
-use crate::described::{Edit, edited_lowered};
+//! What conditions answer by their own calls, each with what its fault names, and near misses.
+use crate::call::{Call, Condition, assert_call, assert_conditions};
+use crate::checking::{Asked, Case};
+use crate::described::Edit;
 use crate::edits::{
     CALL_MORE, GLUE_LOG, INSTANCE, LOGGING, MODULE, NO_CODE, NO_PAIR, SECOND_PAIR, UNSIGNED_LOG,
 };
@@ -11,27 +10,9 @@ use crate::modules::{
     TWO_IMPORTS, WITH_FOREIGN, WITH_MANY_EXPORTS, WITH_MEMORY_IMPORT, WITH_OTHER_TAG,
     WITH_TABLE_IMPORT, WITH_TAG_IMPORT,
 };
-use glue_adapters::{bad_adapter, unbound_import};
-use glue_check::{Fault, bad_name, fixed_export, intrinsic_target, module_clash, name_clash};
 use glue_lower::LowerFault;
-use glue_shared::{Lowered, Settings};
-use std::alloc::{AllocError, Global};
+use std::alloc::Global;
 use std::process::Abort;
-
-/// A condition that is called by itself.
-#[derive(Clone, Copy, Debug)]
-enum Call {
-    BadAdapter,
-    UnboundImport,
-    BadName,
-    NameClash,
-    ModuleClash,
-    FixedExport,
-    IntrinsicTarget,
-}
-
-/// A condition, what is asked for, and cases.
-type Condition = (Call, &'static [Asked], &'static [Case]);
 
 /// A condition, a module, a part of the description, and what stands in its place, each with its fault, for one target.
 type Row = (
@@ -40,56 +21,6 @@ type Row = (
     &'static str,
     &'static [(&'static str, &'static str)],
 );
-
-fn answer(
-    alloc: Global,
-    call: Call,
-    settings: &Settings,
-    lowered: &Lowered,
-) -> Result<Option<Fault>, AllocError> {
-    match call {
-        Call::BadAdapter => bad_adapter(alloc, lowered),
-        Call::UnboundImport => unbound_import(alloc, settings, lowered),
-        Call::BadName => bad_name(alloc, settings, lowered),
-        Call::NameClash => name_clash(alloc, settings, lowered),
-        Call::ModuleClash => module_clash(alloc, settings, lowered),
-        Call::FixedExport => fixed_export(alloc, settings, lowered),
-        Call::IntrinsicTarget => Ok(intrinsic_target(settings, lowered)),
-    }
-}
-
-/// The fault that a condition gives, in words; nothing without one.
-fn told(
-    alloc: Global,
-    call: Call,
-    asked: &[Asked],
-    lowered: &Lowered,
-) -> Result<String, AllocError> {
-    let settings = asked_settings(alloc, asked)?;
-    match answer(alloc, call, &settings, lowered)? {
-        None => Ok(String::new(alloc)),
-        Some(fault) => fault_text(alloc, &fault),
-    }
-}
-
-fn assert_call<H: Abort>(
-    rt: &H,
-    alloc: Global,
-    call: Call,
-    asked: &[Asked],
-    module: &[u8],
-    edits: &[(&str, &str)],
-    want: &str,
-) -> Result<(), LowerFault> {
-    let lowered = edited_lowered(rt, alloc, module, edits)?;
-    let told = told(alloc, call, asked, &lowered)?;
-    assert_case(
-        rt,
-        told.as_str() == want,
-        &(call, told.as_str(), want, edits),
-    );
-    Ok(())
-}
 
 /// Getters and setters, with and without a rest parameter: `add` gives what an export gives, or takes what one takes.
 const GETTER: Edit = (
@@ -291,24 +222,9 @@ const CONDITIONS: &[Condition] = &[
     (Call::ModuleClash, &[Asked::Emscripten], ON_EMSCRIPTEN),
 ];
 
-fn assert_condition<H: Abort>(
-    rt: &H,
-    alloc: Global,
-    condition: &Condition,
-) -> Result<(), LowerFault> {
-    let (call, asked, cases) = condition;
-    for (module, edits, want) in *cases {
-        assert_call(rt, alloc, *call, asked, module, edits, want)?;
-    }
-    Ok(())
-}
-
 #[test]
 fn each_call_gives_its_fault(rt: HostRuntime) -> Result<(), LowerFault> {
-    for condition in CONDITIONS {
-        assert_condition(&rt, rt.alloc(), condition)?;
-    }
-    Ok(())
+    assert_conditions(&rt, rt.alloc(), CONDITIONS)
 }
 
 /// The module is asked for, or its instance, on this target.

@@ -15,6 +15,8 @@ pub enum Asked {
     Bundler,
     Web,
     NoModules,
+    /// A script whose global is called as a string enum's values would be.
+    EnumGlobal,
     Node,
     NodeModule,
     Module,
@@ -74,6 +76,11 @@ fn ask(alloc: Global, settings: &mut Settings, asked: Asked) -> Result<(), Alloc
                 global: Text::from_str(alloc, "wasm_bindgen")?,
             }
         }
+        Asked::EnumGlobal => {
+            settings.target = Target::NoModules {
+                global: Text::from_str(alloc, "__wbindgen_enum_M")?,
+            }
+        }
         Asked::Debug => settings.debug = true,
         Asked::Typescript => settings.typescript = true,
         Asked::ExportWasm => settings.export_wasm = true,
@@ -124,6 +131,7 @@ pub fn fault_text(alloc: Global, fault: &Fault) -> Result<String, AllocError> {
         | Fault::ModuleClash { module: name }
         | Fault::ExportClash { name }
         | Fault::FixedExport { name }
+        | Fault::BadReexport { name }
         | Fault::LinkNotEmbedded { path: name }
         | Fault::MissingPart { part: name } => {
             let name = name.as_str();

@@ -1,8 +1,11 @@
 //! Edits of the description of `add` and `log` that more than one table makes.
 use crate::described::Edit;
 
-/// The export stands in a namespace.
-pub const IN_NAMESPACE: Edit = (r#""name":"add""#, r#""name":"add","namespace":["some"]"#);
+/// A name from a module is exported again.
+pub const REEXPORT: Edit = (
+    r#""version":1"#,
+    r#""version":1,"reexports":[{"name":"r","js":{"module":"m","name":"r"}}]"#,
+);
 
 /// Another name for the export, one that is no ordinary key of an object.
 pub const PROTO_NAME: Edit = (r#""name":"add""#, r#""name":"__proto__""#);

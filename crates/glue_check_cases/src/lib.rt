@@ -4,6 +4,8 @@
 #![tactic(auto)]
 
 #[cfg(test)]
+mod call;
+#[cfg(test)]
 mod called;
 #[cfg(test)]
 mod calls;
@@ -25,5 +27,9 @@ mod omitted;
 mod order;
 #[cfg(test)]
 mod parts;
+#[cfg(test)]
+mod published;
+#[cfg(test)]
+mod reexported;
 #[cfg(test)]
 mod unbuilt;

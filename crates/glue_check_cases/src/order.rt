@@ -3,8 +3,8 @@
 use crate::checking::{Asked, AskedCase, Case, assert_asked, assert_cases};
 use crate::described::Edit;
 use crate::edits::{
-    ADD_IMPORT, ADDING, BARE_LINK, CALL_MORE, CALLING_NOTHING, GLOBAL_WASM, IN_NAMESPACE, LOGGING,
-    MODULE, NO_CODE, NO_PAIR, ONE_NAME, PACKAGE, PROTO_NAME, SAME_PAIR, SECOND_ADD, SECOND_LAST,
+    ADD_IMPORT, ADDING, BARE_LINK, CALL_MORE, CALLING_NOTHING, GLOBAL_WASM, LOGGING, MODULE,
+    NO_CODE, NO_PAIR, ONE_NAME, PACKAGE, PROTO_NAME, REEXPORT, SAME_PAIR, SECOND_ADD, SECOND_LAST,
     SECOND_PAIR, SUM, TRUTH, UNSUPPORTED,
 };
 use crate::modules::{
@@ -32,11 +32,8 @@ const REINIT: Edit = (r#""version":1"#, r#""version":1,"uses_reinit":true"#);
 /// Two kinds of what isn't built, or two conditions, each next to the other in the order.
 const PAIRS: &[AskedCase] = &[
     (&[Asked::Web], (WITH_TABLE_IMPORT, &[], "NotBuilt target")),
-    (
-        &[],
-        (WITH_TABLE_IMPORT, &[IN_NAMESPACE], "NotBuilt imports"),
-    ),
-    (&[], (ADD, &[IN_NAMESPACE, TRUTH], "NotBuilt exports")),
+    (&[], (WITH_TABLE_IMPORT, &[REEXPORT], "NotBuilt imports")),
+    (&[], (ADD, &[REEXPORT, TRUTH], "NotBuilt exports")),
     (&[], (ADD, &[TRUTH, CLASS], "NotBuilt instructions")),
     (&[Asked::Debug], (ADD, &[CLASS], "NotBuilt classes")),
     (&[Asked::Debug], (ADD, &[REINIT], "NotBuilt settings")),

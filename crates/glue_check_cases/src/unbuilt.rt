@@ -52,6 +52,10 @@ const GROUPS: &[Group] = &[
         &[
             r#""catch":[],"variadic":[],"adapter_exports":[],"static_slots":[],"parts":{}"#,
             r#""structs":[],"enums":[],"string_enums":[],"unions":[],"reexports":[]"#,
+            r#""enums":[{"name":"E"}]"#,
+            r#""enums":[{"name":"E","namespace":["a"],"variants":[["A",-1,"some"]],"comments":"some","private":true}]"#,
+            r#""string_enums":[{"name":"E"}]"#,
+            r#""string_enums":[{"name":"E","variants":["a"],"comments":"some","private":true,"typescript":false}]"#,
             r#""snippets":{},"local_modules":{},"package_jsons":[],"extra_typescript":[]"#,
             r#""uses_reinit":false,"legacy_exception_handling":false"#,
             // Parts that nothing built asks for.
@@ -67,9 +71,8 @@ const GROUPS: &[Group] = &[
         KEY,
         "NotBuilt exports",
         &[
-            r#""enums":[{"name":"E"}]"#,
-            r#""string_enums":[{"name":"E"}]"#,
             r#""reexports":[{"name":"r","js":{"global":"r"}}]"#,
+            r#""reexports":[{"name":"r","js":{"module":"m","name":"r"}}]"#,
         ],
     ),
     (
@@ -112,13 +115,10 @@ const GROUPS: &[Group] = &[
             r#""class":null,"receiver":"none","namespace":[],"comments":null"#,
             r#""variadic":false,"jsdoc":false,"async":false,"comments":"""#,
             r#""typescript":false,"debug":"some""#,
+            r#""namespace":["some"]"#,
+            r#""namespace":["default","a b",""]"#,
+            r#""comments":"some""#,
         ],
-    ),
-    (
-        ADD,
-        EXPORT_KEY,
-        "NotBuilt exports",
-        &[r#""namespace":["some"]"#, r#""comments":"some""#],
     ),
     (
         ADD,

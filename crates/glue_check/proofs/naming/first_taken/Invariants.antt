@@ -1,8 +1,8 @@
 use Rattle.std.proofs.Common.{◌≡◌, drop}
 use Rattle.glue_faults.specs.First.{first_of}
-use Rattle.glue_check.specs.Taken.{brought_in}
+use Rattle.glue_check.specs.Taken.{taken_in}
 use Rattle.glue_check.proofs.naming.first_taken.Given as goal
 
-abbrev pub invariant-loop-entry : goal.invariant-loop-entry
-invariant-loop-entry g l =
-    let name = brought_in (g.N.Names.bound l.taken) (g.N.Names.bound l.given) in first_of name (drop l.entry-index l.entries) ≡ first_of name l.entries
+abbrev pub invariant-loop-name : goal.invariant-loop-name
+invariant-loop-name g l =
+    let found = taken_in (g.N.Names.bound l.taken) (g.N.Names.bound l.given) in first_of found (drop l.name-index l.described) ≡ first_of found l.described
