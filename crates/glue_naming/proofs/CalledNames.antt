@@ -1,5 +1,5 @@
 -- The names that are drawn for what own imports call: each that is no name of the host has one, an identifier that is taken for nothing else.
-use Rattle.std.proofs.Common.{◌≡◌, ℕ, Bool, true, false, cond, ◌==◌, true≢false, List, [], ◌∷◌, ◌++◌, map, refl, sym, ap, subst, ◌∙◌, inl, inr}
+use Rattle.std.proofs.Common.{◌≡◌, ℕ, Bool, true, false, cond, ◌==◌, true≢false, List, [], ◌∷◌, map, refl, sym, ap, subst, ◌∙◌, inl, inr}
 use Rattle.std.specs.Prelude.{Option, None, Some, option_map, option_and_then, find, filter_map}
 use Rattle.std.specs.FinSet as set
 use Rattle.std.specs.List.{flat_map, list_all}
@@ -8,7 +8,7 @@ use Rattle.std.proofs.lemmas.List.Sorted.{IsPermutation-sym}
 use Rattle.std.proofs.lemmas.List.Sums.{list_all-from_AllPass}
 use Rattle.values.specs.Lists.{IsIn, AreDistinct, AreApart}
 use Rattle.values.specs.Map.{look_up}
-use Rattle.values.proofs.Members.{in_left, in_right, in_either}
+use Rattle.values.proofs.Members.{in_left, in_right}
 use Rattle.wasm_core.specs.ids.ImportId.{ImportId}
 use Rattle.glue_words.specs.Ident.{is_ident}
 use Rattle.glue_words.proofs.Among.{apart_by}
@@ -29,10 +29,10 @@ use Rattle.glue_check.specs.Unbuilt.{is_function_kind}
 use Rattle.glue_check.proofs.Globals.{from_flat, in_flat}
 use Rattle.glue_check.proofs.Passed.{number_in}
 use Rattle.glue_naming.specs.Given.{reserved_names}
-use Rattle.glue_naming.specs.Imported.{called_name, called_names, import_wanted, imports_wanted, is_outside, local_name, names_called, pair_names}
+use Rattle.glue_naming.specs.Imported.{called_name, called_names, import_wanted, is_outside, local_name, names_called, pair_names}
 use Rattle.glue_naming.specs.Listed.{called_once, drawn_import, drawn_imports, names_drawn}
 use Rattle.glue_naming.specs.Naming.{AreNames, declared_name, function_name, import_name, is_named, without_items}
-use Rattle.glue_naming.specs.Wanted.{class_names, enum_name, function_names, function_wanted}
+use Rattle.glue_naming.specs.Wanted.{class_names, enum_wanted, function_names, function_wanted, root_wanted}
 use Rattle.glue_naming.specs.declared.named.Named.{Named}
 use Rattle.glue_naming.specs.declared.named.Named.TheVariants.{Import, Function}
 use Rattle.glue_naming.specs.declared.named.Wanted.{Wanted}
@@ -43,6 +43,7 @@ use Rattle.glue_naming.proofs.Functions.{given_of}
 use Rattle.glue_check.proofs.EachOnce.{once_distinct, once_from, once_has}
 use Rattle.glue_naming.proofs.MappedLists.{flat_more, from_map, from_part, in_map, in_part, part_distinct}
 use Rattle.glue_naming.proofs.Reserved.{free_no_fixed, free_no_host}
+use Rattle.glue_naming.proofs.WantedNames.{each_wanted, import_there}
 
 -- ---- what is wanted
 
@@ -74,14 +75,17 @@ at_wanted thing name (w ∷ list) [] h = absurd h
 at_wanted thing name (w ∷ list) (n ∷ names) (inl p) = (w, inl refl, p.0)
 at_wanted thing name (w ∷ list) (n ∷ names) (inr h) = let r = at_wanted thing name list names h in (r.0, inr r.1, r.2)
 
--- classes, enums and functions are no imports
+-- classes, enums, functions and namespaces are no imports
 no_class : (c : AuxStruct) (w : Wanted) (name : JsImportName) → IsIn w (class_names c) → Import name ≡ w.thing → ⊥
 no_class c w name (inl same) e = cc
 no_class c w name (inr (inl same)) e = cc
 no_class c w name (inr (inr i)) e = i
 
-no_enum : (key : List ℕ) (w : Wanted) (name : JsImportName) → w ≡ enum_name key → Import name ≡ w.thing → ⊥
+no_enum : (key : List ℕ) (w : Wanted) (name : JsImportName) → w ≡ enum_wanted key → Import name ≡ w.thing → ⊥
 no_enum key w name same e = cc
+
+no_root : (key : List ℕ) (w : Wanted) (name : JsImportName) → w ≡ root_wanted key → Import name ≡ w.thing → ⊥
+no_root key w name same e = cc
 
 pub in_where : {A : Type 0} (x : A) (xs : List A) (b : Bool) → IsIn x (cond b xs []) → IsIn x xs × (b ≡ true)
 in_where x xs true i = (i, refl)
@@ -139,32 +143,22 @@ import_one a b e = cc
 -- ---- what has a drawn name
 
 module _ (s : Settings) (l : Lowered) (m : NameMap) (n : AreNames s l m) where
-  asked_import : (w : Wanted) (name : JsImportName) → Import name ≡ w.thing
-      → IsIn w (imports_wanted s l n.wanted.pairs ++ flat_map function_names n.wanted.functions) → is_outside s.omit_imports name ≡ false
-  asked_import w name e i = elim (in_either w (imports_wanted s l n.wanted.pairs) (flat_map function_names n.wanted.functions) i) [
-    | inl here ↦
-        let r = from_part (import_wanted s.omit_imports s.target) w (called_once s l n.wanted.pairs) here in
-        let k = wanted_only s.omit_imports s.target r.0 w r.2 in
-        ap (is_outside s.omit_imports) (import_one name r.0 (e ∙ k.0)) ∙ k.1
-    | inr later ↦ let r = from_flat function_names n.wanted.functions w later in absurd (no_function r.0 w name r.2 e)
-  ]
-
-  asked_thing : (w : Wanted) (name : JsImportName) → Import name ≡ w.thing → IsIn w n.list → is_outside s.omit_imports name ≡ false
-  asked_thing w name e i =
-      let imports = imports_wanted s l n.wanted.pairs ++ flat_map function_names n.wanted.functions in
-      elim (in_either w (flat_map class_names l.aux.structs) (map enum_name n.wanted.enums ++ imports) (subst (IsIn w) n.wanted.all i)) [
-        | inl here ↦ let r = from_flat class_names l.aux.structs w here in absurd (no_class r.0 w name r.2 e)
-        | inr later ↦ elim (in_either w (map enum_name n.wanted.enums) imports later) [
-          | inl here ↦ let r = from_map enum_name w n.wanted.enums here in absurd (no_enum r.0 w name r.2 e)
-          | inr last ↦ asked_import w name e last
-        ]
-      ]
+  asked_thing : (name : JsImportName) (w : Wanted) → IsIn w n.list → Import name ≡ w.thing → is_outside s.omit_imports name ≡ false
+  asked_thing name = each_wanted s l n.list n.wanted (λ (w : Wanted). Import name ≡ w.thing → is_outside s.omit_imports name ≡ false)
+      (λ w i e. let r = from_flat class_names l.aux.structs w i in absurd (no_class r.0 w name r.2 e))
+      (λ w i e. let r = from_map enum_wanted w n.wanted.enums i in absurd (no_enum r.0 w name r.2 e))
+      (λ w i e.
+      let r = from_part (import_wanted s.omit_imports s.target) w (called_once s l n.wanted.pairs) i in
+      let k = wanted_only s.omit_imports s.target r.0 w r.2 in
+      ap (is_outside s.omit_imports) (import_one name r.0 (e ∙ k.0)) ∙ k.1)
+      (λ w i e. let r = from_flat function_names n.wanted.functions w i in absurd (no_function r.0 w name r.2 e))
+      (λ w i e. let r = from_map root_wanted w n.wanted.roots i in absurd (no_root r.0 w name r.2 e))
 
   -- it is no name of the host
   pub named_no_host : (name : JsImportName) (drawn : List ℕ) → import_name m name ≡ Some drawn → is_outside s.omit_imports name ≡ false
   named_no_host name drawn e =
       let w = at_wanted (Import name) drawn n.list n.drawn.names (stands n.list n.drawn.names (without_items m) (Import name) drawn n.drawn.filled e) in
-      asked_thing w.0 name w.2 w.1
+      asked_thing name w.0 w.1 w.2
 
   -- two that have one name are one
   pub named_apart : (a b : JsImportName) (drawn : List ℕ) → import_name m a ≡ Some drawn → import_name m b ≡ Some drawn → a ≡ b
@@ -227,9 +221,7 @@ module _ (s : Settings) (l : Lowered) (m : NameMap) (n : AreNames s l m) where
         (flat_more (pair_names own l) pairs n.wanted.pairs moved name (once_from name (names_called s l pairs) i)) in
         let w = wanted_as s.target name in
         let asked = in_part (import_wanted s.omit_imports s.target) name w (called_once s l n.wanted.pairs) there (wanted_there s.omit_imports s.target name h) in
-        let among : IsIn w n.list = subst (IsIn w) (sym n.wanted.all) (in_right w (flat_map class_names l.aux.structs) _
-        (in_right w (map enum_name n.wanted.enums) _
-        (in_left w (imports_wanted s l n.wanted.pairs) (flat_map function_names n.wanted.functions) asked))) in
+        let among = import_there s l n.list n.wanted w asked in
         n.good.found (Import name) (in_map (λ (x : Wanted). x.thing) w n.list among)
 
     -- so one without a drawn name is a name of the host

@@ -18,7 +18,7 @@ use Rattle.glue_words.specs.Ident.{is_ident, to_ident}
 use Rattle.glue_scope.specs.Scope.{AreDrawn, IsFirstFree}
 use Rattle.glue_scope.proofs.Drawn.{drawn-append, drawn_distinct, drawn_idents, drawn_new}
 use Rattle.glue_naming.specs.declared.named.Named.{Named}
-use Rattle.glue_naming.specs.declared.named.Named.TheVariants.{Class, Registry, Enum, Import, Function}
+use Rattle.glue_naming.specs.declared.named.Named.TheVariants.{Class, Registry, Enum, Import, Function, Namespace}
 use Rattle.glue_naming.specs.declared.named.Wanted.{Wanted}
 use Rattle.glue_shared.specs.declared.import.JsImportName.{JsImportName}
 use Rattle.glue_shared.specs.declared.name_map.NameMap.{NameMap}
@@ -147,6 +147,7 @@ told m (Registry i) (Registry j) name k e = elim (text_told m.registries i name 
 told m (Enum i) (Enum j) name k e = elim (text_told m.enums i name j k e) [ inl p ↦ inl (ap Enum p.0, p.1) | inr p ↦ inr p ]
 told m (Import i) (Import j) name k e = elim (import_told m.imports i name j k e) [ inl p ↦ inl (ap Import p.0, p.1) | inr p ↦ inr p ]
 told m (Function i) (Function j) name k e = elim (text_told m.functions i name j k e) [ inl p ↦ inl (ap Function p.0, p.1) | inr p ↦ inr p ]
+told m (Namespace i) (Namespace j) name k e = elim (text_told m.namespaces i name j k e) [ inl p ↦ inl (ap Namespace p.0, p.1) | inr p ↦ inr p ]
 told m t u name k e = inr e
 
 -- a name that was put is found
@@ -156,6 +157,7 @@ here m (Registry i) name = text_here m.registries i name
 here m (Enum i) name = text_here m.enums i name
 here m (Import i) name = import_here m.imports i name
 here m (Function i) name = text_here m.functions i name
+here m (Namespace i) name = text_here m.namespaces i name
 
 -- what had a name has one
 kept : (m : NameMap) (t u : Named) (name k : List ℕ) → name_in m u ≡ Some k → (j : List ℕ) × (name_in (put_name m t name) u ≡ Some j)
@@ -164,6 +166,7 @@ kept m (Registry i) (Registry j) name k e = text_kept m.registries i name j k e
 kept m (Enum i) (Enum j) name k e = text_kept m.enums i name j k e
 kept m (Import i) (Import j) name k e = import_kept m.imports i name j k e
 kept m (Function i) (Function j) name k e = text_kept m.functions i name j k e
+kept m (Namespace i) (Namespace j) name k e = text_kept m.namespaces i name j k e
 kept m t u name k e = (k, e)
 
 -- ---- all names in the maps

@@ -1,13 +1,11 @@
--- The names that functions of exports are given: each function at the top level has one, and these are distinct identifiers that are taken
--- for nothing else.
-use Rattle.std.proofs.Common.{◌≡◌, ◌≢◌, ℕ, true, false, true≢false, List, [], ◌∷◌, map, Option, Some, None, refl, sym, ap, subst, ◌∙◌, inl, inr}
+-- The names that functions of exports are given: each function that is built has one, an identifier that is taken for nothing else.
+use Rattle.std.proofs.Common.{◌≡◌, ◌≢◌, ℕ, true, false, true≢false, List, [], map, Option, Some, None, refl, sym, ap, ◌∙◌, inl}
 use Rattle.std.specs.Prelude.{is_some, unwrap_or}
 use Rattle.std.specs.FinSet as set
-use Rattle.std.specs.List.{flat_map, list_all}
+use Rattle.std.specs.List.{list_all}
 use Rattle.std.proofs.lemmas.List.Sorted.{IsPermutation-sym}
 use Rattle.std.proofs.lemmas.List.Sums.{list_all-from_AllPass}
-use Rattle.values.specs.Lists.{IsIn, AreDistinct, AreApart}
-use Rattle.values.proofs.Members.{in_right}
+use Rattle.values.specs.Lists.{IsIn, AreApart}
 use Rattle.glue_words.specs.Ident.{is_ident}
 use Rattle.glue_shared.specs.declared.aux.AuxExport.{AuxExport}
 use Rattle.glue_shared.specs.declared.description.Lowered.{Lowered}
@@ -16,20 +14,19 @@ use Rattle.glue_shared.specs.declared.settings.Settings.{Settings}
 use Rattle.glue_shared.specs.Names.{fixed_names, host_names}
 use Rattle.glue_check.specs.Publishing.{qualified}
 use Rattle.glue_check.proofs.BuiltForm.{IsBuiltExport}
-use Rattle.glue_check.proofs.ExportNames.{names_of, plain}
 use Rattle.glue_check.proofs.Globals.{in_flat, some_of}
 use Rattle.glue_naming.specs.declared.named.Named.TheVariants.{Function}
 use Rattle.glue_naming.specs.declared.named.Wanted.{Wanted}
 use Rattle.glue_naming.specs.Given.{reserved_names}
-use Rattle.glue_naming.specs.Imported.{imports_wanted}
 use Rattle.glue_naming.specs.Naming.{AreNames, declared_name, function_name, is_named}
-use Rattle.glue_naming.specs.Wanted.{class_names, enum_name, function_names, function_wanted}
+use Rattle.glue_naming.specs.Wanted.{function_names, function_wanted}
 use Rattle.glue_naming.proofs.Arranged.{all_are, moved_from}
 use Rattle.glue_naming.proofs.Draws.{all_at}
 use Rattle.glue_naming.proofs.MappedLists.{from_map, in_map}
 use Rattle.glue_naming.proofs.Reserved.{free_no_fixed, free_no_host}
+use Rattle.glue_naming.proofs.WantedNames.{function_there}
 
--- ---- exports at the top level
+-- ---- exports that are built
 
 -- such an export asks for a name
 asks : (e : AuxExport) → IsBuiltExport e → IsIn (function_wanted (qualified e)) (function_names e)
@@ -60,15 +57,13 @@ module _ (m : NameMap) where
 -- ---- those of a description
 
 module _ (s : Settings) (l : Lowered) (m : NameMap) (n : AreNames s l m) where
-  -- each function at the top level has a name
+  -- each function that is built has a name
   function_named : (e : AuxExport) → IsIn e l.aux.exports → IsBuiltExport e → is_named m e ≡ true
   function_named e i b =
       let w = function_wanted (qualified e) in
       let there = moved_from n.wanted.functions l.aux.exports (IsPermutation-sym _ _ n.wanted.by_debug.same) e i in
       let asked = in_flat function_names n.wanted.functions e w there (asks e b) in
-      let among : IsIn w n.list = subst (IsIn w) (sym n.wanted.all) (in_right w (flat_map class_names l.aux.structs) _
-      (in_right w (map enum_name n.wanted.enums) _
-      (in_right w (imports_wanted s l n.wanted.pairs) (flat_map function_names n.wanted.functions) asked))) in
+      let among = function_there s l n.list n.wanted w asked in
       ap is_some (n.good.found (Function (qualified e)) (in_map (λ (x : Wanted). x.thing) w n.list among)).1
 
   pub all_named : (es : List AuxExport) → ((e : AuxExport) → IsIn e es → IsIn e l.aux.exports × IsBuiltExport e) → list_all (is_named m) es ≡ true
@@ -98,18 +93,3 @@ module _ (s : Settings) (l : Lowered) (m : NameMap) (n : AreNames s l m) where
 
   pub functions_no_fixed : (es : List AuxExport) → list_all (is_named m) es ≡ true → AreApart (map (declared_name m) es) (fixed_names s l.«module»)
   functions_no_fixed es named = free_no_fixed s l (map (declared_name m) es) (functions_free es named)
-
-  -- and two functions at the top level, whose exports have two names, have two
-  pub functions_distinct : (es : List AuxExport) → AreDistinct (names_of es) → ((e : AuxExport) → IsIn e es → IsBuiltExport e × (is_named m e ≡ true))
-      → AreDistinct (map (declared_name m) es)
-  functions_distinct [] d h = tt
-  functions_distinct (e ∷ es) d h = (
-    λ i.
-        let r = from_map (declared_name m) (declared_name m e) es i in
-        let here = h e (inl refl) in
-        let other = h r.0 (inr r.1) in
-        let one = functions_apart e r.0 (declared_name m e) (name_given m e here.1) (name_given m r.0 other.1 ∙ ap Some (sym r.2)) in
-        let same : e.name ≡ (r.0).name = sym (plain e here.0) ∙ one ∙ plain r.0 other.0 in
-        d.0 (subst (λ (x : List ℕ). IsIn x (names_of es)) (sym same) (in_map (λ (x : AuxExport). x.name) r.0 es r.1)),
-    functions_distinct es d.1 (λ x k. h x (inr k)),
-  )

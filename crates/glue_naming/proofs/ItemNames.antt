@@ -357,6 +357,7 @@ put_wasm m (things.Registry key) name = refl
 put_wasm m (things.Enum key) name = refl
 put_wasm m (things.Import key) name = refl
 put_wasm m (things.Function key) name = refl
+put_wasm m (things.Namespace key) name = refl
 
 map_wasm : (m : NameMap) (list : List Wanted) (names : List (List ℕ)) → (map_of m list names).wasm ≡ m.wasm
 map_wasm m [] names = refl

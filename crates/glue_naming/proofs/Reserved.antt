@@ -2,7 +2,7 @@
 use Rattle.std.proofs.Common.{◌≡◌, ℕ, zero, suc, true, false, true≢false, List, [], ◌∷◌, ◌++◌, map, Option, Some, None, refl, sym, ◌∙◌}
 use Rattle.std.specs.FinSet as set
 use Rattle.std.specs.List.{flat_map}
-use Rattle.values.specs.Lists.{IsIn, AreApart}
+use Rattle.values.specs.Lists.{IsIn, IsAway, AreApart}
 use Rattle.values.specs.TextSet.{with_texts}
 use Rattle.wasm_core.specs.declared.types.Import.{Import}
 use Rattle.glue_words.proofs.Among.{apart_by}
@@ -54,7 +54,14 @@ module _ (s : Settings) (l : Lowered) where
       with_texts_keeps (taken_names s l) (given_names s l) name
       (with_texts_there (with_texts set.empty (host_names s l.aux)) (fixed_names s l.«module») name i)
 
-  -- so names none of which is reserved are none of these
+  -- so a name that isn't reserved is none of these
+  pub away_host : (name : List ℕ) → set.contains (reserved_names s l) name ≡ false → IsAway name (host_names s l.aux)
+  away_host name free i = true≢false (sym (host_reserved name i) ∙ free)
+
+  pub away_fixed : (name : List ℕ) → set.contains (reserved_names s l) name ≡ false → IsAway name (fixed_names s l.«module»)
+  away_fixed name free i = true≢false (sym (fixed_reserved name i) ∙ free)
+
+  -- and neither is one of such names
   pub free_no_host : (names : List (List ℕ)) → ((name : List ℕ) → IsIn name names → set.contains (reserved_names s l) name ≡ false)
       → AreApart names (host_names s l.aux)
   free_no_host names free = apart_by names (host_names s l.aux) (λ name i k. true≢false (sym (host_reserved name k) ∙ free name i))

@@ -10,7 +10,7 @@ use Rattle.glue_scope.specs.Scope.{AreDrawn}
 use Rattle.glue_shared.specs.declared.name_map.NameMap.{NameMap}
 use Rattle.glue_shared.specs.NameMap.{no_names}
 use Rattle.glue_naming.specs.declared.named.Named.{Named}
-use Rattle.glue_naming.specs.declared.named.Named.TheVariants.{Class, Registry, Enum, Import, Function}
+use Rattle.glue_naming.specs.declared.named.Named.TheVariants.{Class, Registry, Enum, Import, Function, Namespace}
 use Rattle.glue_naming.specs.declared.named.WantedName.{WantedName}
 use Rattle.glue_naming.specs.declared.named.WantedName.TheVariants.{Plain, After}
 use Rattle.glue_naming.specs.declared.named.Wanted.{Wanted}
@@ -46,6 +46,7 @@ put_name m (Registry key) name = record m { registries = insert_entry text_order
 put_name m (Enum key) name = record m { enums = insert_entry text_order m.enums key name }
 put_name m (Import key) name = record m { imports = insert_entry import_order m.imports key name }
 put_name m (Function key) name = record m { functions = insert_entry text_order m.functions key name }
+put_name m (Namespace key) name = record m { namespaces = insert_entry text_order m.namespaces key name }
 
 -- the name that a thing was given
 abbrev pub name_in : NameMap → Named → Option (List ℕ)
@@ -54,6 +55,7 @@ name_in m (Registry key) = look_up text_order m.registries key
 name_in m (Enum key) = look_up text_order m.enums key
 name_in m (Import key) = look_up import_order m.imports key
 name_in m (Function key) = look_up text_order m.functions key
+name_in m (Namespace key) = look_up text_order m.namespaces key
 
 -- the maps with the names of a list's things
 abbrev pub map_of : NameMap → List Wanted → List (List ℕ) → NameMap

@@ -1,17 +1,18 @@
 -- The names of what a description declares.
 use Rattle.std.specs.Prelude.{◌≡◌, ℕ, Bool, List, [], Option, is_some, unwrap_or}
+use Rattle.glue_shared.specs.declared.aux.AuxEnum.{AuxEnum}
 use Rattle.glue_shared.specs.declared.aux.AuxExport.{AuxExport}
 use Rattle.glue_shared.specs.declared.description.Lowered.{Lowered}
 use Rattle.glue_shared.specs.declared.import.JsImportName.{JsImportName}
 use Rattle.glue_shared.specs.declared.name_map.NameMap.{NameMap}
 use Rattle.glue_shared.specs.declared.settings.Settings.{Settings}
 use Rattle.glue_check.specs.Publishing.{qualified}
-use Rattle.glue_naming.specs.declared.named.Named.TheVariants.{Import, Function}
+use Rattle.glue_naming.specs.declared.named.Named.TheVariants.{Enum, Import, Function, Namespace}
 use Rattle.glue_naming.specs.declared.named.Wanted.{Wanted}
 use Rattle.glue_naming.specs.Drawing.{IsDrawnMap, AreGood, name_in}
 use Rattle.glue_naming.specs.Given.{reserved_names}
 use Rattle.glue_naming.specs.ItemNames.{item_map, item_names}
-use Rattle.glue_naming.specs.Wanted.{AreWanted}
+use Rattle.glue_naming.specs.Wanted.{AreWanted, enum_key}
 
 -- the name that the function of an export was given
 abbrev pub function_name : NameMap → AuxExport → Option (List ℕ)
@@ -24,6 +25,14 @@ is_named m e = is_some (function_name m e)
 -- that name, or the empty text where none was given
 abbrev pub declared_name : NameMap → AuxExport → List ℕ
 declared_name m e = unwrap_or (function_name m e) []
+
+-- the name that an enum was given
+abbrev pub enum_name : NameMap → AuxEnum → Option (List ℕ)
+enum_name m e = name_in m (Enum (enum_key e))
+
+-- the name of the namespace's object at a name
+abbrev pub root_name : NameMap → List ℕ → Option (List ℕ)
+root_name m name = name_in m (Namespace name)
 
 -- the name that stands for what an import begins with, where one was drawn
 abbrev pub import_name : NameMap → JsImportName → Option (List ℕ)

@@ -10,9 +10,10 @@ use Rattle.glue_shared.specs.declared.aux.AuxStruct.{AuxStruct}
 use Rattle.glue_shared.specs.declared.description.Lowered.{Lowered}
 use Rattle.glue_shared.specs.declared.settings.Settings.{Settings}
 use Rattle.glue_shared.specs.Paths.{qualified_name}
+use Rattle.glue_published.specs.Roots.{AreRoots}
 use Rattle.glue_check.specs.Publishing.{qualified}
 use Rattle.glue_check.specs.Unbuilt.{is_function_kind}
-use Rattle.glue_naming.specs.declared.named.Named.TheVariants.{Class, Registry, Enum, Function}
+use Rattle.glue_naming.specs.declared.named.Named.TheVariants.{Class, Registry, Enum, Function, Namespace}
 use Rattle.glue_naming.specs.declared.named.WantedName.TheVariants.{Plain, After}
 use Rattle.glue_naming.specs.declared.named.Wanted.{Wanted}
 use Rattle.glue_naming.specs.Arranged.{IsArranged, text_order}
@@ -34,8 +35,8 @@ class_names s =
     ∷ []
 
 -- an enum of this qualified name
-abbrev pub enum_name : List ℕ → Wanted
-enum_name key = record { thing = Enum key; name = Plain key }
+abbrev pub enum_wanted : List ℕ → Wanted
+enum_wanted key = record { thing = Enum key; name = Plain key }
 
 -- a function of this qualified name
 abbrev pub function_wanted : List ℕ → Wanted
@@ -45,12 +46,16 @@ function_wanted key = record { thing = Function key; name = Plain key }
 abbrev pub function_names : AuxExport → List Wanted
 function_names e = if is_function_kind e.kind then function_wanted (qualified e) ∷ [] else []
 
+-- a namespace with this name, at which the glue file makes its object
+abbrev pub root_wanted : List ℕ → Wanted
+root_wanted name = record { thing = Namespace name; name = Plain name }
+
 -- exports by debug name, and then by the adapter's id
 abbrev pub debug_order : AuxExport → AuxExport → Ordering
 debug_order a b = ordering_then (text_order a.debug b.debug) (nat_cmp a.adapter b.adapter)
 
 -- classes as they are described, each with its registry, enums by qualified name, what own imports call by the import's name and then by
--- the adapter's id, and functions by debug name and then by id
+-- the adapter's id, functions by debug name and then by id, and namespaces at the root in the order of their names' bytes
 pub record AreWanted (s : Settings) (l : Lowered) (list : List Wanted) : Type 0 where
   pub enums : List (List ℕ)
   pub by_name : IsArranged text_order (map enum_key l.aux.enums) enums
@@ -58,4 +63,7 @@ pub record AreWanted (s : Settings) (l : Lowered) (list : List Wanted) : Type 0 
   pub by_import : IsArranged (pair_order l) l.wit.implements pairs
   pub functions : List AuxExport
   pub by_debug : IsArranged debug_order l.aux.exports functions
-  pub all : list ≡ flat_map class_names l.aux.structs ++ (map enum_name enums ++ (imports_wanted s l pairs ++ flat_map function_names functions))
+  pub roots : List (List ℕ)
+  pub by_bytes : AreRoots s l.aux roots
+  pub all : list ≡ flat_map class_names l.aux.structs
+      ++ (map enum_wanted enums ++ (imports_wanted s l pairs ++ (flat_map function_names functions ++ map root_wanted roots)))

@@ -8,6 +8,7 @@ use crate::imported::push_imports;
 use crate::named::{Named, Wanted, WantedName};
 use crate::pairs::pairs_by_import;
 use glue_check::{is_function_kind, qualified, qualified_name};
+use glue_published::root_names;
 use glue_shared::{AuxEnum, AuxExport, AuxStruct, Lowered, Settings};
 use std::alloc::{AllocError, Global};
 use std::cmp::Ordering;
@@ -17,7 +18,7 @@ use values::{Duplicate, Seq, Text};
 fn push_class(alloc: Global, class: &AuxStruct, list: &mut Seq<Wanted>) -> Result<(), AllocError>
     ensures pushed { OnOk result (list.new ≡ list.old ++ spec.class_names class.now) }
 {
-    let key = qualified_name(alloc, class.namespace.as_slice(), &class.name)?;
+    let key = qualified_name(alloc, class.namespace.as_slice(), class.name.as_str())?;
     list.push(Wanted {
         thing: Named::Class(key.copy(alloc)?),
         name: WantedName::Plain(key.copy(alloc)?),
@@ -49,7 +50,7 @@ fn enum_keys(alloc: Global, enums: &[AuxEnum]) -> Result<Vec<Text>, AllocError>
 {
     let mut keys = Vec::new(alloc);
     for one in enums {
-        keys.push(qualified_name(alloc, one.namespace.as_slice(), &one.name)?)?;
+        keys.push(qualified_name(alloc, one.namespace.as_slice(), one.name.as_str())?)?;
     }
     Ok(keys)
 }
@@ -65,7 +66,7 @@ fn enums_by_name(alloc: Global, enums: &[AuxEnum]) -> Result<Vec<Text>, AllocErr
 
 // Adds the names of enums of these qualified names.
 fn push_enums(alloc: Global, keys: &[Text], list: &mut Seq<Wanted>) -> Result<(), AllocError>
-    ensures pushed { OnOk result (list.new ≡ list.old ++ map spec.enum_name keys.now) }
+    ensures pushed { OnOk result (list.new ≡ list.old ++ map spec.enum_wanted keys.now) }
 {
     for key in keys {
         list.push(Wanted {
@@ -134,6 +135,19 @@ fn push_functions(
     Ok(())
 }
 
+// Adds the names of namespaces at these names.
+fn push_roots(alloc: Global, roots: &[Text], list: &mut Seq<Wanted>) -> Result<(), AllocError>
+    ensures pushed { OnOk result (list.new ≡ list.old ++ map spec.root_wanted roots.now) }
+{
+    for root in roots {
+        list.push(Wanted {
+            thing: Named::Namespace(root.copy(alloc)?),
+            name: WantedName::Plain(root.copy(alloc)?),
+        })?;
+    }
+    Ok(())
+}
+
 /// The names that settings and a description ask for, in the order in which they are drawn. Want of memory is the only error.
 pub fn wanted(
     alloc: Global,
@@ -145,10 +159,12 @@ pub fn wanted(
     let enums = enums_by_name(alloc, lowered.aux.enums.as_slice())?;
     let pairs = pairs_by_import(alloc, lowered)?;
     let functions = exports_by_debug(alloc, lowered.aux.exports.as_slice())?;
+    let roots = root_names(alloc, settings, &lowered.aux)?;
     let mut list = Seq::new(alloc);
     push_classes(alloc, lowered.aux.structs.as_slice(), &mut list)?;
     push_enums(alloc, enums.as_slice(), &mut list)?;
     push_imports(alloc, settings, lowered, pairs.as_slice(), &mut list)?;
     push_functions(alloc, functions.as_slice(), &mut list)?;
+    push_roots(alloc, roots.as_slice(), &mut list)?;
     Ok(list)
 }

@@ -20,6 +20,8 @@ pub enum Named {
     /// are left out.
     Import(JsImportName),
     Function(Text),
+    /// The object of the namespace that is published under this name.
+    Namespace(Text),
 }
 
 /// The name that is wanted.
@@ -61,6 +63,7 @@ pub(crate) fn put_name(
         Named::Enum(key) => put_at(&mut map.enums, key.copy(alloc)?, name),
         Named::Import(key) => put_at(&mut map.imports, copied_import(alloc, key)?, name),
         Named::Function(key) => put_at(&mut map.functions, key.copy(alloc)?, name),
+        Named::Namespace(key) => put_at(&mut map.namespaces, key.copy(alloc)?, name),
     }
 }
 
@@ -74,5 +77,6 @@ pub fn name_in<'a>(map: &'a NameMap, thing: &Named) -> Option<&'a Text>
         Named::Enum(key) => map.enums.get(key),
         Named::Import(key) => map.imports.get(key),
         Named::Function(key) => map.functions.get(key),
+        Named::Namespace(key) => map.namespaces.get(key),
     }
 }

@@ -16,6 +16,7 @@ enum Kind {
     Registry,
     Enum,
     Function,
+    Namespace,
 }
 
 fn thing(alloc: Global, kind: Kind, key: &str) -> Result<Named, AllocError> {
@@ -25,6 +26,7 @@ fn thing(alloc: Global, kind: Kind, key: &str) -> Result<Named, AllocError> {
         Kind::Registry => Ok(Named::Registry(key)),
         Kind::Enum => Ok(Named::Enum(key)),
         Kind::Function => Ok(Named::Function(key)),
+        Kind::Namespace => Ok(Named::Namespace(key)),
     }
 }
 
@@ -41,6 +43,8 @@ const ROWS: &[(Kind, &str, &str)] = &[
     (Kind::Function, "new", "_new"),
     (Kind::Function, "a-b", "a_b"),
     (Kind::Function, "a b", "a_b2"),
+    (Kind::Namespace, "add", "add2"),
+    (Kind::Namespace, "math", "math"),
 ];
 
 fn wanted_name(alloc: Global, kind: Kind, key: &str) -> Result<WantedName, AllocError> {

@@ -269,17 +269,21 @@ fn enum_x(alloc: Global) -> Result<AuxEnum, AllocError> {
     })
 }
 
-fn function_x(alloc: Global) -> Result<AuxExport, AllocError> {
+fn function(alloc: Global, namespace: &[&str], name: &str) -> Result<AuxExport, AllocError> {
+    let mut segments = Seq::new(alloc);
+    for segment in namespace {
+        segments.push(Text::from_str(alloc, segment)?)?;
+    }
     Ok(AuxExport {
         adapter: AdapterId(0),
         kind: AuxExportKind::Function,
-        name: Text::from_str(alloc, "x")?,
+        name: Text::from_str(alloc, name)?,
         class: None,
         receiver: AuxReceiverKind::None,
-        namespace: Seq::new(alloc),
+        namespace: segments,
         args: Seq::new(alloc),
         comments: None,
-        debug: Text::from_str(alloc, "x")?,
+        debug: Text::from_str(alloc, name)?,
         typescript: false,
         jsdoc: false,
         variadic: false,
@@ -287,20 +291,26 @@ fn function_x(alloc: Global) -> Result<AuxExport, AllocError> {
     })
 }
 
+// An enum, an import, a function and a namespace, each of which wants the name `x`.
 #[test]
-fn imports_come_between_enums_and_functions(rt: HostRuntime) -> Result<(), ParseFault> {
+fn kinds_draw_their_names_in_order(rt: HostRuntime) -> Result<(), ParseFault> {
     let alloc = rt.alloc();
     let settings = settings(alloc, Target::Deno)?;
     let mut lowered = lowered_pairs(alloc, ONE_PAIR)?;
     lowered.aux.enums.push(enum_x(alloc)?)?;
-    lowered.aux.exports.push(function_x(alloc)?)?;
+    lowered.aux.exports.push(function(alloc, &["x"], "f")?)?;
+    lowered.aux.exports.push(function(alloc, &[], "x")?)?;
     let map: NameMap = names_of::<IdentScope>(alloc, &settings, &lowered)?;
     let declared = Named::Enum(Text::from_str(alloc, "x")?);
     assert_name(&rt, name_in(&map, &declared), "x");
     let imported = js_name(alloc, X)?;
     assert_name(&rt, import_name(&map, &imported), "x2");
-    let exported = function_x(alloc)?;
+    let exported = function(alloc, &[], "x")?;
     assert_name(&rt, function_name(alloc, &map, &exported)?, "x3");
+    let member = function(alloc, &["x"], "f")?;
+    assert_name(&rt, function_name(alloc, &map, &member)?, "x__f");
+    let root = Named::Namespace(Text::from_str(alloc, "x")?);
+    assert_name(&rt, name_in(&map, &root), "x4");
     Ok(())
 }
 
