@@ -20,11 +20,11 @@ pub use Rattle.glue_naming.specs.Naming.{AreNames, declared_name, is_named}
 pub use Rattle.glue_context.specs.Defined.{IsDefined, defined_by, defined_places}
 pub use Rattle.glue_context.specs.Edits.{AreFit, with_added, with_moved}
 pub use Rattle.glue_context.specs.Foreign.{foreign_lines, foreign_modules, module_at, modules_from}
-pub use Rattle.glue_context.specs.ExportedItems.{declaration_back, declaration_front, declare_item, declare_items, publish_item, publish_items}
+pub use Rattle.glue_context.specs.ExportedItems.{declaration_back, declaration_front, declaration_words, declare_item}
 pub use Rattle.glue_context.specs.ImportedItems.{line_form, vendor_items}
 pub use Rattle.glue_context.specs.DefinedItems.{IsDefineItem, is_definable}
 pub use Rattle.glue_context.specs.Functions.{IsFunctionOf, default_names}
-pub use Rattle.glue_context.specs.Items.{AreDeclareItems, IsArranged, IsGlue, all_items, frame_by, frame_of, front_items, joined_groups, export_order, is_bindable}
+pub use Rattle.glue_context.specs.Items.{AreFunctionItems, AreTreeItems, IsArranged, IsGlue, all_items, frame_by, frame_of, front_items, joined_groups, is_bindable}
 pub use Rattle.glue_context.specs.Linked.{IsLinked, IsPrescribed}
 pub use Rattle.glue_context.specs.Rewritten.{edits_of, move_of, rewritten}
 pub use Rattle.glue_shared.specs.Names.{described_hosts, fixed_public, global_names, import_names, is_one_of, js_import, live_count, names_of}

@@ -1,8 +1,7 @@
 -- What the items that define own imports hold and declare, and that each belongs into the file.
-use Rattle.glue_context.proofs.Common.{◌≡◌, ℕ, inl, inr, List, [], ◌∷◌, ◌++◌, map, flat_map, Bool, true, false, refl, sym, ap, ◌∙◌, subst, arith, rules, append-nil, codes, filter_map, filter_map-append, true≢false, list_all, list_any, Option, Some, None, is_some, IsIn, AreAmong, HOSTS, Item, Belongs, Context, IsFrame, bound_name, bound_in, used_in, hosted_in, wasm_in, spliced_in, is_export_key, is_exported, Contents, AuxImport, Settings, NameMap, Lowered, host_names, own_imports, HasSteps, IsDefineItem, js_import, names_of, entry_at}
-use Rattle.std.specs.Prelude.{◌&&◌, cond, not}
+use Rattle.glue_context.proofs.Common.{◌≡◌, ℕ, inl, inr, List, [], ◌∷◌, ◌++◌, map, Bool, true, false, refl, sym, ap, ◌∙◌, subst, rules, append-nil, codes, filter_map, filter_map-append, true≢false, list_all, list_any, Option, Some, None, IsIn, AreAmong, HOSTS, Item, Belongs, Context, IsFrame, bound_name, bound_in, used_in, hosted_in, wasm_in, spliced_in, is_export_key, is_exported, Settings, NameMap, Lowered, host_names, own_imports, HasSteps, IsDefineItem}
 use Rattle.std.proofs.lemmas.Bool.{and_parts}
-use Rattle.std.proofs.lemmas.List.Folds.{list_all-append, list_any-append}
+use Rattle.std.proofs.lemmas.List.Folds.{list_any-append}
 use Rattle.wasm_core.specs.ids.ImportId.{ImportId}
 use Rattle.wasm_core.specs.types.Limits.{Limits}
 use Rattle.glue_words.specs.declared.word.Word.{Word}
@@ -11,7 +10,7 @@ use Rattle.glue_words.specs.declared.item.Role.TheVariants as role
 use Rattle.glue_words.specs.Ident.{is_ident}
 use Rattle.glue_words.specs.Limits.{is_computed, is_prop}
 use Rattle.glue_words.specs.Names.{used_name, hosted_name, local_name, local_bound_name, wasm_name, spliced_key, local_in, local_bound_in}
-use Rattle.glue_words.specs.Spacing.{is_wasm, joins, first_word, each_next}
+use Rattle.glue_words.specs.Spacing.{joins, first_word, each_next}
 use Rattle.glue_words.specs.Tables.{punct_text}
 use Rattle.glue_words.specs.Words.{printed, space}
 use Rattle.glue_words.proofs.Among.{apart_none}
@@ -24,7 +23,7 @@ use Rattle.glue_tree.proofs.Names.{IsKind}
 use Rattle.glue_imports.specs.Given.{nothing_given}
 use Rattle.glue_imports.specs.declared.part.Part.{Part}
 use Rattle.glue_imports.specs.declared.part.Part.TheVariants as part
-use Rattle.glue_imports.specs.Definitions.{function_or_throw, typeof_front, if_function, else_not_defined}
+use Rattle.glue_imports.specs.Definitions.{function_or_throw, if_function, else_not_defined}
 use Rattle.glue_imports.specs.Roots.{begins_with, drawn_name, plain_name, root}
 use Rattle.glue_binding.proofs.Free.{is_free, free_found, free_take}
 use Rattle.glue_binding.proofs.Parts.{outer_parts, parts_declare, parts_bind, parts_use}
@@ -33,11 +32,10 @@ use Rattle.glue_shared.specs.declared.import.AuxImport.TheVariants as what
 use Rattle.glue_shared.specs.declared.import.AuxValue.TheVariants as value
 use Rattle.glue_shared.specs.declared.import.JsImport.{JsImport}
 use Rattle.glue_shared.specs.Names.{adapter_for, handed_part, has_number}
-use Rattle.glue_check.specs.Handed.{own_callees}
 use Rattle.glue_check.proofs.Called.{called_own}
 use Rattle.glue_check.proofs.OwnPairs.{IsDefinableBy, IsDefinedImport, number_there}
-use Rattle.glue_context.specs.Defined.{HoldsAdapter, HoldsDefinition, HoldsFunction, defined_by}
-use Rattle.glue_context.specs.DefinedItems.{IsAdapterItem, IsDefinedBy, IsFunctionItem, IsMemoryItem, IsPartItem, define_item, definition_back, definition_front, is_unpaired, address_words, limit_words, maximum_words, memory_back, memory_front, memory_words, part_words, spelled, takes_memory, value_front, value_item, value_text, words_text}
+use Rattle.glue_context.specs.Defined.{HoldsAdapter, HoldsDefinition, HoldsFunction}
+use Rattle.glue_context.specs.DefinedItems.{IsAdapterItem, IsDefinedBy, IsFunctionItem, IsMemoryItem, IsPartItem, definition_back, definition_front, is_unpaired, address_words, limit_words, maximum_words, memory_back, memory_front, memory_words, part_words, spelled, value_front, value_text, words_text}
 use Rattle.glue_context.specs.Rewritten.{rewritten}
 use Rattle.glue_context.proofs.Declared.{all_found}
 use Rattle.glue_context.proofs.Edited.{moved_keeps}

@@ -30,7 +30,7 @@ use Rattle.glue_imports.specs.Definitions.{typeof_front, if_function, else_not_d
 use Rattle.glue_imports.specs.Given.{Given, constants_set, false_set, last_of, set_text, statements, table_filled, texts_from}
 use Rattle.glue_imports.specs.Roots.{begins, begins_with, drawn_name, plain_name, root}
 use Rattle.glue_imports.specs.Preludes.{plain, line_end, catch_front, close_line, result_is, instance_of, cast, linked, present}
-use Rattle.glue_imports.specs.Expressions.{around, assigned, index, new_front, delete_front, accessor_front, owner, described_call, accessor, value_parts, static_parts, loaded, intrinsic_expression, expression}
+use Rattle.glue_imports.specs.Expressions.{around, assigned, index, new_front, delete_front, accessor_front, owner, described_call, value_parts, static_parts, loaded, intrinsic_expression, expression}
 use Rattle.glue_imports.specs.Intrinsics.{declares_instance, declares_module, name_if}
 use Rattle.glue_tree.specs.FixedWords.{semicolon, comma}
 use Rattle.glue_binding.proofs.Parts.{bound_places}

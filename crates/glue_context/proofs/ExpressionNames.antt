@@ -1,5 +1,5 @@
 -- The parts of each expression, and of the statements before it, use no other names than a file has of the import.
-use Rattle.std.proofs.Common.{◌≡◌, ℕ, List, [], ◌∷◌, ◌++◌, map, refl, ap, sym, subst, ◌∙◌, Bool, true, false, true≢false, not, ◌&&◌, Option, Some, None, inl, inr}
+use Rattle.std.proofs.Common.{◌≡◌, ℕ, List, [], ◌∷◌, ◌++◌, map, refl, sym, subst, Bool, true, false, true≢false, not, ◌&&◌, Option, Some, None, inl}
 use Rattle.std.specs.Prelude.{codes, filter, option_map}
 use Rattle.std.specs.List.{AllByRecursion, list_all}
 use Rattle.std.proofs.lemmas.Bool.{and_parts}
@@ -32,7 +32,7 @@ use Rattle.glue_imports.specs.declared.part.Expression.{Expression}
 use Rattle.glue_imports.specs.Definitions.{typeof_front, if_function, else_not_defined, function_or_throw}
 use Rattle.glue_imports.specs.Given.{Given, constants_set, exported, false_set, gives_item, is_giving, last_of, set_slot, set_text, statements, table_filled, texts_from}
 use Rattle.glue_imports.specs.Roots.{begins, begins_with, drawn_name, plain_name, root_name, root}
-use Rattle.glue_imports.specs.Preludes.{plain, const_line, let_line, try_front, line_end, catch_front, close_line, result_is, unless_undefined, instance_of, cast, linked, present}
+use Rattle.glue_imports.specs.Preludes.{plain, const_line, let_line, try_front, line_end, catch_front, close_line, result_is, instance_of, cast, linked, present}
 use Rattle.glue_imports.specs.Expressions.{around, assigned, index, new_front, delete_front, accessor_front, owner, described_call, value_parts, static_parts, parts_of, loaded, intrinsic_expression, expression}
 use Rattle.glue_imports.specs.Intrinsics.{host, loaded_name}
 use Rattle.helper_table.proofs.Held.{free_names}

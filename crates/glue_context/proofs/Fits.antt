@@ -1,19 +1,22 @@
 -- What the check of a description gives of the functions of adapters: they belong into the file, and what the items of exports declare and publish.
-use Rattle.glue_context.proofs.Common.{◌≡◌, ℕ, List, [], ◌∷◌, ◌++◌, Bool, true, false, true≢false, Some, refl, ◌∙◌, subst, arith, rules, inl, flat_map, AllByRecursion, codes, list_all, list_any, bytes_eq, bytes_eq-Decides, filter_map-append, AreAmong, IsIn, in_left, Item, AllItems, bound_name, bound_in, used_in, hosted_in, wasm_in, spliced_in, is_export_key, Context, Belongs, IsFrame, is_exported, published_by, Step, AuxExport, AuxImport, Settings, NameMap, Lowered, host_names, export_names, js_import, names_of, declared_name, AreDeclareItems, IsFunctionOf, declare_item, publish_item, declaration_front, declaration_back, IsThere, IsDescribed, HasSteps, HOSTS, map}
+use Rattle.glue_context.proofs.Common.{◌≡◌, ℕ, List, [], ◌∷◌, ◌++◌, Bool, true, false, true≢false, Some, refl, ◌∙◌, subst, arith, rules, AllByRecursion, codes, list_all, list_any, filter_map-append, AreAmong, IsIn, in_left, Item, bound_name, bound_in, used_in, hosted_in, wasm_in, spliced_in, is_export_key, Context, Belongs, IsFrame, is_exported, Step, AuxExport, AuxImport, Settings, NameMap, Lowered, host_names, export_names, js_import, names_of, declared_name, IsFunctionOf, declare_item, declaration_front, declaration_back, IsThere, IsDescribed, HasSteps, HOSTS, map, AreFunctionItems, declaration_words, inr}
 use Rattle.std.proofs.Common.{append_assoc, ap, sym}
-use Rattle.std.specs.Prelude.{filter, if◌then◌else◌}
+use Rattle.std.specs.Prelude.{filter}
 use Rattle.std.proofs.lemmas.{List.Folds.list_any-append, List.Folds.list_all-append}
-use Rattle.glue_words.specs.declared.item.Thing.TheVariants as thing
 use Rattle.glue_words.specs.declared.word.Word.{Word}
-use Rattle.glue_words.specs.declared.word.Word.TheVariants.{Refer}
+use Rattle.glue_words.specs.declared.word.Word.TheVariants as w
+use Rattle.glue_words.specs.declared.key.TheConstants as key
+use Rattle.glue_words.specs.Words.{space}
 use Rattle.glue_words.specs.Ident.{is_ident}
 use Rattle.glue_words.specs.Limits.{is_computed}
-use Rattle.glue_words.specs.Spacing.{is_wasm, joins}
-use Rattle.glue_words.specs.Tables.{punct_text}
 use Rattle.glue_words.proofs.Among.{apart_none, among_both, among_by, among_left}
-use Rattle.glue_words.proofs.Fitting.{belongs_by_facts}
 use Rattle.glue_tree.proofs.Fit.{is_inner}
-use Rattle.glue_targets.specs.RoleWords.{clause_words}
+use Rattle.glue_targets.specs.RoleWords.{export_first}
+use Rattle.glue_exports.specs.Notes.{lines_of}
+use Rattle.glue_exports.specs.Printed.{exported_item}
+use Rattle.glue_exports.proofs.Linkage.{export_belongs, noted_belong, noted_binds, noted_exported, noted_unexported}
+use Rattle.glue_public.specs.Described.{FunctionItems}
+use Rattle.glue_public.specs.Public.{IsDeclared}
 use Rattle.glue_targets.proofs.FixedTexts.{call_takes}
 use Rattle.glue_binding.specs.Spelling.{path_words, chained_words}
 use Rattle.glue_binding.proofs.Standing.{step_fit}
@@ -42,7 +45,6 @@ use Rattle.glue_context.specs.DefinedItems.{takes_memory}
 use Rattle.glue_context.specs.Edits.{has_start}
 use Rattle.glue_context.specs.Keys.{described_keys, import_properties, imported_properties, other_properties}
 use Rattle.glue_context.proofs.Declared.{all_found}
-use Rattle.glue_context.proofs.Lists.{none_given}
 use Rattle.glue_context.proofs.ExpressionFits.{IsWell, IsNamedWell, expression_fit}
 use Rattle.glue_context.proofs.ExpressionNames.{HasPart, HasExpression, HasLoaded, HasName, used_hosts, expression_has}
 
@@ -238,93 +240,63 @@ module _ {s : Settings} {m : NameMap} {l : Lowered} {id : ℕ} {names : List (Li
 
 -- ---- exports
 
--- a clause publishes a name that the file has
-clause_belongs : (c : Context) (name public : List ℕ) → is_ident name ≡ true → IsIn name c.declared → Belongs c (clause_words public (Refer name false))
-unfolding joins punct_text
-clause_belongs c name public ident at = belongs_by_facts c (clause_words public (Refer name false)) (record {
-  alone = refl;
-  idents = rw ident refl;
-  props = refl;
-  resolved = (at, tt);
-  known = tt;
-  local = tt;
-  apart = tt;
-  taken = tt;
-  described = tt;
-  formed = refl;
-  opened = tt;
-  gated = tt;
-})
+declaration_frame : (name : List ℕ) → is_ident name ≡ true → IsFrame (declaration_front name) declaration_back
+declaration_frame name ident = record { right = (rw ident refl, refl); before = refl; behind = refl; after = refl; apart = refl; ends = refl }
 
-declaration_frame : (exported : Bool) (name : List ℕ) → is_ident name ≡ true → IsFrame (declaration_front exported name) declaration_back
-declaration_frame true name ident = record { right = (rw ident refl, refl); before = refl; behind = refl; after = refl; apart = refl; ends = refl }
-declaration_frame false name ident = record { right = (rw ident refl, refl); before = refl; behind = refl; after = refl; apart = refl; ends = refl }
+module _ (s : Settings) (m : NameMap) (l : Lowered) (e : AuxExport) (items : FunctionItems) (d : AreFunctionItems s m l e items) where
+  abbrev name : List ℕ
+  name = declared_name m e
 
-module _ (s : Settings) (m : NameMap) (l : Lowered) where
-  module _ (e : AuxExport) (group : List Item) (d : AreDeclareItems s m l e group) where
-    abbrev name : List ℕ
-    name = declared_name m e
+  -- the declaration, without the note
+  abbrev bare : List Word
+  bare = declaration_front name ++ (d.function.words ++ declaration_back)
 
-    -- the items where both names are one, and where they aren't
-    abbrev group_of : Bool → List Item
-    group_of exported =
-        declare_item exported e.adapter name d.function.words ∷ (if exported then [] else publish_item e.adapter name e.name ∷ [])
+  -- the declaration
+  abbrev pub declared : Item
+  declared = declare_item e.comments e.adapter name d.function.words
 
-    -- what holds of the declaration, and of the clause where there is one, holds of each
-    pub each_of : (P : Item → Type 0) → P (declare_item (bytes_eq name e.name) e.adapter name d.function.words)
-        → (bytes_eq name e.name ≡ false → P (publish_item e.adapter name e.name)) → AllItems P group
-    each_of P declares publishes = subst (AllItems P) (sym d.are) (by (bytes_eq name e.name) refl declares)
+  bare_binds : bound_in bare ≡ name ∷ []
+  bare_binds = rw (function_binds d.of_adapter declaration_back) refl
+
+  -- it binds the name
+  pub declared_binds : bound_in declared.words ≡ name ∷ []
+  declared_binds = noted_binds (lines_of e.comments) bare ∙ bare_binds
+
+  -- with `export` it is the same behind the keyword
+  pub declared_exported : (exported_item declared).words ≡ declaration_words true e.comments name d.function.words
+  declared_exported = noted_exported (lines_of e.comments) key.FUNCTION (space ∷ w.Bind name ∷ (d.function.words ++ declaration_back))
+
+  module _ (well : AreWell s l m) (ident : is_ident name ≡ true) (h : HasSteps s l e.adapter) where
+    -- it isn't exported by itself
+    pub declared_hidden : is_exported declared ≡ false
+    declared_hidden =
+        noted_unexported (lines_of e.comments) bare
+        (list_any-append is_export_key d.function.words declaration_back
+        ∙ rw (function_inner d.of_adapter well h (declaration_front name) declaration_back (declaration_frame name ident)) refl)
+
+    -- what is published for the function is declared
+    pub function_declared : IsDeclared e items
+    function_declared = inr (record {
+      before = [];
+      item = declared;
+      after = [];
+      are = ap (λ (x : FunctionItems). x.1) d.are;
+      declares = refl;
+      binds = declared_binds ∙ ap (λ (x : FunctionItems). x.0 ∷ []) (sym d.are);
+      unexported = declared_hidden;
+      plain = refl;
+    })
+
+    -- it belongs into a file that has what functions use, exported or not
+    pub declared_belongs : (declared : List (List ℕ)) → HasBasis s l m declared → (exported : Bool)
+        → Belongs (names_with s l declared) (declaration_words exported e.comments name d.function.words)
+    declared_belongs declared basis exported =
+        noted_belong (names_with s l declared) (lines_of e.comments) (export_first exported ++ bare) (by exported)
       where
-        by : (exported : Bool) → bytes_eq name e.name ≡ exported → P (declare_item exported e.adapter name d.function.words) → AllItems P (group_of exported)
-        by true q h = (h, tt)
-        by false q h = (h, (publishes q, tt))
+        alone : Belongs (names_with s l declared) bare
+        alone = function_fits d.of_adapter well h (declaration_front name) declaration_back (declaration_frame name ident) declared basis
+            (search (rules, apart_none))
 
-    -- and where they give nothing, the group doesn't
-    pub group_none : {B : Type 0} (give : Item → List B) → give (declare_item (bytes_eq name e.name) e.adapter name d.function.words) ≡ []
-        → give (publish_item e.adapter name e.name) ≡ [] → flat_map give group ≡ []
-    group_none give declares publishes = none_given give group (each_of (λ item. give item ≡ []) declares (λ q. publishes))
-
-    -- where there is a clause, the group holds the declaration, which binds the name
-    pub declaration_stands : bytes_eq name e.name ≡ false → IsIn (declare_item false e.adapter name d.function.words) group
-    declaration_stands q = subst (IsIn (declare_item false e.adapter name d.function.words)) (sym d.are)
-        (subst (λ (b : Bool). IsIn (declare_item false e.adapter name d.function.words) (group_of b)) (sym q) (inl refl))
-
-    pub declaration_binds : IsIn name (bound_in (declare_item false e.adapter name d.function.words).words)
-    declaration_binds = inl refl
-
-    pub declare_binds : flat_map (λ (item : Item). bound_in item.words) group ≡ name ∷ []
-    declare_binds = ap (flat_map (λ (item : Item). bound_in item.words)) d.are ∙ by (bytes_eq name e.name)
-      where
-        by : (exported : Bool) → flat_map (λ (item : Item). bound_in item.words) (group_of exported) ≡ name ∷ []
-        by true = rw (function_binds d.of_adapter declaration_back) refl
-        by false = rw (function_binds d.of_adapter declaration_back) refl
-
-    module _ (well : AreWell s l m) (ident : is_ident name ≡ true) (h : HasSteps s l e.adapter) where
-      hidden : is_exported (declare_item false e.adapter name d.function.words) ≡ false
-      hidden =
-          list_any-append is_export_key d.function.words declaration_back
-          ∙ rw (function_inner d.of_adapter well h (declaration_front false name) declaration_back (declaration_frame false name ident)) refl
-
-      pub declare_publishes : flat_map published_by group ≡ (e.name ∷ [], thing.Adapter e.adapter) ∷ []
-      declare_publishes = ap (flat_map published_by) d.are ∙ by (bytes_eq name e.name) refl
-        where
-          by : (exported : Bool) → bytes_eq name e.name ≡ exported → flat_map published_by (group_of exported) ≡ (e.name ∷ [], thing.Adapter e.adapter) ∷ []
-          by true q =
-              let same = (bytes_eq-Decides name e.name).0 q in
-              rw (function_binds d.of_adapter declaration_back) (ap (λ (n : List ℕ). (n ∷ [], thing.Adapter e.adapter) ∷ []) same)
-          by false q = rw hidden refl
-
-      pub declare_belongs : (declared : List (List ℕ)) → HasBasis s l m declared → IsIn name declared
-          → AllItems (λ item. Belongs (names_with s l declared) item.words) group
-      declare_belongs declared basis at =
-          subst (AllItems (λ item. Belongs (names_with s l declared) item.words)) (sym d.are) (by (bytes_eq name e.name))
-        where
-          function : (exported : Bool) → Belongs (names_with s l declared) (declare_item exported e.adapter name d.function.words).words
-          function true = function_fits d.of_adapter well h (declaration_front true name) declaration_back (declaration_frame true name ident) declared basis
-              (search (rules, apart_none))
-          function false = function_fits d.of_adapter well h (declaration_front false name) declaration_back (declaration_frame false name ident) declared basis
-              (search (rules, apart_none))
-
-          by : (exported : Bool) → AllItems (λ item. Belongs (names_with s l declared) item.words) (group_of exported)
-          by true = (function true, tt)
-          by false = (function false, (clause_belongs (names_with s l declared) name e.name ident at, tt))
+        by : (exported : Bool) → Belongs (names_with s l declared) (export_first exported ++ bare)
+        by true = export_belongs (names_with s l declared) bare alone
+        by false = alone

@@ -1,5 +1,5 @@
 -- What the items declare that bind names of modules and vendors, that each belongs into the file, and that they publish and define nothing.
-use Rattle.glue_context.proofs.Common.{◌≡◌, ℕ, inl, inr, List, [], ◌∷◌, ◌++◌, Bool, true, refl, sym, ap, ◌∙◌, subst, codes, flat_map, list_all, IsIn, AreDistinct, AreAmong, AreApart, Item, Settings, Lowered, Contents, described_hosts, bound_name, bound_names, published_by, fixed_by, defined_by, IsPrescribed, AllItems, Belongs, Context, Frame}
+use Rattle.glue_context.proofs.Common.{◌≡◌, ℕ, inl, inr, List, [], ◌∷◌, ◌++◌, Bool, true, refl, sym, ap, ◌∙◌, subst, codes, list_all, IsIn, AreDistinct, AreAmong, AreApart, Item, Settings, Lowered, Contents, described_hosts, bound_name, bound_names, published_by, fixed_by, defined_by, IsPrescribed, AllItems, Belongs, Context, Frame}
 use Rattle.std.proofs.Common.{false, ◌⊎◌}
 use Rattle.std.specs.Prelude.{◌&&◌}
 use Rattle.std.proofs.lemmas.Bool.{and_parts}
@@ -16,7 +16,7 @@ use Rattle.glue_shared.specs.Names.{is_from_module}
 use Rattle.glue_check.specs.Omitted.{name_where}
 use Rattle.glue_targets.specs.Published.{IsNamed}
 use Rattle.glue_lines.specs.declared.form.LineForm.{LineForm}
-use Rattle.glue_lines.specs.Grouped.{Imported, AreImportLines, placed_entries}
+use Rattle.glue_lines.specs.Grouped.{Imported, AreImportLines}
 use Rattle.glue_lines.specs.Vendor.{vendor_constant, vendor_names}
 use Rattle.glue_lines.proofs.GroupedFacts as grouped
 use Rattle.glue_lines.proofs.LineFacts.{entry_names, line_hosts, import_holds}

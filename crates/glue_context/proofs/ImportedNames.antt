@@ -1,5 +1,5 @@
 -- Names of described imports by what these are: of modules, of vendors, or of the host.
-use Rattle.glue_context.proofs.Common.{◌≡◌, ℕ, inl, inr, List, [], ◌∷◌, ◌++◌, map, Bool, true, false, true≢false, refl, sym, ap, ◌∙◌, flat_map, IsIn, AreDistinct, AreApart, in_left, in_right, distinct_both}
+use Rattle.glue_context.proofs.Common.{◌≡◌, ℕ, inl, inr, List, [], ◌∷◌, ◌++◌, map, Bool, true, false, true≢false, refl, sym, ap, flat_map, IsIn, AreDistinct, AreApart, in_left, in_right}
 use Rattle.std.proofs.Common.{◌⊎◌}
 use Rattle.values.proofs.Members.{in_either}
 use Rattle.glue_words.proofs.Among.{apart_by}

@@ -9,9 +9,12 @@ pub mod Facts
 mod Fits
 mod FrameRead
 mod HandedParts
+mod ImportBound
 mod ImportedFacts
 mod ImportedNames
 mod Lists
 pub mod Made
 mod OwnPaths
 mod Paths
+mod TreeFacts
+mod TreeNames

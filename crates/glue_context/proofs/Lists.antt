@@ -1,12 +1,12 @@
 -- Lists: what tests say of their members, items with their counterparts, and the items of a description.
-use Rattle.glue_context.proofs.Common.{Bor, map, take, ◌≡◌, ◌+◌, ◌-◌, ◌<◌, suc, true, codes, list_all, default_names, inl, inr, List, [], ◌∷◌, ◌++◌, Bool, refl, ap, arith, AllZip, Ordering, flat_map, flat_map-append, common_steps, ℕ, IsIn, Item, EachItem, AllItems, IsArranged, AreDeclareItems, IsDefineItem, IsGlue, all_items, front_items, joined_groups, length, AreImportLines, NameMap, line_form, vendor_items, drawn_imports, Settings, ImportId, AuxExport, Lowered, Frame, frame_of, frame_start, frame_end, own_imports, loading_item, foreign_modules, foreign_lines, module_at, modules_from, Import, Imported, Option, in_left, in_right, export_order, subst, sym, ◌∙◌}
+use Rattle.glue_context.proofs.Common.{Bor, map, take, ◌≡◌, ◌+◌, ◌-◌, ◌<◌, suc, true, codes, list_all, default_names, inl, inr, List, [], ◌∷◌, ◌++◌, Bool, refl, ap, arith, AllZip, Ordering, flat_map, flat_map-append, common_steps, ℕ, IsIn, Item, EachItem, AllItems, AreFunctionItems, IsArranged, IsDefineItem, IsGlue, all_items, front_items, joined_groups, length, AreImportLines, NameMap, line_form, vendor_items, drawn_imports, Settings, ImportId, AuxExport, Lowered, Frame, frame_of, frame_start, frame_end, own_imports, loading_item, foreign_modules, foreign_lines, module_at, modules_from, Import, Imported, Option, in_left, in_right, subst, sym, ◌∙◌}
 use Rattle.std.specs.Fmt.{decimal}
 use Rattle.std.proofs.Common.{append_assoc, drop, get_or}
 use Rattle.std.proofs.lemmas.List.{map-append, at_drop_more, take_more}
 use Rattle.std.proofs.lemmas.List.Folds.{list_all-map}
 use Rattle.std.proofs.lemmas.List.Sums.{AllPass-from_list_all, list_all-from_AllPass}
 use Rattle.std.proofs.lemmas.Slice.Zip.{all_zipped_more}
-use Rattle.std.specs.Prelude.{◌^◌}
+use Rattle.std.specs.Prelude.{◌⊎◌, filter}
 use Rattle.helper_table.specs.declared.parts.HelperParts.{HelperParts}
 use Rattle.helper_table.specs.Closed.{AreAsked}
 use Rattle.glue_naming.specs.Pairs.{own_pairs, pair_order, place_order}
@@ -17,14 +17,17 @@ use Rattle.glue_context.specs.Edits.{has_start}
 use Rattle.glue_context.specs.Foreign.{has_strings}
 use Rattle.glue_context.specs.Items.{AreGroups, front_groups}
 use Rattle.glue_context.specs.Parts.{helper_parts}
-use Rattle.glue_check.proofs.Globals.{in_flat}
+use Rattle.glue_exports.specs.Tree.{has_none}
+use Rattle.glue_exports.proofs.Joined.{from_filter}
+use Rattle.glue_public.specs.Described.{FunctionItems}
+use Rattle.glue_public.proofs.TreeFacts.{HasItems}
 pub use Rattle.glue_naming.proofs.Arranged.{all_are, each_is, moved_from, arranged_from, distinct_moved, arranged_by_sort}
 
 -- for the loops that make items
 pub ruleset item_steps = (common_steps, map-append, all_zipped_more, list_all-map)
 
--- one more export, and its items
-pub declared_next : (R : AuxExport → List Item → Type 0) (xs : List (Bor AuxExport)) (groups : List (List Item)) (i : ℕ) (x : Bor AuxExport) (group : List Item)
+-- one more function, and its items
+pub declared_next : (R : AuxExport → FunctionItems → Type 0) (xs : List (Bor AuxExport)) (groups : List FunctionItems) (i : ℕ) (x : Bor AuxExport) (group : FunctionItems)
     → i < length xs → x ≡ get_or xs i x → AllZip R (map (λ (e : Bor AuxExport). e.now) (take i xs)) groups → R x.now group
     → AllZip R (map (λ (e : Bor AuxExport). e.now) (take (i + 1) xs)) (groups ++ group ∷ [])
 declared_next R xs groups i x group less is zipped one =
@@ -32,6 +35,13 @@ declared_next R xs groups i x group less is zipped one =
     let grown : map now (take (i + 1) xs) ≡ map now (take i xs) ++ x.now ∷ [] =
     ap (map now) (take_more xs i x less ∙ ap (λ y. take i xs ++ y ∷ []) (sym is)) ∙ map-append now (take i xs) (x ∷ []) in
     subst (λ (ys : List AuxExport). AllZip R ys (groups ++ group ∷ [])) (sym grown) (all_zipped_more R (map now (take i xs)) groups x.now group zipped one)
+
+-- functions that are declared have items
+pub have_items : (s : Settings) (m : NameMap) (l : Lowered) (lone : List AuxExport) (functions : List FunctionItems)
+    → AllZip (AreFunctionItems s m l) lone functions → AllZip HasItems lone functions
+have_items s m l [] [] h = tt
+have_items s m l (e ∷ lone) (f ∷ functions) h = (ap (λ (x : FunctionItems). has_none x.1) (h.0).are, have_items s m l lone functions h.1)
+have_items s m l lone functions h = absurd h
 
 -- one more numbered name
 pub default_next : (count n : ℕ) → n < count → default_names (count - n) n ≡ (codes "arg" ++ decimal n) ∷ default_names (count - (n + 1)) (n + 1)
@@ -64,6 +74,11 @@ module _ {A : Type 0} (test : A → Bool) where
   -- what each item passes, each passes in another order
   pub all_moved : {order : A → A → Ordering} (xs ys : List A) → IsArranged order xs ys → list_all test xs ≡ true → list_all test ys ≡ true
   all_moved xs ys a h = all_by ys (λ y k. each_is (λ x. test x ≡ true) xs (AllPass-from_list_all test xs h) y (arranged_from a y k))
+
+  -- and what all pass, those of them pass that pass another test
+  pub all_filtered : (other : A → Bool) (xs : List A) → list_all test xs ≡ true → list_all test (filter other xs) ≡ true
+  all_filtered other xs h =
+      all_by (filter other xs) (λ x k. each_is (λ x. test x ≡ true) xs (AllPass-from_list_all test xs h) x (from_filter other x xs k).0)
 
 pub flat_none : {A B : Type 0} (xs : List A) → flat_map {X = A} {A = B} (λ x. []) xs ≡ []
 flat_none [] = refl
@@ -166,25 +181,20 @@ glue_made s m l pairs places called frame groups front items group last parts by
     let whole = frame_of s l in
     let g : AreGroups s m l places drawn whole groups =
     subst (λ (f : Frame). AreGroups s m l places drawn f groups) framed (subst (λ (is : List Imported). AreGroups s m l places is frame groups) listed are) in
-    let d = g.declared in
     let consts = vendor_items drawn in
-    let rest = front_items s.stem whole g.lines consts (joined_groups d.groups) g.defines in
-    let named : groups ≡ front_groups s.stem whole g.lines consts (joined_groups d.groups) g.defines =
-    g.are ∙ ap (λ (ds : List Item). front_groups s.stem whole g.lines consts ds g.defines) d.joined in
-    let all : front ≡ rest = joined ∙ ap joined_groups named in
+    let rest = front_items s.stem whole g.lines consts g.declares g.defines in
+    let all : front ≡ rest = joined ∙ ap joined_groups g.are in
     record {
-      exports = d.exports;
-      by_name = d.by_name;
       pairs = pairs;
       by_import = by_import;
       places = places;
       by_place = by_place;
       lines = g.lines;
       imported = g.imported;
-      declares = d.groups;
+      declares = g.declares;
       defines = g.defines;
       helpers = group;
-      declared = d.declared;
+      declared = g.declared;
       defined = g.defined;
       numbered = g.numbered;
       asked = subst (λ (p : HelperParts). AreAsked p rest group) known (subst (λ (xs : List Item). AreAsked parts xs group) all asked);
@@ -208,7 +218,7 @@ module _ {s : Settings} {m : NameMap} {l : Lowered} {items : List Item} (g : IsG
   constants = vendor_items imports
 
   abbrev pub declared_items : List Item
-  declared_items = joined_groups g.declares
+  declared_items = g.declares
 
   -- the items, with these helpers
   abbrev pub items_with : List Item → List Item
@@ -227,24 +237,30 @@ module _ {s : Settings} {m : NameMap} {l : Lowered} {items : List Item} (g : IsG
   abbrev framed : List Item
   framed = frame_start s.stem memory ∷ (g.defines ++ ends)
 
-  -- an item of a group stands among all
-  pub group_stands : (helpers group : List Item) (item : Item) → IsIn group g.declares → IsIn item group → IsIn item (items_with helpers)
-  group_stands helpers group item i k =
-      let here = in_flat (λ (group : List Item). group) g.declares group item i k in
+  -- an item of what is published stands among all
+  pub declared_stands : (helpers : List Item) (item : Item) → IsIn item declared_items → IsIn item (items_with helpers)
+  declared_stands helpers item i =
       in_left item front (helpers ++ loading ∷ [])
       (in_right item g.lines (foreign_lines 1 modules ++ (constants ++ (declared_items ++ framed)))
       (in_right item (foreign_lines 1 modules) (constants ++ (declared_items ++ framed))
-      (in_right item constants (declared_items ++ framed) (in_left item declared_items framed here))))
+      (in_right item constants (declared_items ++ framed) (in_left item declared_items framed i))))
+
+  -- an item of the import lines, or of the constants, does
+  pub imported_stands : (helpers : List Item) (item : Item) → IsIn item g.lines ⊎ IsIn item constants → IsIn item (items_with helpers)
+  imported_stands helpers item (inl i) =
+      in_left item front (helpers ++ loading ∷ []) (in_left item g.lines (foreign_lines 1 modules ++ (constants ++ (declared_items ++ framed))) i)
+  imported_stands helpers item (inr i) =
+      in_left item front (helpers ++ loading ∷ [])
+      (in_right item g.lines (foreign_lines 1 modules ++ (constants ++ (declared_items ++ framed)))
+      (in_right item (foreign_lines 1 modules) (constants ++ (declared_items ++ framed)) (in_left item constants (declared_items ++ framed) i)))
 
   -- each item has a fact that each kind of item has
   pub each_item : (P : Item → Type 0) (helpers : List Item) → AllItems P g.lines → AllItems P (foreign_lines 1 modules) → AllItems P constants
-      → ((e : AuxExport) (group : List Item) → IsIn e l.aux.exports → IsIn group g.declares → AreDeclareItems s m l e group → AllItems P group)
+      → AllItems P declared_items
       → ((place : ℕ) (item : Item) → IsIn place (own_imports s l.«module» l.wit l.aux) → IsDefineItem s m l place item → P item)
       → P (frame_start s.stem memory) → P (frame_end s.stem modules strings) → AllItems P helpers → P loading
       → AllItems P (items_with helpers)
-  each_item P helpers imported foreign consts a b start end held loads =
-      let declares = matched (AreDeclareItems s m l) (λ es groups. AllItems P (joined_groups groups)) g.exports g.declares g.declared tt
-      (λ e group es groups k i x h. all_joined P group (joined_groups groups) (a e group (arranged_from g.by_name e k) i x) h) in
+  each_item P helpers imported foreign consts declares b start end held loads =
       let defines = matched (IsDefineItem s m l) (λ ps. AllItems P) g.places g.defines g.defined tt
       (λ place item ps js k i x h. (b place item (arranged_from g.by_place place k) x, h)) in
       all_joined P front (helpers ++ loading ∷ [])
@@ -259,16 +275,13 @@ module _ {s : Settings} {m : NameMap} {l : Lowered} {items : List Item} (g : IsG
   with_held P helpers h held =
       let parts = all_parts P front (loading ∷ []) h in all_joined P front (helpers ++ loading ∷ []) parts.0 (all_joined P helpers (loading ∷ []) held parts.1)
 
-  -- what the items give is what lines, constants, exports, imports, helpers and the fixed items do
-  pub given : {B : Type 0} (give : Item → List B) (f : AuxExport → List B) (h : ℕ → List B) (helpers : List Item)
-      → ((e : AuxExport) (group : List Item) → IsIn e l.aux.exports → AreDeclareItems s m l e group → flat_map give group ≡ f e)
+  -- what the items give is what lines, constants, published things, imports, helpers and the fixed items do
+  pub given : {B : Type 0} (give : Item → List B) (h : ℕ → List B) (helpers : List Item)
       → ((place : ℕ) (item : Item) → IsIn place (own_imports s l.«module» l.wit l.aux) → IsDefineItem s m l place item → give item ≡ h place)
       → flat_map give (items_with helpers) ≡ (flat_map give g.lines ++ (flat_map give (foreign_lines 1 modules) ++ (flat_map give constants ++
-      (flat_map f g.exports ++ (give (frame_start s.stem memory) ++ (flat_map h g.places ++ (give (frame_end s.stem modules strings) ++ []))))))) ++
+      (flat_map give declared_items ++ (give (frame_start s.stem memory) ++ (flat_map h g.places ++ (give (frame_end s.stem modules strings) ++ []))))))) ++
       (flat_map give helpers ++ (give loading ++ []))
-  given give f h helpers a b =
-      let declares = matched (AreDeclareItems s m l) (λ es groups. flat_map give (joined_groups groups) ≡ flat_map f es) g.exports g.declares g.declared refl
-      (λ e group es groups k i x q. flat_map-append give group (joined_groups groups) ∙ rw (a e group (arranged_from g.by_name e k) x, q) refl) in
+  given give h helpers b =
       let defines = matched (IsDefineItem s m l) (λ ps js. flat_map give js ≡ flat_map h ps) g.places g.defines g.defined refl
       (λ place item ps js k i x q. rw (b place item (arranged_from g.by_place place k) x, q) refl) in
       rw (
@@ -277,7 +290,6 @@ module _ {s : Settings} {m : NameMap} {l : Lowered} {items : List Item} (g : IsG
         flat_map-append give (foreign_lines 1 modules) (constants ++ (declared_items ++ framed)),
         flat_map-append give constants (declared_items ++ framed),
         flat_map-append give declared_items framed,
-        declares,
         flat_map-append give g.defines ends,
         defines,
         flat_map-append give helpers (loading ∷ []),

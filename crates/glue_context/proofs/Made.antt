@@ -1,23 +1,20 @@
 -- What is made of a description that is checked: linked, defined and published.
-use Rattle.glue_context.proofs.Common.{◌≡◌, ℕ, ◌+◌, ◌<◌, ◌==◌, inl, inr, List, [], ◌∷◌, ◌++◌, map, length, Bool, true, false, true≢false, None, Some, refl, sym, ap, ◌∙◌, subst, arith, append-nil, codes, flat_map, flat_map_single, bytes_eq, bytes_eq-Decides, list_any, list_all, IsPermutation-map, IsPermutation-sym, IsIn, IsAway, AreDistinct, AreAmong, AreApart, ImportId, Item, AuxImport, HOSTS, bound_in, bound_names, used_in, is_export_key, AllItems, Belongs, Context, AuxExport, Settings, NameMap, AreNames, Deno, Lowered, host_names, fixed_names, fixed_public, live_count, own_imports, is_one_of, described_hosts, names_of, js_import, declared_name, is_named, foreign_lines, foreign_modules, frame_of, line_form, IsGlue, rewritten, IsLinked, IsDefined, defined_by, defined_places, IsPublished, published_pairs, published_by, fixed_published, fixed_by, EachItem, IsExported, IsPrescribed, export_names, FileFlags, unbuilt, verdict, IsBuiltExport}
-use Rattle.std.proofs.Common.{◌⊎◌}
+use Rattle.glue_context.proofs.Common.{◌≡◌, ℕ, ◌+◌, ◌<◌, ◌==◌, inl, inr, List, [], ◌∷◌, ◌++◌, map, length, Bool, true, false, true≢false, None, Some, refl, sym, ap, ◌∙◌, subst, arith, append-nil, codes, flat_map, flat_map_single, bytes_eq-Decides, list_any, list_all, IsPermutation-sym, IsIn, AreDistinct, AreAmong, AreApart, ImportId, Item, AuxImport, HOSTS, bound_in, bound_names, used_in, is_export_key, AllItems, Belongs, Context, Settings, NameMap, AreNames, Deno, Lowered, host_names, fixed_names, fixed_public, live_count, own_imports, is_one_of, described_hosts, names_of, js_import, foreign_lines, foreign_modules, frame_of, line_form, IsGlue, rewritten, IsLinked, IsDefined, defined_by, defined_places, IsPublished, published_pairs, published_by, fixed_published, fixed_by, EachItem, IsExported, IsPrescribed, export_names, FileFlags, unbuilt, verdict}
 use Rattle.std.specs.Prelude.{◌≤◌, ◌^◌, ◌&&◌, cond, Option}
-use Rattle.std.proofs.lemmas.{List.map-id, List.Elements.All-map, Bool.Decides.Decides-eqb, List.Folds.flat_map-map, List.Sums.AllPass-from_list_all, List.Sums.list_all-from_AllPass}
+use Rattle.std.proofs.lemmas.{List.map-id, Bool.Decides.Decides-eqb, List.Sums.list_all-from_AllPass}
 use Rattle.values.proofs.Members.{in_left, in_right, in_either}
-use Rattle.glue_targets.specs.PublicTree.{PublicPair, public_tree, function_pair}
 use Rattle.glue_targets.specs.Published.{IsNamed, fixed_of}
+use Rattle.glue_targets.specs.RoleWords.{role_words}
 use Rattle.glue_targets.specs.Targets.{FixedText, Frame, frame_end, frame_start, frame_texts, module_name, own_path}
 use Rattle.glue_shared.specs.declared.import.Intrinsic.{Intrinsic}
 use Rattle.glue_shared.specs.declared.import.Intrinsic.TheVariants as intrinsics
 use Rattle.glue_shared.specs.declared.settings.Target.{Target}
 use Rattle.glue_shared.specs.declared.settings.Target.TheVariants as targets
-use Rattle.glue_shared.specs.declared.import.JsImport.{JsImport}
 use Rattle.glue_shared.specs.declared.import.JsImportName.{JsImportName}
 use Rattle.glue_shared.specs.declared.import.JsImportName.TheVariants as js
 use Rattle.glue_shared.specs.Names.{described_names, entry_of, has_number, inspect_names, is_node, target_hosts}
 use Rattle.glue_words.specs.declared.word.Word.{Word}
 use Rattle.glue_words.specs.declared.item.Role.TheVariants as role
-use Rattle.glue_words.specs.declared.item.Thing.TheVariants.{Adapter}
 use Rattle.glue_words.specs.Ident.{is_ident}
 use Rattle.glue_words.specs.Spacing.{is_wasm}
 use Rattle.glue_words.proofs.{Among.among_both, Among.among_by, Among.among_in, Among.among_itself, Among.among_left, Among.among_right, Among.among_trans, Among.apart_among, Among.apart_by, Among.apart_in, Among.apart_joined, Among.apart_swap, Fitting.linked_by_words, Fitting.belongs_by_facts, Fitting.declared_are}
@@ -36,51 +33,36 @@ use Rattle.glue_targets.proofs.FixedTexts as fixed
 use Rattle.glue_targets.proofs.FixedTexts.{start_binds}
 use Rattle.glue_targets.proofs.FrameEnd.{module_names, own_name, end_bound, end_fixed, end_fits, end_hosts}
 use Rattle.glue_check.specs.Handed.{own_callees}
-use Rattle.glue_check.specs.Taken.{brought}
-use Rattle.glue_check.proofs.ExportNames.{names_of as public_names}
-use Rattle.glue_check.proofs.Globals.{brought_host, described_host, from_flat, in_flat, more_hosts}
+use Rattle.glue_check.proofs.Globals.{described_host, from_flat, in_flat, more_hosts}
 use Rattle.glue_check.proofs.OwnPairs.{pair_kept}
 use Rattle.glue_context.specs.DefinedItems.{takes_memory}
 use Rattle.glue_context.specs.Edits.{has_start}
 use Rattle.glue_context.specs.FrameIn.{frame_in}
 use Rattle.glue_context.specs.Keys.{described_keys}
+use Rattle.glue_context.specs.Linked.{IsOneOf}
 use Rattle.glue_context.specs.Foreign.{has_strings, path_of}
-use Rattle.glue_context.specs.ExportedItems.{declare_item}
 use Rattle.glue_naming.specs.Imported.{is_outside}
 use Rattle.glue_naming.specs.Listed.{names_drawn}
 use Rattle.glue_naming.specs.Naming.{import_name}
 use Rattle.glue_naming.specs.Pairs.{is_among, own_pairs}
 use Rattle.glue_naming.specs.declared.named.Named.TheVariants as things
 use Rattle.glue_naming.proofs.CalledNames as called
-use Rattle.glue_naming.proofs.Functions as functions
-use Rattle.glue_naming.proofs.MappedLists.{in_map}
+use Rattle.glue_naming.proofs.MappedLists.{from_map, in_map}
 use Rattle.glue_context.specs.Parts.{helper_parts}
 use Rattle.glue_context.proofs.{Declared.AreDrawn, Declared.all_apart, Declared.all_distinct, Declared.all_found, Declared.all_names, Declared.constants_first, Declared.first_among, Declared.first_names, Declared.frame_first, Declared.held_among, Declared.imports_first, Declared.lines_first, Declared.loading_bound, Declared.loading_first, Declared.modules_few, Declared.modules_idents, Declared.names_first, Declared.own_fixed, Declared.own_framed, Declared.own_names, Declared.own_no_hosts}
 use Rattle.glue_context.proofs.ImportedFacts as imported
+use Rattle.glue_context.proofs.TreeFacts as published
 use Rattle.glue_naming.proofs.ItemNames.{names_with_added}
 use Rattle.glue_context.proofs.ExpressionFits.{IsBegunWell}
 use Rattle.glue_context.proofs.ExpressionNames.{HasBegun, HasName}
 use Rattle.glue_context.proofs.HandedParts.{entry_there}
-use Rattle.glue_context.proofs.{Facts.Facts, Facts.built, Facts.own_pair, Fits.names_with, Fits.AreWell, Fits.HasBasis, Fits.declare_belongs, Fits.declare_binds, Fits.declare_publishes, Fits.declaration_binds, Fits.declaration_stands, Fits.each_of, Fits.group_none, DefinedFacts.define_belongs, DefinedFacts.define_binds, DefinedFacts.define_exported, DefinedFacts.define_holds, DefinedFacts.define_role, Lists.arranged_from, Lists.moved_from, Lists.distinct_moved, Lists.all_are, Lists.each_is, Lists.flat_none, Lists.all_applied, Lists.all_kept, Lists.constants, Lists.each_among, Lists.each_any, Lists.each_at, Lists.each_item, Lists.each_line, Lists.front, Lists.given, Lists.group_stands, Lists.imports, Lists.items_with, Lists.loading, Lists.none_given, Lists.with_held, Edited.item_exported, Edited.rewritten_exports, Paths.written_count}
+use Rattle.glue_context.proofs.{Facts.Facts, Facts.built, Facts.own_pair, Fits.names_with, Fits.AreWell, Fits.HasBasis, DefinedFacts.define_belongs, DefinedFacts.define_binds, DefinedFacts.define_exported, DefinedFacts.define_holds, DefinedFacts.define_role, Lists.arranged_from, Lists.moved_from, Lists.distinct_moved, Lists.all_are, Lists.flat_none, Lists.all_applied, Lists.all_kept, Lists.constants, Lists.each_among, Lists.each_any, Lists.each_at, Lists.each_item, Lists.each_line, Lists.front, Lists.given, Lists.declared_stands, Lists.imports, Lists.items_with, Lists.loading, Lists.none_given, Lists.with_held, Edited.item_exported, Edited.rewritten_exports, Paths.written_count}
 
 -- the three facts of items that a built description asks for
 pub record IsSound (s : Settings) (m : NameMap) (l : Lowered) (items : List Item) : Type 0 where
   pub linked : IsLinked s (host_names s l.aux) (described_keys l.aux) (rewritten s l) items (has_start l.«module»)
   pub defined : IsDefined s m l (rewritten s l) items
   pub published : IsPublished s l.aux (fixed_public s l.«module» l.wit l.aux) items
-
--- the pair of an export
-abbrev pair_of : AuxExport → PublicPair
-pair_of e = (e.name ∷ [], Adapter e.adapter)
-
--- exports of distinct names have distinct pairs
-pair_named : (e : AuxExport) (es : List AuxExport) → IsIn (pair_of e) (map pair_of es) → IsIn e.name (public_names es)
-pair_named e [] k = absurd k
-pair_named e (x ∷ es) k = let rest = pair_named e es in grind arith
-
-pairs_distinct : (es : List AuxExport) → AreDistinct (public_names es) → AreDistinct (map pair_of es)
-pairs_distinct [] h = tt
-pairs_distinct (e ∷ es) h = (λ k. h.0 (pair_named e es k), pairs_distinct es h.1)
 
 -- loading uses what is declared there
 loading_within : (memory starts : Bool) → AreAmong (fixed.loading_uses starts) (start_binds memory ++ loading_bound)
@@ -211,6 +193,12 @@ module _ (s : Settings) (m : NameMap) (l : Lowered) (items : List Item) (b : Fac
   drawn_idents : list_all is_ident drawn ≡ true
   drawn_idents = called.listed_idents s l m n g.pairs sub has
 
+  -- each is drawn for an import
+  drawn_of : (x : List ℕ) → IsIn x drawn → (name : JsImportName) × (import_name m name ≡ Some x)
+  drawn_of x i =
+      let r = from_map (λ (import : Imported). import.1) x (imports g) i in
+      (r.0.0, (called.listed_named s l m n g.pairs sub has r.0 r.1).1 ∙ ap Some (sym r.2))
+
   drawn_distinct : AreDistinct drawn
   drawn_distinct = called.listed_distinct s l m n g.pairs sub has
 
@@ -225,20 +213,24 @@ module _ (s : Settings) (m : NameMap) (l : Lowered) (items : List Item) (b : Fac
         let there = called.entry_called s l m n g.pairs sub has id w own is name i in
         in_map (λ (x : Imported). x.1) (name, text) (imports g) (called.named_listed s l m n g.pairs sub has name text there found)
 
-    -- and what has no drawn name is a name of the host that an import brings
-    entry_brought : import_name m name ≡ None → IsIn (plain_name name) (brought s.omit_imports w)
+    -- and what has no drawn name is a name of the host that it brings
+    entry_brought : import_name m name ≡ None → IsIn (plain_name name) (described_hosts s.omit_imports name)
     entry_brought none =
         let there = called.entry_called s l m n g.pairs sub has id w own is name i in
-        in_flat (described_hosts s.omit_imports) (names_of (js_import w)) name (plain_name name) i
-        (plain_host s.omit_imports name (called.unnamed_host s l m n g.pairs sub has name there none))
+        plain_host s.omit_imports name (called.unnamed_host s l m n g.pairs sub has name there none)
 
     described_entry : IsIn (id, w) l.aux.imports
     described_entry = entry_there id l.aux.imports w is
 
+    begun_described : IsIn name (described_names l.aux)
+    begun_described =
+        in_left name (flat_map (λ (e : ℕ × AuxImport). names_of (js_import e.1)) l.aux.imports) (map (λ r. r.1.name) l.aux.reexports)
+        (in_flat (λ (e : ℕ × AuxImport). names_of (js_import e.1)) l.aux.imports (id, w) name described_entry i)
+
   -- ---- names
 
   abbrev names : List (List ℕ)
-  names = map (declared_name m) g.exports
+  names = bound_names g.declares
 
   abbrev imported_names : List (List ℕ)
   imported_names = bound_names g.lines
@@ -274,19 +266,6 @@ module _ (s : Settings) (m : NameMap) (l : Lowered) (items : List Item) (b : Fac
   no_own xs h =
       apart_swap own xs (apart_among own (fixed_names s l.«module») xs own_all_fixed (apart_swap xs (fixed_names s l.«module») h))
 
-  public_distinct : AreDistinct (public_names g.exports)
-  public_distinct = distinct_moved bytes_eq bytes_eq-Decides (public_names l.aux.exports) (public_names g.exports)
-      (IsPermutation-map (λ (e : AuxExport). e.name) l.aux.exports g.exports g.by_name.same) b.names
-
-  is_built : (e : AuxExport) → IsIn e g.exports → IsIn e l.aux.exports × IsBuiltExport e
-  is_built e k = let at = arranged_from g.by_name e k in (at, b.exports e at)
-
-  all_named : list_all (is_named m) g.exports ≡ true
-  all_named = functions.all_named s l m n g.exports is_built
-
-  each_named : (e : AuxExport) → IsIn e g.exports → is_named m e ≡ true
-  each_named e k = each_is (λ (e : AuxExport). is_named m e ≡ true) g.exports (AllPass-from_list_all (is_named m) g.exports all_named) e k
-
   lines_drawn : AreAmong imported_names drawn
   lines_drawn = imported.lines_declare form (imports g) g.lines g.imported
 
@@ -302,41 +281,34 @@ module _ (s : Settings) (m : NameMap) (l : Lowered) (items : List Item) (b : Fac
 
   are_drawn : AreDrawn s l.«module» paths held memory few g.numbered listed imported_names constant_names names
   are_drawn =
-      let functions_apart = called.listed_no_function s l m n g.pairs sub has g.exports all_named in
+      let names_apart = published.tree_apart s m l b n g.declares g.declared drawn drawn_of in
       let fixed_apart = called.listed_no_fixed s l m n g.pairs sub has in record {
         imports_once = imported.lines_distinct form (imports g) g.lines g.imported drawn_distinct;
         constants_once = imported.constants_distinct form (imports g) g.lines g.imported drawn_distinct;
-        names_once = functions.functions_distinct s l m n g.exports public_distinct (λ e k. ((is_built e k).1, each_named e k));
+        names_once = published.tree_distinct s m l b n g.declares g.declared;
         imports_constants = imported.lines_constants form (imports g) g.lines g.imported drawn_distinct;
-        imports_names = lines_apart names functions_apart;
-        constants_names = constants_apart names functions_apart;
+        imports_names = lines_apart names names_apart;
+        constants_names = constants_apart names names_apart;
         imports_own = no_own imported_names (lines_apart (fixed_names s l.«module») fixed_apart);
         constants_own = no_own constant_names (constants_apart (fixed_names s l.«module») fixed_apart);
-        names_own = no_own names (functions.functions_no_fixed s l m n g.exports all_named);
+        names_own = no_own names (published.tree_no_fixed s m l b n g.declares g.declared);
       }
 
-  hosts_are : host_names s l.aux
-      ≡ map (λ w. w.now) HOSTS ++ flat_map (described_hosts s.omit_imports) (flat_map (λ (e : ℕ × AuxImport). names_of (js_import e.1)) l.aux.imports)
+  hosts_are : host_names s l.aux ≡ map (λ w. w.now) HOSTS ++ flat_map (described_hosts s.omit_imports) (described_names l.aux)
   unfolding host_names
   hosts_are =
       let fixed = map (λ w. w.now) HOSTS in
       let described = flat_map (described_hosts s.omit_imports) (described_names l.aux) in
-      let entries = flat_map (λ (e : ℕ × AuxImport). names_of (js_import e.1)) l.aux.imports in
       ap (λ (t : Target). fixed ++ (target_hosts t ++ (described ++ inspect_names s l.aux))) b.deno
       ∙ ap (λ (names : List (List ℕ)). fixed ++ (described ++ names)) (none_inspected s l b.deno)
       ∙ ap (λ (names : List (List ℕ)). fixed ++ names) (append-nil described)
-      ∙ ap (λ (rs : List (List ℕ × JsImport × Bool)). fixed ++ flat_map (described_hosts s.omit_imports) (entries ++ map (λ r. r.1.name) rs)) b.reexports
-      ∙ ap (λ (names : List JsImportName). fixed ++ flat_map (described_hosts s.omit_imports) names) (append-nil entries)
 
   -- what described names bring is away from the file's own names
-  described_apart : AreApart (flat_map (described_hosts s.omit_imports) (flat_map (λ (e : ℕ × AuxImport). names_of (js_import e.1)) l.aux.imports)) own
+  described_apart : AreApart (flat_map (described_hosts s.omit_imports) (described_names l.aux)) own
   described_apart =
-      let described = flat_map (λ (e : ℕ × AuxImport). names_of (js_import e.1)) l.aux.imports in
-      apart_by (flat_map (described_hosts s.omit_imports) described) own (λ name i k.
-      let r = from_flat (described_hosts s.omit_imports) described name i in
-      let e = from_flat (λ (e : ℕ × AuxImport). names_of (js_import e.1)) l.aux.imports r.0 r.1 in
-      b.apart e.0 e.1 name (in_flat (described_hosts s.omit_imports) (names_of (js_import (e.0).1)) r.0 name e.2 r.2)
-      (among_in name own (fixed_names s l.«module») own_all_fixed k))
+      apart_by (flat_map (described_hosts s.omit_imports) (described_names l.aux)) own (λ x i k.
+      let r = from_flat (described_hosts s.omit_imports) (described_names l.aux) x i in
+      b.apart r.0 r.1 x r.2 (among_in x own (fixed_names s l.«module») own_all_fixed k))
 
   -- the file's own names are none of the host
   outside : AreApart own (host_names s l.aux)
@@ -349,10 +321,9 @@ module _ (s : Settings) (m : NameMap) (l : Lowered) (items : List Item) (b : Fac
 
   bound : bound_names all ≡ declared
   bound = declared_are all
-      ∙ given g (λ item. bound_in item.words) (λ e. declared_name m e ∷ []) (λ place. []) g.helpers (λ e group k d. declare_binds s m l e group d)
-      (λ place item k d. define_binds s m l place item d)
-      ∙ rw (sym (declared_are g.lines), sym (declared_are (constants g)))
-      (simp (flat_map_single, flat_none, lines_bound, fixed.start_bound, end_bound, fixed.loading_bound, append-nil))
+      ∙ given g (λ item. bound_in item.words) (λ place. []) g.helpers (λ place item k d. define_binds s m l place item d)
+      ∙ rw (sym (declared_are g.lines), sym (declared_are (constants g)), sym (declared_are g.declares))
+      (simp (flat_none, lines_bound, fixed.start_bound, end_bound, fixed.loading_bound, append-nil))
 
   -- ---- what functions use
 
@@ -378,7 +349,7 @@ module _ (s : Settings) (m : NameMap) (l : Lowered) (items : List Item) (b : Fac
     where
       by : (drawn : Option (List ℕ)) → import_name m name ≡ drawn → IsBegunWell drawn (plain_name name)
       by (Some text) found = (n.good.idents (things.Import name) text found, no_wasm text (entry_drawn id w mine is name i text found))
-      by None none = b.idents (id, w) (described_entry id w mine is name i) (plain_name name) (entry_brought id w mine is name i none)
+      by None none = b.idents name (begun_described id w mine is name i) (plain_name name) (entry_brought id w mine is name i none)
 
   -- what stands among the first names, or is a helper's that needs nothing of the module
   there : (ys : List (List ℕ)) → AreAmong ys first → AreAmong ys (first ++ free_names)
@@ -404,7 +375,7 @@ module _ (s : Settings) (m : NameMap) (l : Lowered) (items : List Item) (b : Fac
     where
       by : (drawn : Option (List ℕ)) → import_name m name ≡ drawn → HasBegun (names_with s l (first ++ free_names)) drawn (plain_name name)
       by (Some text) found = drawn_first text (entry_drawn id w mine is name i text found)
-      by None none = brought_host s l (id, w) (described_entry id w mine is name i) (plain_name name) (entry_brought id w mine is name i none)
+      by None none = described_host s l name (begun_described id w mine is name i) (plain_name name) (entry_brought id w mine is name i none)
 
   basis : HasBasis s l m (first ++ free_names)
   basis = record {
@@ -418,22 +389,6 @@ module _ (s : Settings) (m : NameMap) (l : Lowered) (items : List Item) (b : Fac
     items = n.items;
   }
 
-  -- an export's function has a name that is an identifier, and stands among the first
-  name_ident : (e : AuxExport) → IsIn e l.aux.exports → is_ident (declared_name m e) ≡ true
-  name_ident e k =
-      let idents = functions.functions_idents s l m n g.exports all_named in
-      each_is (λ (x : List ℕ). is_ident x ≡ true) names (AllPass-from_list_all is_ident names idents) (declared_name m e)
-      (in_map (declared_name m) e g.exports (export_there e k))
-    where
-      export_there : (e : AuxExport) → IsIn e l.aux.exports → IsIn e g.exports
-      export_there e k = moved_from g.exports l.aux.exports (IsPermutation-sym _ _ g.by_name.same) e k
-
-  name_first : (e : AuxExport) → IsIn e l.aux.exports → IsIn (declared_name m e) (first ++ free_names)
-  name_first e k =
-      among_in (declared_name m e) names (first ++ free_names)
-      (there names (names_first s l.«module» paths held memory few g.numbered listed imported_names constant_names names))
-      (in_map (declared_name m) e g.exports (moved_from g.exports l.aux.exports (IsPermutation-sym _ _ g.by_name.same) e k))
-
   -- ---- linkage
 
   -- what a drawn name's vendor brings are identifiers, and known
@@ -441,17 +396,10 @@ module _ (s : Settings) (m : NameMap) (l : Lowered) (items : List Item) (b : Fac
   import_hosts c hosts import i =
       let described = called.called_described s l m n g.pairs sub has import.0 (called.listed_named s l m n g.pairs sub has import i).0 in record {
         idents = list_all-from_AllPass is_ident (described_hosts false import.0) (all_are (λ (x : List ℕ). is_ident x ≡ true) (described_hosts false import.0)
-            (λ x k. described_ident import.0 described x k));
+            (λ x k. b.idents import.0 described x (more_hosts s.omit_imports import.0 x k)));
         known = among_by (described_hosts false import.0) c.hosts (λ x k.
             subst (IsIn x) (sym hosts) (described_host s l import.0 described x (more_hosts s.omit_imports import.0 x k)));
       }
-    where
-      described_ident : (name : JsImportName) → IsIn name (described_names l.aux) → (x : List ℕ) → IsIn x (described_hosts false name) → is_ident x ≡ true
-      described_ident name i x k =
-          let entries = flat_map (λ (e : ℕ × AuxImport). names_of (js_import e.1)) l.aux.imports in
-          let here : IsIn name entries = subst (IsIn name) (rw b.reexports (simp append-nil)) i in
-          let e = from_flat (λ (e : ℕ × AuxImport). names_of (js_import e.1)) l.aux.imports name here in
-          b.idents e.0 e.1 x (in_flat (described_hosts s.omit_imports) (names_of (js_import (e.0).1)) name x e.2 (more_hosts s.omit_imports name x k))
 
   -- the module of the members is declared by the frame's start
   first_module : IsIn (codes "import0") (first ++ free_names)
@@ -473,7 +421,8 @@ module _ (s : Settings) (m : NameMap) (l : Lowered) (items : List Item) (b : Fac
       (imported.lines_belong form (imports g) g.lines g.imported c drawn_idents (rw b.deno tt))
       (each_line (λ item. Belongs c item.words) 1 paths (λ n path less. foreign_belongs Es n path c (omega (arith, less, small)) tt))
       (imported.constants_belong form (imports g) g.lines g.imported c drawn_idents (known (codes "undefined" ∷ []) refl).0 (import_hosts c refl))
-      (λ e group k i x. declare_belongs s m l e group x well (name_ident e k) (b.export_steps e k) c.declared basis (name_first e k))
+      (published.tree_belongs s m l b n g.declares g.declared well c.declared basis
+      (there names (names_first s l.«module» paths held memory few g.numbered listed imported_names constant_names names)))
       (λ place item k x. define_belongs s m l well c.declared basis b.pair_steps place k (b.defined place k) item x)
       (belongs_by_facts c _ (fixed.start_fits c s.stem memory))
       (belongs_by_facts c _ (end_fits s.stem paths strings c (modules_idents 0 (own_path s.stem ∷ paths) (omega (arith, small)))
@@ -518,6 +467,10 @@ module _ (s : Settings) (m : NameMap) (l : Lowered) (items : List Item) (b : Fac
       (held_belong parts bare needed g.helpers g.asked c (held_among s l.«module» paths held memory few g.numbered listed imported_names constant_names names)
       (known helper_hosts refl))
 
+  -- the words of an item are asked for among items
+  abbrev IsAsked : List Item → Item → Type 0
+  IsAsked items item = IsOneOf item.words (role_words s starts (frame_of s l) items item.role (bound_in item.words))
+
   linked : IsLinked s (host_names s l.aux) (described_keys l.aux) (rewritten s l) all starts
   linked =
       let c = names_with s l declared in
@@ -526,16 +479,20 @@ module _ (s : Settings) (m : NameMap) (l : Lowered) (items : List Item) (b : Fac
       let k = linked_by_words c all (sym bound) belong
       (rw bound (all_distinct s l.«module» paths held memory few g.numbered listed imported_names constant_names names d are_drawn))
       (rw bound (all_apart s l.«module» paths held memory few g.numbered listed imported_names constant_names names c.hosts (lines_apart c.hosts hosts_apart)
-      (constants_apart c.hosts hosts_apart) (functions.functions_no_host s l m n g.exports all_named) outside)) in
+      (constants_apart c.hosts hosts_apart) (published.tree_no_host s m l b n g.declares g.declared) outside)) in
       let exported : EachItem (IsExported (export_names (rewritten s l))) [] all = rw (rewritten_exports s l) at k.exported in
-      let prescribed : EachItem (IsPrescribed s starts (frame_of s l)) [] all = each_any _ [] all (each_item g _ g.helpers
-      (lines_so _ (λ item h before after. imported.import_prescribed item h s starts (frame_of s l) before after))
-      (each_line _ 1 paths (λ n path less before after. tt))
-      (constants_so _ (λ item h before after. imported.import_prescribed item h s starts (frame_of s l) before after))
-      (λ e group k i x. each_of s m l e group x _ (λ before after. tt) (λ q before after. rw b.deno (inl refl)))
-      (λ place item k x before after. rw (define_role s m l place item x) tt)
-      (λ before after. (frame_told s.target s.stem (frame_of s l) b.deno).0) (λ before after. (frame_told s.target s.stem (frame_of s l) b.deno).1)
-      (held_so _ (λ entry before after. tt)) (λ before after. rw b.deno (inl refl))) in
+      let asked : List Item → Item → List Item → Type 0 = IsPrescribed s starts (frame_of s l) in
+      let each = each_item g (λ item. (before after : List Item) → before ++ item ∷ after ≡ all → asked before item after) g.helpers
+      (lines_so _ (λ item h before after e. imported.import_prescribed item h s starts (frame_of s l) before after))
+      (each_line _ 1 paths (λ n path less before after e. tt))
+      (constants_so _ (λ item h before after e. imported.import_prescribed item h s starts (frame_of s l) before after))
+      (all_kept _ _ g.declares (λ item i h before after e. subst (λ (items : List Item). IsAsked items item) (sym e) h)
+      (published.tree_prescribed s m l b n g.declares g.declared well all (declared_stands g g.helpers) starts (frame_of s l)))
+      (λ place item k x before after e. rw (define_role s m l place item x) tt)
+      (λ before after e. (frame_told s.target s.stem (frame_of s l) b.deno).0) (λ before after e. (frame_told s.target s.stem (frame_of s l) b.deno).1)
+      (held_so _ (λ entry before after e. tt)) (λ before after e. rw b.deno (inl refl)) in
+      let prescribed : EachItem asked [] all = each_among asked all [] all refl (λ before item after k e.
+      each_at (λ item. (before after : List Item) → before ++ item ∷ after ≡ all → asked before item after) item all each k before after e) in
       let framed : EachItem (IsPrescribed s starts (frame_in s.stem (rewritten s l))) [] all =
       subst (λ (frame : Frame). EachItem (IsPrescribed s starts frame) [] all) b.framed prescribed in
       assumption (k, exported, framed)
@@ -543,14 +500,14 @@ module _ (s : Settings) (m : NameMap) (l : Lowered) (items : List Item) (b : Fac
   defined : IsDefined s m l (rewritten s l) all
   defined =
       let places : defined_places all ≡ g.places =
-      given g (λ item. defined_by item.role) (λ e. []) (λ place. place ∷ []) g.helpers
-      (λ e group k d. group_none s m l e group d (λ item. defined_by item.role) refl refl) (λ place item k x. ap defined_by (define_role s m l place item x))
+      given g (λ item. defined_by item.role) (λ place. place ∷ []) g.helpers (λ place item k x. ap defined_by (define_role s m l place item x))
       ∙ rw (
         lines_none (λ item. defined_by item.role) imported.import_defined,
         none_given (λ item. defined_by item.role) (foreign_lines 1 paths) (each_line _ 1 paths (λ n path less. refl)),
         constants_none (λ item. defined_by item.role) imported.import_defined,
+        none_given (λ item. defined_by item.role) g.declares (published.tree_defines s m l b n g.declares g.declared),
         none_given (λ item. defined_by item.role) g.helpers (held_so _ (λ entry. refl)),
-      ) (simp (flat_none, flat_map_single, map-id, append-nil)) in
+      ) (simp (flat_map_single, map-id, append-nil)) in
       let moved = g.by_place.same in
       record {
         only = λ place h. moved_from own_places g.places moved place (rw places at h);
@@ -560,8 +517,7 @@ module _ (s : Settings) (m : NameMap) (l : Lowered) (items : List Item) (b : Fac
             (lines_so _ (λ item h before after. imported.import_function item h s m l (rewritten s l)))
             (each_line _ 1 paths (λ n path less before after. tt))
             (constants_so _ (λ item h before after. imported.import_function item h s m l (rewritten s l)))
-            (λ e group h i x. each_of s m l e group x _ (λ before after. record
-            { «export» = e; described = h; of = refl; function = x.function; of_adapter = x.of_adapter; words = refl }) (λ q before after. tt))
+            (all_kept _ _ g.declares (λ item i h before after. h) (published.tree_functions s m l b n g.declares g.declared))
             (λ place item h x before after. define_holds s m l place item h (b.defined place h) x)
             (λ before after. tt) (λ before after. tt) (held_so _ (λ entry before after. tt)) (λ before after. tt));
         given = item_exported s l m n.items;
@@ -569,63 +525,53 @@ module _ (s : Settings) (m : NameMap) (l : Lowered) (items : List Item) (b : Fac
 
   -- ---- what is published
 
-  -- each export is a function of the top level
-  functions_are : (es : List AuxExport) → ((e : AuxExport) → IsIn e es → IsBuiltExport e) → flat_map (λ (e : AuxExport). function_pair e.kind e) es ≡ map pair_of es
-  functions_are [] h = refl
-  functions_are (e ∷ es) h = let k = h e (inl refl) in rw (k.function, k.top, functions_are es (λ x i. h x (inr i))) refl
-
-  -- the name that a clause publishes is that of the declaration that stands before it
+  -- the name under which an item publishes a thing stands for it
   names_stand : AllItems (λ item. IsNamed s l.aux all item.role) all
   names_stand =
       each_item g (λ item. IsNamed s l.aux all item.role) g.helpers
       (lines_so _ (λ item h. imported.import_named item h s l.aux all))
       (each_line _ 1 paths (λ n path less. tt))
       (constants_so _ (λ item h. imported.import_named item h s l.aux all))
-      (λ e group k i x. each_of s m l e group x (λ item. IsNamed s l.aux all item.role) tt (λ q.
-      let item = declare_item false e.adapter (declared_name m e) x.function.words in record {
-        item = item;
-        stands = group_stands g g.helpers group item i (declaration_stands s m l e group x q);
-        declares = refl;
-        binds = declaration_binds s m l e group x;
-      }))
+      (published.tree_named s m l b n g.declares g.declared well all (declared_stands g g.helpers))
       (λ place item k x. rw (define_role s m l place item x) tt) tt tt (held_so _ (λ entry. tt)) tt
 
-  published : IsPublished s l.aux (fixed_public s l.«module» l.wit l.aux) all
-  published =
-      let tree : public_tree s l.aux ≡ map pair_of l.aux.exports =
-      rw (b.structs, b.enums, b.reexports, b.no_reset, functions_are l.aux.exports b.exports) (simp (append-nil, flat_map-map, flat_none)) in
-      let pairs : published_pairs all ≡ map pair_of g.exports =
-      given g published_by (λ e. pair_of e ∷ []) (λ place. []) g.helpers
-      (λ e group k d. declare_publishes s m l e group d well (name_ident e k) (b.export_steps e k)) (λ place item k x. rw (define_role s m l place item x) refl)
+  -- the glue file publishes no fixed name
+  none_fixed : fixed_public s l.«module» l.wit l.aux ≡ []
+  none_fixed = rw (b.deno, b.plain_files.0, b.plain_files.1) refl
+
+  exactly : IsPublished s l.aux (fixed_public s l.«module» l.wit l.aux) all
+  exactly =
+      let tree = published.tree_published s m l b n g.declares g.declared well in
+      let pairs : published_pairs all ≡ published_pairs g.declares =
+      given g published_by (λ place. []) g.helpers (λ place item k x. rw (define_role s m l place item x) refl)
       ∙ rw (
         lines_none published_by imported.import_published,
         none_given published_by (foreign_lines 1 paths) (each_line _ 1 paths (λ n path less. refl)),
         constants_none published_by imported.import_published,
         none_given published_by g.helpers (held_so _ (λ entry. refl)),
-      ) (simp (flat_none, flat_map_single, append-nil)) in
+      ) (simp (flat_none, append-nil)) in
       let none : fixed_published all ≡ [] =
-      given g fixed_by (λ e. []) (λ place. []) g.helpers (λ e group k d. group_none s m l e group d fixed_by refl refl)
-      (λ place item k x. rw (define_role s m l place item x, define_exported s m l well (first ++ free_names) basis b.pair_steps place k (b.defined place k) item x) refl)
+      given g fixed_by (λ place. []) g.helpers (λ place item k x. rw (define_role s m l place item x, define_exported s m l well (first ++ free_names) basis b.pair_steps place k (b.defined place k) item x) refl)
       ∙ rw (
         lines_none fixed_by imported.import_fixed,
         none_given fixed_by (foreign_lines 1 paths) (lines_inner 1 paths),
         constants_none fixed_by imported.import_fixed,
+        none_given fixed_by g.declares (published.tree_fixed s m l b n g.declares g.declared),
         none_given fixed_by g.helpers held_fixed,
       ) (simp (flat_none, fixed.start_fixed, end_fixed, fixed.loading_fixed)) in
-      let moved = IsPermutation-map pair_of l.aux.exports g.exports g.by_name.same in
       record {
-        only = λ pair. rw (pairs, tree) (moved_from _ _ moved pair);
-        all = λ pair. rw (pairs, tree) (moved_from _ _ (IsPermutation-sym _ _ moved) pair);
-        once = rw pairs (pairs_distinct g.exports public_distinct);
+        only = λ pair. rw pairs (tree.only pair);
+        all = λ pair. rw pairs (tree.all pair);
+        once = rw pairs tree.once;
         named = each_among (λ before item after. IsNamed s l.aux (before ++ item ∷ after) item.role) all [] all refl (λ before item after k e.
             subst (λ (items : List Item). IsNamed s l.aux items item.role) (sym e) (each_at (λ item. IsNamed s l.aux all item.role) item all names_stand k));
         fixed_only = λ name h. absurd (elim h [ inl k ↦ subst (IsIn name) none k | inr a ↦ fixed.nothing_assigned s all name b.deno a ]);
-        fixed_all = λ name. rw (b.deno, b.plain_files.0, b.plain_files.1) (λ h. absurd h);
+        fixed_all = λ name h. absurd (subst (IsIn name) none_fixed h);
       }
 
   -- from the facts, however they were found
   pub sound_by_facts : IsSound s m l items
-  sound_by_facts = rw g.all (record { linked = linked; defined = defined; published = published })
+  sound_by_facts = rw g.all (record { linked = linked; defined = defined; published = exactly })
 
 pub sound : (f : FileFlags) (s : Settings) (m : NameMap) (l : Lowered) (items : List Item) → unbuilt f s l ≡ None → verdict s l ≡ None → AreNames s l m
     → IsGlue s m l items → IsSound s m l items

@@ -1,10 +1,8 @@
 -- The modules of imports, of the collected module and of the one that is written.
-use Rattle.glue_context.proofs.Common.{◌≡◌, ℕ, zero, suc, ◌+◌, ◌<◌, List, [], ◌∷◌, map, length, Bool, true, false, true≢false, refl, sym, ap, ◌∙◌, subst, fold, arith, Option, Some, None, is_some, Contents, Import, ImportId, Settings, Lowered, live_count, with_moved, with_import, edits_of, rewritten}
+use Rattle.glue_context.proofs.Common.{◌≡◌, ℕ, zero, suc, ◌+◌, ◌<◌, List, [], ◌∷◌, map, length, true, false, true≢false, refl, sym, ap, ◌∙◌, fold, arith, Option, Some, None, is_some, Contents, Import, ImportId, Settings, Lowered, live_count, with_moved, with_import, edits_of, rewritten}
 use Rattle.std.specs.Prelude.{slice_get, slice_set, cond}
 use Rattle.std.proofs.lemmas.List.Sums.{sum_by-cons}
 use Rattle.wasm_core.specs.Edits.{renamed}
-use Rattle.glue_steps.specs.Resolving.{live}
-use Rattle.glue_context.specs.Edits.{has_start}
 use Rattle.glue_context.specs.Foreign.{path_of, has_path, with_path, with_move}
 use Rattle.glue_context.proofs.Edited.{written_imports}
 

@@ -1,7 +1,6 @@
 -- Each own import has exactly one definition, by its adapter or by a memory, and each function that is printed is that of its adapter.
-use Rattle.std.specs.Prelude.{◌≡◌, ℕ, List, [], ◌∷◌, Option, Some, None}
+use Rattle.std.specs.Prelude.{◌≡◌, ℕ, Bool, List, [], ◌∷◌, Option, Some, None}
 use Rattle.std.specs.List.{flat_map}
-use Rattle.std.specs.Str.{bytes_eq}
 use Rattle.values.specs.Lists.{IsIn, AreDistinct}
 use Rattle.wasm_core.specs.Contents.{Contents}
 use Rattle.wasm_core.specs.entries.Export.{Export}
@@ -25,7 +24,7 @@ use Rattle.glue_steps.specs.Resolving.{entry_at, export_named}
 use Rattle.glue_naming.specs.ItemNames.{asked_items}
 use Rattle.glue_naming.specs.Naming.{declared_name}
 use Rattle.glue_context.specs.DefinedItems.{define_item, memory_words, part_words, value_item}
-use Rattle.glue_context.specs.ExportedItems.{declare_item}
+use Rattle.glue_context.specs.ExportedItems.{declaration_words}
 use Rattle.glue_context.specs.Functions.{IsFunctionOf}
 
 -- the imports that an item of a role defines: one, or none
@@ -75,14 +74,15 @@ abbrev pub HoldsDefinition : Settings → NameMap → Lowered → Contents → �
 HoldsDefinition s m l written place item (Some adapter) = HoldsAdapter s m l written place adapter item (handed_part s l.wit l.aux adapter)
 HoldsDefinition s m l written place item None = IsMemoryDefinition l written place item
 
--- the item declares the function of an exported adapter, under the name that it was given
+-- the item declares the function of an exported adapter, under the name that it was given, exported or not
 pub record IsDeclaration (s : Settings) (m : NameMap) (l : Lowered) (adapter : ℕ) (item : Item) : Type 0 where
   pub «export» : AuxExport
   pub described : IsIn «export» l.aux.exports
   pub of : «export».adapter ≡ adapter
   pub function : JsFunction
   pub of_adapter : IsFunctionOf s m l adapter «export».args function
-  pub words : item.words ≡ (declare_item (bytes_eq (declared_name m «export») «export».name) adapter (declared_name m «export») function.words).words
+  pub exported : Bool
+  pub words : item.words ≡ declaration_words exported «export».comments (declared_name m «export») function.words
 
 -- a definition is that of its import, and the declaration of an adapter that of its function
 abbrev pub HoldsFunction : Settings → NameMap → Lowered → Contents → Role → Item → Type 0

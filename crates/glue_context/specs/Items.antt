@@ -2,7 +2,6 @@
 -- imports, helpers, and loading.
 use Rattle.std.specs.Prelude.{◌≡◌, ℕ, ◌<◌, ◌^◌, Bool, is_some, List, [], ◌∷◌, ◌++◌, length}
 use Rattle.std.specs.List.{AllZip, flat_map}
-use Rattle.std.specs.declared.cmp.Ordering.{Ordering}
 use Rattle.wasm_core.specs.ids.ImportId.{ImportId}
 use Rattle.glue_words.specs.declared.item.Item.{Item}
 use Rattle.glue_tree.specs.declared.tree.JsFunction.{JsFunction}
@@ -17,32 +16,31 @@ pub use Rattle.glue_naming.specs.Arranged.{IsArranged, text_order}
 use Rattle.glue_lines.specs.Grouped.{AreImportLines, Imported}
 use Rattle.glue_naming.specs.Listed.{drawn_imports}
 use Rattle.glue_naming.specs.Naming.{declared_name}
+use Rattle.glue_exports.specs.Printed.{tree_items}
+use Rattle.glue_exports.specs.Tree.{Entry}
+use Rattle.glue_public.specs.Described.{ArePut, FunctionItems, described, lone_functions}
 use Rattle.glue_naming.specs.Pairs.{own_pairs, pair_order, place_order}
 use Rattle.helper_table.specs.Closed.{AreAsked}
 use Rattle.glue_context.specs.declared.frame.FrameParts.{FrameParts}
 use Rattle.glue_context.specs.DefinedItems.{IsDefineItem, takes_memory}
 use Rattle.glue_context.specs.Edits.{has_start}
-use Rattle.glue_context.specs.ExportedItems.{declare_items}
+use Rattle.glue_context.specs.ExportedItems.{declare_item}
 use Rattle.glue_context.specs.Foreign.{foreign_modules, foreign_lines, has_strings}
 use Rattle.glue_context.specs.Functions.{IsFunctionOf}
 use Rattle.glue_context.specs.ImportedItems.{line_form, vendor_items}
 use Rattle.glue_context.specs.Parts.{helper_parts}
 
--- the items declare the function of an export under the name that it was given, and publish it
-pub record AreDeclareItems (s : Settings) (m : NameMap) (l : Lowered) (e : AuxExport) (items : List Item) : Type 0 where
+-- a function is declared under the name that it was given
+pub record AreFunctionItems (s : Settings) (m : NameMap) (l : Lowered) (e : AuxExport) (items : FunctionItems) : Type 0 where
   pub function : JsFunction
   pub of_adapter : IsFunctionOf s m l e.adapter e.args function
-  pub are : items ≡ declare_items e.adapter (declared_name m e) e.name function.words
+  pub are : items ≡ (declared_name m e, declare_item e.comments e.adapter (declared_name m e) function.words ∷ [])
 
 -- an export's adapter has steps
 abbrev pub is_bindable : Settings → NameMap → Lowered → AuxExport → Bool
 is_bindable s m l e = is_some (adapter_steps s m l e.adapter)
 
 -- ---- the order in which they stand
-
--- exports by name
-abbrev pub export_order : AuxExport → AuxExport → Ordering
-export_order a b = text_order a.name b.name
 
 -- items of groups, one group behind the other
 abbrev pub joined_groups : List (List Item) → List Item
@@ -72,13 +70,14 @@ abbrev pub all_items : List ℕ → Bool → Frame → (lines constants declares
 all_items stem starts frame lines constants declares defines helpers =
     front_items stem frame lines constants declares defines ++ (helpers ++ loading_item stem frame.strings starts ∷ [])
 
--- what is declared for the exports of a description, by the export's name
-pub record AreDeclared (s : Settings) (m : NameMap) (l : Lowered) (items : List Item) : Type 0 where
-  pub exports : List AuxExport
-  pub by_name : IsArranged export_order l.aux.exports exports
-  pub groups : List (List Item)
-  pub declared : AllZip (AreDeclareItems s m l) exports groups
-  pub joined : items ≡ joined_groups groups
+-- What a description publishes, as the items of its export tree: functions with their declarations, enums and re-exports. No name of
+-- the host is among those of re-exports.
+pub record AreTreeItems (s : Settings) (m : NameMap) (l : Lowered) (items : List Item) : Type 0 where
+  pub functions : List FunctionItems
+  pub made : AllZip (AreFunctionItems s m l) (lone_functions l.aux.exports) functions
+  pub tree : List Entry
+  pub put : ArePut (described l.aux m functions) [] tree
+  pub are : items ≡ tree_items m.namespaces [] tree
 
 -- the groups of items up to loading, but for helpers, where own imports have these places and call these, and this is what the frame goes by
 pub record AreGroups (s : Settings) (m : NameMap) (l : Lowered) (places : List ℕ) (called : List Imported) (frame : Frame)
@@ -86,32 +85,30 @@ pub record AreGroups (s : Settings) (m : NameMap) (l : Lowered) (places : List �
   pub lines : List Item
   pub imported : AreImportLines (line_form s.target) called lines
   pub declares : List Item
-  pub declared : AreDeclared s m l declares
+  pub declared : AreTreeItems s m l declares
   pub defines : List Item
   pub defined : AllZip (IsDefineItem s m l) places defines
   pub numbered : length frame.modules < 2 ^ 32
   pub are : groups ≡ front_groups s.stem frame lines (vendor_items called) declares defines
 
--- the items that settings and a description ask for, where these names are drawn: the declarations stand by the export's name, the definitions
+-- the items that settings and a description ask for, where these names are drawn: what is published stands by path, the definitions
 -- of own imports by the import's name and then by its place; what the adapters of own imports call that is no name of the host is bound: import lines
 -- stand by module, their entries and the vendor constants in the order in which they are first called, by the import's name and then by the
 -- adapter's id; the helpers are those for which the items before them ask, and those for which these ask
 pub record IsGlue (settings : Settings) (m : NameMap) (l : Lowered) (items : List Item) : Type 0 where
-  pub exports : List AuxExport
-  pub by_name : IsArranged export_order l.aux.exports exports
   pub pairs : List (ImportId × ℕ)
   pub by_import : IsArranged (pair_order l) (own_pairs settings l) pairs
   pub places : List ℕ
   pub by_place : IsArranged (place_order l) (own_imports settings l.«module» l.wit l.aux) places
   pub lines : List Item
   pub imported : AreImportLines (line_form settings.target) (drawn_imports settings l m pairs) lines
-  pub declares : List (List Item)
+  pub declares : List Item
   pub defines : List Item
   pub helpers : List Item
-  pub declared : AllZip (AreDeclareItems settings m l) exports declares
+  pub declared : AreTreeItems settings m l declares
   pub defined : AllZip (IsDefineItem settings m l) places defines
   pub numbered : length (foreign_modules settings l) < 2 ^ 32
   pub asked : AreAsked (helper_parts settings)
-      (front_items settings.stem (frame_of settings l) lines (vendor_items (drawn_imports settings l m pairs)) (joined_groups declares) defines) helpers
+      (front_items settings.stem (frame_of settings l) lines (vendor_items (drawn_imports settings l m pairs)) declares defines) helpers
   pub all : items ≡ all_items settings.stem (has_start l.«module») (frame_of settings l) lines
-      (vendor_items (drawn_imports settings l m pairs)) (joined_groups declares) defines helpers
+      (vendor_items (drawn_imports settings l m pairs)) declares defines helpers

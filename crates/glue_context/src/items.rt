@@ -1,16 +1,17 @@
 //! The items of the glue file, group by group: the lines that take modules, the vendor constants, what the description declares, the frame
 //! with the definitions of imports, the helpers for which these ask, and loading.
-ghost use Rattle.std.specs.Prelude.{◌≡◌, List, ◌++◌, ◌∷◌, [], IfOk, map, true};
+ghost use Rattle.std.specs.Prelude.{◌≡◌, List, ◌++◌, ◌∷◌, [], IfOk, map, None, true};
 ghost use Rattle.std.specs.List.{list_all};
 ghost use Rattle.wasm_core.specs.ids.ImportId.{ImportId};
 ghost use Rattle.helper_table.specs.Closed as closed;
 ghost use Rattle.glue_shared.specs.Names.{own_imports};
+ghost use Rattle.glue_published.specs.Clash.{thing_clash};
 ghost use Rattle.glue_naming.specs.Naming as naming;
 ghost use Rattle.glue_context.specs.DefinedItems as definitions;
 ghost use Rattle.glue_context.specs.Items as spec;
 
 use crate::defined::define_imports;
-use crate::exported::{declare_exports, exports_by_name, joined};
+use crate::exported::{joined, published_items};
 use crate::foreign::foreign_lines;
 use crate::frame::{FrameParts, frame_parts};
 use crate::imported::{imported_lines, vendor_constants};
@@ -27,22 +28,6 @@ use helper_table::{HelperParts, close_over};
 use std::alloc::{AllocError, Global};
 use values::{Seq, Text};
 use wasm_core::ImportId;
-
-// What is declared for the exports of the description.
-fn declared_items<N: Names>(
-    alloc: Global,
-    basis: &Basis<'_>,
-    indexed: &Indexed<'_>,
-) -> Result<Seq<Item>, AllocError>
-    requires bindable { list_all (spec.is_bindable basis.now.settings.now basis.now.names.now indexed.now) indexed.now.aux.exports ≡ true }
-    requires named { list_all (naming.is_named basis.now.names.now) indexed.now.aux.exports ≡ true }
-    ensures items { IfOk result (λ items. spec.AreDeclared basis.now.settings.now basis.now.names.now indexed.now items) }
-{
-    let exports = exports_by_name(alloc, indexed.lowered().aux.exports.as_slice())?;
-    let groups = declare_exports::<N>(alloc, basis, indexed, exports.as_slice())?;
-    let items = joined(alloc, groups)?;
-    Ok(items)
-}
 
 // This item alone.
 fn one_item(alloc: Global, item: Item) -> Result<Seq<Item>, AllocError>
@@ -65,6 +50,7 @@ fn front_groups<N: Names>(
     requires bindable { list_all (spec.is_bindable basis.now.settings.now basis.now.names.now indexed.now) indexed.now.aux.exports ≡ true }
     requires definable { list_all (definitions.is_definable basis.now.settings.now basis.now.names.now indexed.now) (map (λ (id : ImportId). id.0) places.now) ≡ true }
     requires named { list_all (naming.is_named basis.now.names.now) indexed.now.aux.exports ≡ true }
+    requires apart { thing_clash basis.now.settings.now indexed.now.aux ≡ None }
     ensures groups { IfOk result (λ groups. spec.AreGroups basis.now.settings.now basis.now.names.now indexed.now (map (λ (id : ImportId). id.0) places.now) called.now (spec.frame_by frame.now) groups) }
 {
     let mut groups = Seq::new(alloc);
@@ -74,7 +60,7 @@ fn front_groups<N: Names>(
     groups.push(foreign)?;
     let constants = vendor_constants(alloc, called)?;
     groups.push(constants)?;
-    let declares = declared_items::<N>(alloc, basis, indexed)?;
+    let declares = published_items::<N>(alloc, basis, indexed)?;
     groups.push(declares)?;
     let start = frame_start(alloc, basis.settings, frame.memory)?;
     let start_group = one_item(alloc, start)?;
@@ -109,8 +95,8 @@ fn with_helpers(
 }
 
 /// The items that settings and a description ask for, where the check has found steps for each adapter that becomes a function, that of
-/// an export and that of an own import, each other own import brings in a memory whose definition is built, and the function of each export was
-/// given a name. What an import begins with that was given none is printed under its own name, as one of the host. Want of memory is the only error.
+/// an export and that of an own import, each other own import brings in a memory whose definition is built, the function of each export was
+/// given a name, and no two things that are published clash. What an import begins with that was given none is printed under its own name, as one of the host. Want of memory is the only error.
 pub fn glue_items<N: Names>(
     alloc: Global,
     settings: &Settings,
@@ -120,6 +106,7 @@ pub fn glue_items<N: Names>(
     requires bindable { list_all (spec.is_bindable settings.now names.now lowered.now) lowered.now.aux.exports ≡ true }
     requires definable { list_all (definitions.is_definable settings.now names.now lowered.now) (own_imports settings.now lowered.now.«module» lowered.now.wit lowered.now.aux) ≡ true }
     requires named { list_all (naming.is_named names.now) lowered.now.aux.exports ≡ true }
+    requires apart { thing_clash settings.now lowered.now.aux ≡ None }
     ensures items { IfOk result (λ items. spec.IsGlue settings.now names.now lowered.now items) }
 {
     let basis = Basis { settings, names };

@@ -1,4 +1,4 @@
-use Rattle.glue_context.proofs.Common.{ap, sym, ◌∙◌, list_any, ImportId, List}
+use Rattle.glue_context.proofs.Common.{sym, ◌∙◌}
 use Rattle.glue_check.proofs.OwnNames.{any_of_ids}
 use Rattle.glue_context.specs.DefinedItems.{is_unpaired}
 use Rattle.glue_context.proofs.defined.has_unpaired.Goals as goal

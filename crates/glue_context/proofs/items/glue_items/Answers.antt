@@ -1,4 +1,4 @@
-use Rattle.glue_context.proofs.Common.{Frame, ImportId, ℕ, ap, frame_by, is_definable, map, own_imports}
+use Rattle.glue_context.proofs.Common.{Frame, ImportId, ap, frame_by, is_definable, map, own_imports}
 use Rattle.glue_context.proofs.Lists.{all_moved, glue_made}
 use Rattle.glue_context.proofs.items.glue_items.Goals as goal
 
@@ -11,6 +11,7 @@ front_groups-requires g c =
       bindable = rw c.in_ok-indexed.ensures.same c.requires.bindable;
       definable = rw (c.in_ok-indexed.ensures.same, c.as_slice-2.ensures.value) (all_moved definable own _ c.in_ok-places.ensures.sorted c.requires.definable);
       named = rw c.in_ok-indexed.ensures.same c.requires.named;
+      apart = rw c.in_ok-indexed.ensures.same c.requires.apart;
     }
 
 pub returns : goal.returns
