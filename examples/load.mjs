@@ -61,6 +61,12 @@ function folderAt(given) {
     return realpathSync(given);
 }
 
+/** Writes the files of a listing into a folder, and has `fetch` answer them from there. */
+export function unpackListing(listing, folder) {
+    unpack(readListing(listing), folder);
+    globalThis.fetch = fetchFrom(folder);
+}
+
 /**
  * Reads the listing that the command line names, or that of standard input, writes its files into the folder that the
  * command line names, or into a temporary one that is removed at the end, imports `out.js` from there and calls `use`
@@ -70,8 +76,7 @@ export async function load(use) {
     const [listing = "-", given] = process.argv.slice(2);
     const folder = folderAt(given);
     try {
-        unpack(readListing(readFileSync(listing === "-" ? 0 : listing)), folder);
-        globalThis.fetch = fetchFrom(folder);
+        unpackListing(readFileSync(listing === "-" ? 0 : listing), folder);
         use(await import(pathToFileURL(join(folder, "out.js")).href));
     } catch (error) {
         console.error(`load: ${error.message}`);

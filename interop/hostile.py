@@ -40,7 +40,7 @@ TEXTS = [
     f".{CALL}.",
     f"é{CALL}",
 ]
-OUTSIDE_CODE = re.compile(r'"(?:\\.|[^"\\\n])*"|//[^\n]*')
+OUTSIDE_CODE = re.compile(r'"(?:\\.|[^"\\\n])*"|//[^\n]*|/\*(?s:.*?)\*/')
 
 
 def described(what, kind="normal", args=0, result=False):
@@ -77,6 +77,28 @@ def exported(fields):
         return {"description": {"adapters": [adapter], "exports": [entry]}}
 
     return at
+
+
+def published(key, entry):
+    """A description with one entry of this key."""
+    return lambda text: {"description": {key: [entry(text)]}}
+
+
+def enum(fields):
+    """An enum with these fields too."""
+    return published("enums", lambda text: {"name": "E", "variants": [["A", 1, ""]], **fields(text)})
+
+
+def reexport(js):
+    """A re-export of this import."""
+    return published("reexports", lambda text: {"name": "r", "js": js(text)})
+
+
+def merged(text):
+    """A re-export, and a function in a namespace of its name."""
+    case = exported(lambda t: {"namespace": [t, t]})(text)
+    case["description"]["reexports"] = [{"name": text, "js": {"module": text, "name": text}}]
+    return case
 
 
 PLACES = {
@@ -124,6 +146,26 @@ PLACES = {
     "operation": described(lambda t: ["Intrinsic", t]),
     "name of an export": exported(lambda t: {"name": t}),
     "namespace": exported(lambda t: {"namespace": [t]}),
+    "inner namespace": exported(lambda t: {"namespace": ["a", t, "b"]}),
+    "name in a namespace": exported(lambda t: {"namespace": ["a"], "name": t}),
+    "comment in a namespace": exported(lambda t: {"namespace": ["a"], "comments": t}),
+    "name of an enum": enum(lambda t: {"name": t}),
+    "namespace of an enum": enum(lambda t: {"namespace": [t, t]}),
+    "comment of an enum": enum(lambda t: {"comments": t}),
+    "variant": enum(lambda t: {"variants": [[t, 1, ""]]}),
+    "comment of a variant": enum(lambda t: {"variants": [["A", 1, t], ["B", 2, t]]}),
+    "string enum": published("string_enums", lambda t: {"name": t, "variants": ["a"]}),
+    "variant of a string enum": published("string_enums", lambda t: {"name": "S", "variants": [t], "comments": t}),
+    "name of a re-export": published("reexports", lambda t: {"name": t, "js": {"module": "m", "name": "f"}}),
+    "name of a re-export and a namespace": merged,
+    "module of a re-export": reexport(lambda t: {"module": t, "name": "f"}),
+    "name in the module of a re-export": reexport(lambda t: {"module": "m", "name": t}),
+    "local module of a re-export": reexport(lambda t: {"local": t, "name": "f"}),
+    "crate of a re-export": reexport(lambda t: {"inline": t, "index": 0, "name": "f"}),
+    "vendor name of a re-export": reexport(lambda t: {"vendor": t, "prefixes": ["webkit"]}),
+    "vendor prefix of a re-export": reexport(lambda t: {"vendor": "f", "prefixes": [t]}),
+    "global of a re-export": reexport(lambda t: {"global": t}),
+    "field of a re-export": reexport(lambda t: {"module": "m", "name": "f", "fields": [t]}),
     "parameter": exported(lambda t: {"args": [t]}),
     "comment": exported(lambda t: {"comments": t}),
     "debug name": exported(lambda t: {"debug": t}),

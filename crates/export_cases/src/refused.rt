@@ -1,0 +1,30 @@
+//! Descriptions whose things can't be published beside one another.
+use crate::told::{Row, assert_rows};
+use std::test::Fail;
+
+const REFUSED: &[Row] = &[
+    // Two of one joined name, in either order.
+    (
+        r#""exports":[{"adapter":0,"kind":"function","name":"a__f"},{"adapter":1,"kind":"function","namespace":["a"],"name":"f"}]"#,
+        r#"ExportClash { name: Text { string: "a__f" } }"#,
+    ),
+    (
+        r#""exports":[{"adapter":0,"kind":"function","namespace":["a"],"name":"f"},{"adapter":1,"kind":"function","name":"a__f"}]"#,
+        r#"ExportClash { name: Text { string: "a__f" } }"#,
+    ),
+    // The later of two is named, functions being before enums. Private ones count.
+    (
+        r#""enums":[{"name":"E","private":true}],"exports":[{"adapter":0,"kind":"function","namespace":["E"],"name":"f"}]"#,
+        r#"ExportClash { name: Text { string: "E" } }"#,
+    ),
+    // A bad name comes before a clash.
+    (
+        r#""enums":[{"name":"E"},{"name":"E"},{"name":"F","variants":[["1x",0,""]]}]"#,
+        r#"BadName { name: Text { string: "1x" } }"#,
+    ),
+];
+
+#[test]
+fn what_cannot_stand_is_refused(rt: HostRuntime) -> Result<(), Fail> {
+    assert_rows(&rt, rt.alloc(), REFUSED)
+}
