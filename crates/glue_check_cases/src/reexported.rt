@@ -362,23 +362,55 @@ const OMITTED_REEXPORTS: &[Case] = &[(ADD, &[R], "BadReexport r"), (ADD, &[VENDO
 
 const SCRIPT_REEXPORTS: &[Case] = &[(ADD, &[HOSTED], ""), (ADD, &[FIELDS], "BadReexport r")];
 
-const CONDITIONS: &[Condition] = &[
+const NAMED: &[Condition] = &[
     (Call::BadName, &[], BAD_NAMES),
     (Call::BadName, &[Asked::NoImports], OMITTED_NAMES),
+];
+
+#[test]
+fn names_stand_where_they_have_to(rt: HostRuntime) -> Result<(), LowerFault> {
+    assert_conditions(&rt, rt.alloc(), NAMED)
+}
+
+const OUTSIDE: &[Condition] = &[
     (Call::GlobalTwice, &[], GLOBALS),
     (Call::GlobalTwice, &[Asked::NoImports], OMITTED_GLOBALS),
+];
+
+#[test]
+fn names_of_the_outside_stand_for_nothing_else(rt: HostRuntime) -> Result<(), LowerFault> {
+    assert_conditions(&rt, rt.alloc(), OUTSIDE)
+}
+
+const GIVEN: &[Condition] = &[
     (Call::NameClash, &[], CLASHES),
     (Call::NameClash, &[Asked::NoImports], OMITTED_CLASHES),
     (Call::NameClash, &[Asked::EnumGlobal], SCRIPT_CLASHES),
+];
+
+#[test]
+fn given_names_stand_for_one_thing(rt: HostRuntime) -> Result<(), LowerFault> {
+    assert_conditions(&rt, rt.alloc(), GIVEN)
+}
+
+const AT_PATHS: &[Condition] = &[
     (Call::ThingClash, &[], PATHS),
     (Call::FixedExport, &[Asked::Web], FIXED),
     (Call::FixedExport, &[Asked::Bundler], BUNDLED),
+];
+
+#[test]
+fn reexports_have_paths_of_their_own(rt: HostRuntime) -> Result<(), LowerFault> {
+    assert_conditions(&rt, rt.alloc(), AT_PATHS)
+}
+
+const AGAIN: &[Condition] = &[
     (Call::BadReexport, &[], REEXPORTS),
     (Call::BadReexport, &[Asked::NoImports], OMITTED_REEXPORTS),
     (Call::BadReexport, &[Asked::NoModules], SCRIPT_REEXPORTS),
 ];
 
 #[test]
-fn each_reexport_has_its_fault(rt: HostRuntime) -> Result<(), LowerFault> {
-    assert_conditions(&rt, rt.alloc(), CONDITIONS)
+fn what_cannot_be_exported_again_is_named(rt: HostRuntime) -> Result<(), LowerFault> {
+    assert_conditions(&rt, rt.alloc(), AGAIN)
 }
