@@ -1,6 +1,7 @@
-"""What the scripts of this folder share: the program, a number's bytes, modules without names, the time and memory of a run."""
+"""What the scripts of this folder share: the program, a number's bytes, modules without names, what a run takes."""
 
 import os
+import re
 import subprocess
 import sys
 import time
@@ -82,3 +83,11 @@ def spent(words, path):
 def run(words, path):
     """One run with a file as standard input: seconds by the wall clock, and the peak resident memory in bytes (see `spent`)."""
     return spent(words, path)[1:]
+
+
+def instructions(words, path):
+    """How many instructions of the processor one run takes with a file as standard input, counted by valgrind."""
+    counter = ["valgrind", "--tool=cachegrind", "--cache-sim=no", "--cachegrind-out-file=/dev/null", *words]
+    with path.open("rb") as module:
+        done = subprocess.run(counter, stdin=module, stdout=subprocess.DEVNULL, stderr=subprocess.PIPE, check=True)
+    return int(re.search(rb"I +refs: +([0-9,]+)", done.stderr)[1].replace(b",", b""))

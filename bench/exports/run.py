@@ -1,6 +1,7 @@
 #!/usr/bin/env python3
-"""Measures the program on 1,000, 10,000 and 100,000 exports in a tenth as many namespaces, and prints a table.
+"""Measures the program on 1,000, 10,000 and 100,000 exports in a tenth as many namespaces, and prints a table: run.py [counted]
 
+With `counted` the table has the instructions of the processor, which valgrind counts and other work on the machine doesn't change.
 The program is the one that the environment variable GLUE names, or else the one that the script `glue` runs.
 """
 
@@ -13,7 +14,7 @@ from collections import Counter
 from pathlib import Path
 
 sys.path.insert(0, str(Path(__file__).resolve().parents[1]))
-from shared import program, spent  # noqa: E402
+from shared import instructions, program, spent  # noqa: E402
 
 HERE = Path(__file__).resolve().parent
 SIZES = [1_000, 10_000, 100_000]
@@ -52,14 +53,15 @@ def check(command, path, count):
             sys.exit(f"{path.name}: {seen[told]} {told} in place of {count // 10 * of_ten}")
 
 
-def measure(command, count, folder):
+def measure(command, path):
     """The figures of one size: the least of the runs, each by itself."""
-    path = folder / f"{count}.wasm"
-    make(count, path)
-    check(command, path, count)
     runs = [spent(command, path) for _ in range(RUNS)]
-    figures = {name: min(run[place] for run in runs) for place, name in enumerate(("processor", "wall", "memory"))}
-    return {"count": count, "bytes": path.stat().st_size, **figures}
+    return {name: min(run[place] for run in runs) for place, name in enumerate(("processor", "wall", "memory"))}
+
+
+def count_one(command, path):
+    """The instructions of one size."""
+    return {"instructions": instructions(command, path)}
 
 
 def exponent(before, after, name):
@@ -69,10 +71,9 @@ def exponent(before, after, name):
     return f"{math.log(after[name] / before[name]) / math.log(after['count'] / before['count']):.2f}"
 
 
-def row(f, before):
-    """A line of the table."""
-    cells = [
-        f"{f['count']:,}",
+def measured_row(f, before):
+    """The cells of a line, behind the number of exports."""
+    return [
         f"{f['bytes']:,}",
         f"{f['processor']:.2f}",
         f"{f['wall']:.2f}",
@@ -81,18 +82,41 @@ def row(f, before):
         exponent(before, f, "processor"),
         exponent(before, f, "memory"),
     ]
-    return "| " + " | ".join(cells) + " |"
+
+
+def counted_row(f, before):
+    """The same of instructions."""
+    total = f["instructions"]
+    return [f"{total / 1e6:,.0f}", f"{total / f['count']:,.0f}", exponent(before, f, "instructions")]
+
+
+# What is found out about a size, its line, and how the table begins.
+TABLES = {
+    "measured": (
+        measure,
+        measured_row,
+        "bytes | processor, s | wall, s | peak MiB | memory by bytes | exponent, processor | exponent, memory",
+    ),
+    "counted": (count_one, counted_row, "instructions, millions | for each export | exponent"),
+}
 
 
 def main():
+    words = sys.argv[1:] or ["measured"]
+    if len(words) != 1 or words[0] not in TABLES:
+        sys.exit(__doc__.splitlines()[0])
+    figures_of, row, head = TABLES[words[0]]
     command = [program(), "--target", "deno"]
-    print("| exports | bytes | processor, s | wall, s | peak MiB | memory by bytes | exponent, processor | exponent, memory |")
-    print("|---:|" + "---:|" * 7)
+    print(f"| exports | {head} |")
+    print("|---:|" + "---:|" * (head.count("|") + 1))
     before = None
     with tempfile.TemporaryDirectory() as folder:
         for count in SIZES:
-            figures = measure(command, count, Path(folder))
-            print(row(figures, before), flush=True)
+            path = Path(folder) / f"{count}.wasm"
+            make(count, path)
+            check(command, path, count)
+            figures = {"count": count, "bytes": path.stat().st_size, **figures_of(command, path)}
+            print("| " + " | ".join([f"{count:,}", *row(figures, before)]) + " |", flush=True)
             before = figures
 
 

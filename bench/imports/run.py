@@ -19,7 +19,7 @@ from statistics import median
 
 sys.path.insert(0, str(Path(__file__).resolve().parents[1]))
 from make import SHAPES  # noqa: E402
-from shared import program, spent  # noqa: E402
+from shared import instructions, program, spent  # noqa: E402
 
 HERE = Path(__file__).resolve().parent
 SIZES = [1_000, 10_000, 100_000]
@@ -114,14 +114,6 @@ def measure(command, count, folder, words):
     figures = {name: median(run[place] for run in runs) for place, name in enumerate(("processor", "wall", "memory"))}
     spread = [run[0] for run in runs]
     return {"count": count, "bytes": path.stat().st_size, **figures, "least": min(spread), "most": max(spread), **seen}
-
-
-def instructions(command, path):
-    """How many instructions one run takes, counted by valgrind."""
-    words = ["valgrind", "--tool=cachegrind", "--cache-sim=no", "--cachegrind-out-file=/dev/null", *command]
-    with path.open("rb") as module:
-        done = subprocess.run(words, stdin=module, stdout=subprocess.DEVNULL, stderr=subprocess.PIPE, check=True)
-    return int(re.search(rb"I +refs: +([0-9,]+)", done.stderr)[1].replace(b",", b""))
 
 
 def count_one(command, count, folder, words):
