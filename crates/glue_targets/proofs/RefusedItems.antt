@@ -1,7 +1,7 @@
 -- Items that are refused, each beside items that are right.
 use Rattle.std.proofs.Common.{◌≡◌, ℕ, inl, inr, List, [], ◌∷◌, ◌++◌, refl, Bool, true, false, true≢false}
 use Rattle.std.proofs.Common.{ap, sym, ◌∙◌, subst}
-use Rattle.std.specs.Prelude.{◌⊎◌, Option, Some, None, codes, bytes_eq, map, if◌then◌else◌}
+use Rattle.std.specs.Prelude.{◌⊎◌, Option, Some, None, codes, bytes_eq, map, filter_map, if◌then◌else◌}
 use Rattle.std.specs.Fmt.{digits}
 use Rattle.std.specs.List.{list_any, flat_map}
 use Rattle.values.specs.Lists.{IsIn}
@@ -25,7 +25,7 @@ use Rattle.glue_shared.specs.declared.import.JsImportName.TheVariants.{Global, M
 use Rattle.glue_shared.specs.declared.settings.Settings.{Settings}
 use Rattle.glue_shared.specs.declared.settings.Target.TheVariants as target
 use Rattle.glue_shared.specs.Names.{fixed_public_names, further_names, published_names}
-use Rattle.glue_targets.specs.Published.{IsImportBound, IsNamed, Enters, IsVendorConstant, own_host, entries_from}
+use Rattle.glue_targets.specs.Published.{IsImportBound, IsNamed, Enters, IsVendorConstant, own_host, entries_from, text_name}
 use Rattle.glue_targets.specs.Published.{fixed_published}
 use Rattle.glue_targets.specs.RoleWords.{role_words, clause_words, publish_texts, root_words, inner_texts, roots_of}
 use Rattle.glue_targets.specs.RoleWords.{statement_end}
@@ -280,12 +280,25 @@ vendor_all name (inl e) = inl e
 vendor_all name (inr (inl e)) = inr (inr (inl e))
 vendor_all name (inr (inr none)) = absurd none
 
+abbrev tried_texts : List (List ℕ)
+tried_texts = codes "undefined" ∷ codes "undefined" ∷ []
+
+vendor_texts : filter_map text_name vendor_words ≡ tried_texts
+unfolding reading
+vendor_texts = refl
+
+vendor_text : (text : List ℕ) → IsIn text tried_texts → text ≡ codes "undefined"
+vendor_text text (inl e) = e
+vendor_text text (inr (inl e)) = e
+vendor_text text (inr (inr none)) = absurd none
+
 vendor_right : IsVendorConstant vendor_hosts (codes "lx") (vendor_line role.Import)
 vendor_right = record {
   line = refl;
   binds = vendor_bound;
   only = λ name h. vendor_only name (subst (IsIn name) vendor_names h);
   all = λ name h. subst (IsIn name) (sym vendor_names) (vendor_all name h);
+  texts = λ text h. vendor_text text (subst (IsIn text) vendor_texts h);
 }
 
 abbrev is_import : Role → Bool
@@ -294,6 +307,19 @@ is_import r = false
 
 vendor_body_refused : IsVendorConstant vendor_hosts (codes "lx") (vendor_line role.Body) → ⊥
 vendor_body_refused h = true≢false (sym (ap is_import h.line))
+
+-- a line that takes a name of a module is no such constant, whatever the host calls what takes it
+abbrev required_line : Item
+required_line = record { role = role.Import; words = words_in (codes "const { b@lx } = g@require(\"m\");\n") }
+
+required_texts : filter_map text_name required_line.words ≡ codes "m" ∷ []
+unfolding reading
+required_texts = refl
+
+require_refused : IsVendorConstant (codes "require" ∷ []) (codes "lx") required_line → ⊥
+require_refused h =
+    let same : codes "m" ≡ codes "undefined" = h.texts (codes "m") (subst (IsIn (codes "m")) (sym required_texts) (inl refl)) in
+    true≢false (ap (bytes_eq (codes "m")) same)
 
 -- ---- names beside the public tree
 

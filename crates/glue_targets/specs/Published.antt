@@ -208,13 +208,14 @@ pub record Enters (path name bound : List ℕ) (item : Item) : Type 0 where
   pub from : filter_map text_name item.words ≡ path ∷ []
   pub entry : IsIn (name, bound) (entries_from false [] item.words)
 
--- the item is the constant of a name with prefixes: it binds one name, and names exactly these of the host, and
--- `undefined` where none of them is there
+-- the item is the constant of a name with prefixes: it binds one name, names exactly these of the host, and `undefined` where none of
+-- them is there, and has no other text than that, so that it takes nothing of a module
 pub record IsVendorConstant (names : List (List ℕ)) (bound : List ℕ) (item : Item) : Type 0 where
   pub line : item.role ≡ role.Import
   pub binds : bound_in item.words ≡ bound ∷ []
   pub only : (name : List ℕ) → IsIn name (hosted_in item.words) → IsIn name (codes "undefined" ∷ names)
   pub all : (name : List ℕ) → IsIn name names → IsIn name (hosted_in item.words)
+  pub texts : (text : List ℕ) → IsIn text (filter_map text_name item.words) → text ≡ codes "undefined"
 
 -- the item binds a name for an import
 abbrev pub BindsImport : JsImportName → List ℕ → Item → Type 0
