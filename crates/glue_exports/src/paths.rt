@@ -6,6 +6,10 @@ ghost use Rattle.glue_exports.specs.Fronts as spec;
 use std::alloc::{AllocError, Global};
 use values::{Duplicate, Map, Seq, Text};
 
+/// The most segments that a path may have whose fronts are asked for: the text of what publishes a path has each of its fronts in it, so that
+/// it grows with the square of the number of segments.
+pub const MAX_SEGMENTS: usize = 1000;
+
 // The fronts of segments that aren't empty, the shortest first, and all of them last.
 fn all_fronts(alloc: Global, segments: &[Text]) -> Result<Vec<Seq<Text>>, AllocError>
     ensures fronts { IfOk result (λ fronts. fronts.items ≡ spec.all_fronts segments.now) }
@@ -19,11 +23,15 @@ fn all_fronts(alloc: Global, segments: &[Text]) -> Result<Vec<Seq<Text>>, AllocE
     Ok(found)
 }
 
-/// The proper fronts of a path that aren't empty, the shortest first. Want of memory is the only error.
+/// The proper fronts of a path that aren't empty, the shortest first. Want of memory is the only error; it answers a path of more than
+/// [`MAX_SEGMENTS`] segments.
 #[tactic(auto, using(crate::proofs::Keys::proper_fronts))]
 pub fn fronts(alloc: Global, path: &[Text]) -> Result<Vec<Seq<Text>>, AllocError>
     ensures fronts { IfOk result (λ fronts. fronts.items ≡ public.fronts path.now) }
 {
+    if path.len() > MAX_SEGMENTS {
+        return Err(AllocError);
+    }
     match path {
         [] => Ok(Vec::new(alloc)),
         [segments @ .., _] => all_fronts(alloc, segments),

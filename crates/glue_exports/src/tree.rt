@@ -12,10 +12,6 @@ use std::alloc::{AllocError, Global};
 use std::marker::Model;
 use values::{Duplicate, Map, Seq, Text};
 
-/// The most segments that a path of a tree may have: the text of what publishes a path has the lengths of its fronts in it,
-/// so that it grows with the square of the number of segments.
-pub const MAX_SEGMENTS: usize = 1000;
-
 /// Why a definition isn't put into a tree.
 #[derive(Debug, PartialEq, Eq, Drop)]
 pub enum ExportFault {
@@ -122,7 +118,7 @@ impl ExportTree {
         ensures ok { IfOk result (λ is_put. spec.IsPut self.old path definition is_put self.new) }
         ensures err { OnErr result (self.new ≡ self.old) }
     {
-        if self.is_spent || path.len() > MAX_SEGMENTS {
+        if self.is_spent {
             return Err(AllocError);
         }
         let fronts = fronts(alloc, path.as_slice())?;
@@ -159,7 +155,7 @@ fn path_of(alloc: Global, namespace: &[Text], name: &str) -> Result<Seq<Text>, A
 ///
 /// A re-export and a namespace may have one path, whichever comes first; any other overlap of paths is a clash, and changes
 /// nothing. Want of memory changes no definition, but a tree may take no more behind it; a path of more than
-/// [`MAX_SEGMENTS`] segments, with the name as one of them, is answered by it.
+/// [`MAX_SEGMENTS`](crate::MAX_SEGMENTS) segments, with the name as one of them, is answered by it.
 pub fn define_export(
     alloc: Global,
     tree: &mut ExportTree,

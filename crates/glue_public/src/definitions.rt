@@ -1,13 +1,11 @@
 //! What a description asks to be put into an export tree.
 ghost use Rattle.std.specs.Prelude.{◌≡◌, ◌++◌, [], List, filter, map, IfOk, OnOk};
 ghost use Rattle.std.specs.Option.{option_copied};
-ghost use Rattle.glue_published.specs.Things as things;
 ghost use Rattle.glue_public.specs.Described as spec;
 
 use glue_exports::{ExportDefinition, enum_definition, qualified_name};
-use glue_shared::{
-    AuxEnum, AuxExport, AuxExportKind, JsImport, JsImportName, NameMap, WasmBindgenAux,
-};
+use glue_published::stands_alone;
+use glue_shared::{AuxEnum, AuxExport, JsImport, JsImportName, NameMap, WasmBindgenAux};
 use glue_words::{Item, Thing};
 use std::alloc::{AllocError, Global};
 use values::{Duplicate, Map, Seq, Text};
@@ -21,16 +19,6 @@ pub struct PublicDefinition {
     pub name: Text,
     /// What stands there.
     pub definition: ExportDefinition,
-}
-
-// Whether an export of this kind is a function that stands by itself.
-fn stands_alone(kind: AuxExportKind) -> bool
-    ensures test { result ≡ things.stands_alone kind }
-{
-    match kind {
-        AuxExportKind::Function | AuxExportKind::FunctionThis => true,
-        AuxExportKind::Constructor | AuxExportKind::Method(_) => false,
-    }
 }
 
 /// The functions that stand by themselves, in the description's order. Want of memory is the only error.

@@ -1,4 +1,5 @@
 pub mod FixedNames
+pub mod ImportOrder
 pub mod Known
 pub mod Lists
 pub mod Names

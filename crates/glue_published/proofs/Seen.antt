@@ -3,29 +3,25 @@ use Rattle.std.proofs.Common.{◌≡◌, ℕ, ◌+◌, ◌<◌, List, [], ◌∷
 use Rattle.std.specs.Prelude.{◌&&◌, ◌||◌, ◌==◌, is_some, Some}
 use Rattle.std.proofs.lemmas.List.{at_drop_more, take_more}
 use Rattle.std.specs.List.{list_any}
-use Rattle.std.specs.Cmp.{IsTotalOrder}
 use Rattle.std.specs.BTreeMap.{insert_entry}
 use Rattle.values.specs.Map.{look_up}
 use Rattle.values.proofs.Maps.{look_up_inserted}
 use Rattle.glue_shared.specs.Paths.{Path}
 use Rattle.glue_shared.proofs.Texts.{any_alike}
-use Rattle.glue_shared.specs.contracts.import.JsImportNameOrd.TheImpl.Laws as by_fields
 use Rattle.glue_shared.specs.declared.import.JsImportName.{JsImportName}
 use Rattle.glue_shared.specs.declared.settings.Settings.{Settings}
 use Rattle.glue_faults.proofs.Clashes.{flip}
 use Rattle.glue_faults.specs.First.{first_after}
-use Rattle.glue_published.specs.Reexports.{Reexport, import_order, is_same_import, share_members, is_bad_import, is_bad_reexport, holds_import, AreSeen, meets_import, with_import, is_below}
+use Rattle.glue_published.specs.Reexports.{Reexport, import_order, is_same, share_members, is_bad_import, is_bad_reexport, holds_import, AreSeen, meets_import, with_import, is_below}
 use Rattle.glue_published.specs.Sets.{name_order, holds}
+use Rattle.glue_published.proofs.ImportOrder.{import_order_total}
 use Rattle.glue_published.proofs.Known.{is_name_added}
 use Rattle.glue_published.proofs.Lists.{any_both, any_where, any_behind, some_or}
 
-import_total : IsTotalOrder import_order
-import_total = by_fields.total-law
-
 is_import_added : (test : Bool) (set : List (JsImportName × Bool)) (name key : JsImportName)
-    → holds_import (with_import test set key) name ≡ ((test && is_same_import name key) || holds_import set name)
+    → holds_import (with_import test set key) name ≡ ((test && is_same name key) || holds_import set name)
 is_import_added true set name key =
-    ap is_some (look_up_inserted import_order import_total set key true name) ∙ some_or (is_same_import name key) true (look_up import_order set name)
+    ap is_some (look_up_inserted import_order import_order_total set key true name) ∙ some_or (is_same name key) true (look_up import_order set name)
 is_import_added false set name key = refl
 
 -- the first of some, and one more
@@ -46,10 +42,10 @@ module _ (seen_set with_set : List (JsImportName × Bool)) (members : List ℕ �
   pub found_shared : (r : Reexport) → meets_import seen_set with_set (members r.0) r.1.name ≡ list_any (λ earlier. share_members members earlier r) before
   found_shared r =
       ap (λ b. b || (members r.0 && holds_import seen_set r.1.name)) (seen.with_members r.1.name)
-      ∙ ap (λ b. list_any (λ e. members e.0 && is_same_import r.1.name e.1.name) before || (members r.0 && b)) (seen.seen r.1.name)
-      ∙ ap (λ b. list_any (λ e. members e.0 && is_same_import r.1.name e.1.name) before || b) (any_where (members r.0) (λ e. is_same_import r.1.name e.1.name) before)
-      ∙ any_both (λ e. members e.0 && is_same_import r.1.name e.1.name) (λ e. members r.0 && is_same_import r.1.name e.1.name) before
-      ∙ any_alike _ (λ e. share_members members e r) before (λ e. split (is_same_import r.1.name e.1.name) (members e.0) (members r.0))
+      ∙ ap (λ b. list_any (λ e. members e.0 && is_same r.1.name e.1.name) before || (members r.0 && b)) (seen.seen r.1.name)
+      ∙ ap (λ b. list_any (λ e. members e.0 && is_same r.1.name e.1.name) before || b) (any_where (members r.0) (λ e. is_same r.1.name e.1.name) before)
+      ∙ any_both (λ e. members e.0 && is_same r.1.name e.1.name) (λ e. members r.0 && is_same r.1.name e.1.name) before
+      ∙ any_alike _ (λ e. share_members members e r) before (λ e. split (is_same r.1.name e.1.name) (members e.0) (members r.0))
 
   -- a re-export that is bad by itself, or meets an import that was seen, is bad behind them
   pub bad_behind : (settings : Settings) (r : Reexport) (bad has : Bool) → bad ≡ (is_bad_import settings r.1 || meets_import seen_set with_set has r.1.name)
@@ -64,12 +60,12 @@ module _ (seen_set with_set : List (JsImportName × Bool)) (members : List ℕ �
   seen_more r = record {
     seen = λ name.
         is_import_added true seen_set name r.1.name
-        ∙ ap (λ b. is_same_import name r.1.name || b) (seen.seen name)
-        ∙ sym (any_behind (λ e. is_same_import name e.1.name) before r);
+        ∙ ap (λ b. is_same name r.1.name || b) (seen.seen name)
+        ∙ sym (any_behind (λ e. is_same name e.1.name) before r);
     with_members = λ name.
         is_import_added (members r.0) with_set name r.1.name
-        ∙ ap (λ b. (members r.0 && is_same_import name r.1.name) || b) (seen.with_members name)
-        ∙ sym (any_behind (λ e. members e.0 && is_same_import name e.1.name) before r);
+        ∙ ap (λ b. (members r.0 && is_same name r.1.name) || b) (seen.with_members name)
+        ∙ sym (any_behind (λ e. members e.0 && is_same name e.1.name) before r);
   }
 
 -- ---- names with members
@@ -102,5 +98,5 @@ bad_alike settings members other same before [] = refl
 bad_alike settings members other same before (r ∷ reexports) =
     ap (λ b. cond (is_bad_import settings r.1 || b) (Some r) (first_after (is_bad_reexport settings members) (before ++ r ∷ []) reexports))
     (any_alike (λ e. share_members members e r) (λ e. share_members other e r) before (λ e.
-    ap (λ b. is_same_import r.1.name e.1.name && (b || members r.0)) (same e.0) ∙ ap (λ b. is_same_import r.1.name e.1.name && (other e.0 || b)) (same r.0)))
+    ap (λ b. is_same r.1.name e.1.name && (b || members r.0)) (same e.0) ∙ ap (λ b. is_same r.1.name e.1.name && (other e.0 || b)) (same r.0)))
     ∙ ap (λ o. cond (is_bad_reexport settings other before r) (Some r) o) (bad_alike settings members other same (before ++ r ∷ []) reexports)

@@ -1,5 +1,5 @@
 -- Names under which nothing can be published, and names that an enum's variant can't have.
-use Rattle.std.specs.Prelude.{ℕ, Bool, not, ◌||◌, List, [], ◌∷◌, ◌++◌, codes, Option, option_map, find}
+use Rattle.std.specs.Prelude.{ℕ, Bool, not, ◌||◌, List, [], ◌∷◌, ◌++◌, codes, Option, None, option_map, find, if◌then◌else◌}
 use Rattle.std.specs.Option.{option_or}
 use Rattle.std.specs.Str.{bytes_eq}
 use Rattle.glue_words.specs.Ident.{is_ident}
@@ -9,6 +9,7 @@ use Rattle.glue_shared.specs.declared.aux.AuxStruct.{AuxStruct}
 use Rattle.glue_shared.specs.declared.aux.AuxEnum.{AuxEnum}
 use Rattle.glue_shared.specs.declared.aux.WasmBindgenAux.{WasmBindgenAux}
 use Rattle.glue_faults.specs.First.{first_of}
+use Rattle.glue_published.specs.Things.{stands_alone}
 
 -- `__proto__`, which no object has as a key of its own
 abbrev pub is_proto_name : List ℕ → Bool
@@ -18,9 +19,9 @@ is_proto_name name = bytes_eq name (codes "__proto__")
 abbrev pub bad_path : Path → List ℕ → Option (List ℕ)
 bad_path namespace name = find is_proto_name (namespace ++ name ∷ [])
 
--- of an export, whatever it is
+-- of an export that stands by itself: a member of a class has no path
 abbrev pub bad_export : AuxExport → Option (List ℕ)
-bad_export e = bad_path e.namespace e.name
+bad_export e = if stands_alone e.kind then bad_path e.namespace e.name else None
 
 abbrev pub bad_class : AuxStruct → Option (List ℕ)
 bad_class c = bad_path c.namespace c.name

@@ -26,16 +26,16 @@ abbrev pub Reexport : Type 0
 Reexport = List ℕ × JsImport × Bool
 
 -- no line of the glue file binds the name: a global, or where imports are left out a name from a module
-abbrev pub is_unbound : (omitted : Bool) → JsImportName → Bool
-is_unbound omitted (Global name) = true
-is_unbound omitted (Module from name) = omitted
-is_unbound omitted (LocalModule from name) = omitted
-is_unbound omitted (InlineJs from index name) = omitted
-is_unbound omitted (VendorPrefixed name prefixes) = false
+abbrev pub is_outside : (omitted : Bool) → JsImportName → Bool
+is_outside omitted (Global name) = true
+is_outside omitted (Module from name) = omitted
+is_outside omitted (LocalModule from name) = omitted
+is_outside omitted (InlineJs from index name) = omitted
+is_outside omitted (VendorPrefixed name prefixes) = false
 
 -- an import that nothing can re-export: it has fields, or on an ES module target nothing binds it
 abbrev pub is_bad_import : Settings → JsImport → Bool
-is_bad_import settings import = not (is_none import.fields) || (is_es_module settings.target && is_unbound settings.omit_imports import.name)
+is_bad_import settings import = not (is_none import.fields) || (is_es_module settings.target && is_outside settings.omit_imports import.name)
 
 -- ---- re-exports of one import
 
@@ -44,8 +44,8 @@ abbrev pub import_order : JsImportName → JsImportName → Ordering
 import_order = by_fields.ghosts.cmp
 
 -- the same variant with the same parts
-abbrev pub is_same_import : JsImportName → JsImportName → Bool
-is_same_import a b = is_eq (import_order a b)
+abbrev pub is_same : JsImportName → JsImportName → Bool
+is_same a b = is_eq (import_order a b)
 
 -- the path begins with the name and has more segments
 abbrev pub is_below : List ℕ → Path → Bool
@@ -59,7 +59,7 @@ has_members things name = list_any (λ t. is_below name t.path) things
 -- A later re-export is of the import of an earlier one, and something is published below the name of one of them, for which
 -- `members` is the test. What stands before the first bad re-export has no fields, so that the name alone tells imports apart.
 abbrev pub share_members : (members : List ℕ → Bool) → Reexport → Reexport → Bool
-share_members members earlier later = is_same_import later.1.name earlier.1.name && (members earlier.0 || members later.0)
+share_members members earlier later = is_same later.1.name earlier.1.name && (members earlier.0 || members later.0)
 
 -- a re-export that can't stand behind these
 abbrev pub is_bad_reexport : Settings → (members : List ℕ → Bool) → List Reexport → Reexport → Bool
@@ -79,8 +79,8 @@ holds_import set name = is_some (look_up import_order set name)
 
 -- the imports of re-exports, and of those below which something is published
 pub record AreSeen (seen_set with_members_set : List (JsImportName × Bool)) (members : List ℕ → Bool) (before : List Reexport) : Type 0 where
-  pub seen : (name : JsImportName) → holds_import seen_set name ≡ list_any (λ r. is_same_import name r.1.name) before
-  pub with_members : (name : JsImportName) → holds_import with_members_set name ≡ list_any (λ r. members r.0 && is_same_import name r.1.name) before
+  pub seen : (name : JsImportName) → holds_import seen_set name ≡ list_any (λ r. is_same name r.1.name) before
+  pub with_members : (name : JsImportName) → holds_import with_members_set name ≡ list_any (λ r. members r.0 && is_same name r.1.name) before
 
 -- a re-export of an import that was seen, with members or that has members itself
 abbrev pub meets_import : (seen_set with_members_set : List (JsImportName × Bool)) → (has_members : Bool) → JsImportName → Bool

@@ -6,10 +6,10 @@ use std::alloc::{AllocError, Global};
 use values::Duplicate;
 
 /// A copy of the name that an import begins with. Want of memory is the only error.
-pub(crate) fn copied_name(alloc: Global, name: &JsImportName) -> Result<JsImportName, AllocError>
-    ensures equal { IfOk result (λ copy. copy ≡ name.now) }
+pub fn copied_import(alloc: Global, import: &JsImportName) -> Result<JsImportName, AllocError>
+    ensures equal { IfOk result (λ copy. copy ≡ import.now) }
 {
-    match name {
+    match import {
         JsImportName::Global { name } => Ok(JsImportName::Global {
             name: name.copy(alloc)?,
         }),

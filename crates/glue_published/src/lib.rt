@@ -30,7 +30,8 @@ mod things;
 
 pub use clash::thing_clash;
 pub use fixed::fixed_thing;
+pub use imports::copied_import;
 pub use named::{bad_declared_name, bad_export_name, is_proto_name};
-pub use reexports::bad_reexport;
+pub use reexports::{bad_reexport, is_outside};
 pub use roots::root_names;
-pub use things::{PublishedThing, published_things};
+pub use things::{PublishedThing, published_things, stands_alone};

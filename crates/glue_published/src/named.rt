@@ -4,6 +4,7 @@ ghost use Rattle.std.specs.Option.{option_copied};
 ghost use Rattle.glue_faults.specs.First as first;
 ghost use Rattle.glue_published.specs.Named as spec;
 
+use crate::things::stands_alone;
 use glue_shared::{AuxEnum, AuxExport, AuxStruct, WasmBindgenAux};
 use glue_words::is_valid_ident;
 use values::Text;
@@ -38,13 +39,23 @@ fn bad_path<'a>(namespace: &'a [Text], name: &'a Text) -> Option<&'a Text>
     }
 }
 
-/// The first name of an export that can't stand where it is published: a segment of its path that is `__proto__`, of a member of a class
-/// too. There is no error.
+// The first such segment of an export's path. A member of a class has none.
+fn bad_export(export: &AuxExport) -> Option<&Text>
+    ensures bad { option_copied result ≡ spec.bad_export export.now }
+{
+    if stands_alone(export.kind) {
+        bad_path(export.namespace.as_slice(), &export.name)
+    } else {
+        None
+    }
+}
+
+/// The first name of an export that can't stand where it is published: a segment of its path that is `__proto__`. There is no error.
 pub fn bad_export_name(exports: &[AuxExport]) -> Option<&Text>
     ensures first { option_copied result ≡ spec.bad_export_name exports.now }
 {
     for export in exports {
-        let name = bad_path(export.namespace.as_slice(), &export.name);
+        let name = bad_export(export);
         if name.is_some() {
             return name;
         }

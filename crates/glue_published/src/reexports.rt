@@ -6,7 +6,7 @@ ghost use Rattle.glue_targets.specs.RoleWords as role_words;
 ghost use Rattle.glue_published.specs.Reexports as spec;
 ghost use Rattle.glue_published.specs.Sets.{AreNames, holds};
 
-use crate::imports::copied_name;
+use crate::imports::copied_import;
 use crate::things::{PublishedThing, published_things};
 use glue_faults::Fault;
 use glue_shared::{JsImport, JsImportName, Settings, Target, WasmBindgenAux};
@@ -26,9 +26,10 @@ fn is_es_module(target: &Target) -> bool
     }
 }
 
-// Whether no line of the glue file binds the name.
-fn is_unbound(omitted: bool, name: &JsImportName) -> bool
-    ensures test { result ≡ spec.is_unbound omitted name.now }
+/// Whether what an import begins with is a name of the outside, so that no line of the glue file binds it: a global, and where imports
+/// are left out a name from a module.
+pub fn is_outside(omitted: bool, name: &JsImportName) -> bool
+    ensures test { result ≡ spec.is_outside omitted name.now }
 {
     match name {
         JsImportName::Global { .. } => true,
@@ -44,7 +45,7 @@ fn is_bad_import(settings: &Settings, import: &JsImport) -> bool
     ensures test { result ≡ spec.is_bad_import settings.now import.now }
 {
     !import.fields.is_empty()
-        || is_es_module(&settings.target) && is_unbound(settings.omit_imports, &import.name)
+        || is_es_module(&settings.target) && is_outside(settings.omit_imports, &import.name)
 }
 
 // Adds the first segment of a path that has more.
@@ -98,7 +99,7 @@ fn add_import(
     ensures added { OnOk result (set.new ≡ spec.with_import test set.old name.now) }
 {
     if test {
-        set.insert(copied_name(alloc, name)?, true)?;
+        set.insert(copied_import(alloc, name)?, true)?;
     }
     Ok(())
 }

@@ -56,8 +56,8 @@ fn top_thing(
     thing_at(alloc, &none, name, is_reexport, is_private)
 }
 
-// Whether an export of this kind is a function that stands by itself.
-fn stands_alone(kind: AuxExportKind) -> bool
+/// Whether an export of this kind is a function that stands by itself.
+pub fn stands_alone(kind: AuxExportKind) -> bool
     ensures test { result ≡ spec.stands_alone kind }
 {
     match kind {

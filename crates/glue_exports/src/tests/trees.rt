@@ -1,6 +1,7 @@
 //! Which definitions can stand in one tree, with paths written by hand.
 use crate::definition::ExportDefinition;
-use crate::tree::{ExportFault, ExportTree, MAX_SEGMENTS, define_export};
+use crate::paths::MAX_SEGMENTS;
+use crate::tree::{ExportFault, ExportTree, define_export};
 use glue_words::{Item, Role, Thing};
 use std::alloc::{AllocError, Global};
 use values::{Seq, Text};

@@ -4,6 +4,7 @@ use super::described::Part::{Class, Enum, Function, Method, PrivateClass, Reexpo
 use super::described::{Part, described, named, settings, texts};
 use crate::clash::{first_collision, thing_clash};
 use crate::things::PublishedThing;
+use glue_exports::MAX_SEGMENTS;
 use glue_shared::Target;
 use std::alloc::{AllocError, Global};
 use values::{Seq, Text};
@@ -77,6 +78,27 @@ fn the_first_thing_that_clashes_is_named(rt: HostRuntime) -> Result<(), AllocErr
         let fault = thing_clash(alloc, &settings, &aux)?;
         assert!(&rt; named(&fault) == want, "{fault:?} in place of {want:?}");
     }
+    Ok(())
+}
+
+#[test]
+fn a_path_of_more_than_a_thousand_segments_is_answered_by_want_of_memory(
+    rt: HostRuntime,
+) -> Result<(), AllocError> {
+    let alloc = rt.alloc();
+    let mut path = Seq::new(alloc);
+    for _ in 0..MAX_SEGMENTS + 1 {
+        path.push(Text::from_str(alloc, "a")?)?;
+    }
+    let mut things = Seq::new(alloc);
+    things.push(PublishedThing {
+        path,
+        qualified: Text::from_str(alloc, "a")?,
+        is_reexport: false,
+        is_private: false,
+    })?;
+    let found = first_collision(alloc, things.as_slice());
+    assert!(&rt; found.is_err(), "a thousand segments and one more");
     Ok(())
 }
 

@@ -20,6 +20,7 @@ enum On {
     NodeModule,
     NodeScript,
     Deno,
+    Module,
     Emscripten,
 }
 
@@ -35,13 +36,14 @@ fn settings_on(alloc: Global, on: On) -> Result<Settings, AllocError> {
         On::NodeModule => Target::Node { module: true },
         On::NodeScript => Target::Node { module: false },
         On::Deno => Target::Deno,
+        On::Module => Target::Module,
         On::Emscripten => Target::Emscripten,
     };
     settings(alloc, target, matches!(on, On::Bare))
 }
 
 // A part of a description, and whether it has a fixed public name. The glue file defines an import `__wbg_x`.
-const FIXED: [(On, Part, bool); 14] = [
+const FIXED: [(On, Part, bool); 20] = [
     (On::Web, Function((&[], "initSync")), true),
     (On::Deno, Function((&[], "initSync")), false),
     (On::NoModules, Function((&[], "length")), true),
@@ -51,6 +53,13 @@ const FIXED: [(On, Part, bool); 14] = [
     (On::Bundler, Function((&[], "__wbg_x")), true),
     (On::Bundler, Function((&[], "__wbg_y")), false),
     (On::Web, Function((&[], "__wbg_x")), false),
+    // on these targets there is none
+    (On::NodeScript, Function((&[], "default")), false),
+    (On::NodeModule, Function((&[], "initSync")), false),
+    (On::Module, Function((&[], "initSync")), false),
+    (On::Module, Function((&[], "default")), false),
+    (On::Emscripten, Function((&[], "initSync")), false),
+    (On::Emscripten, Function((&[], "__wbg_set_wasm")), false),
     // the first segment counts
     (On::Web, Function((&["default"], "f")), true),
     (On::Web, Function((&["a"], "default")), false),
@@ -86,7 +95,7 @@ const EXPORTS: [(&[Part], Option<&str>); 6] = [
         Some("__proto__"),
     ),
     (&[Function((&[], "__proto__"))], Some("__proto__")),
-    (&[Method((&[], "__proto__"))], Some("__proto__")),
+    (&[Method((&[], "__proto__"))], None),
     // what else is published isn't looked at
     (&[Class((&[], "__proto__"))], None),
     (&[Enum((&["__proto__"], "E"), &["1"])], None),
@@ -145,7 +154,7 @@ fn names_that_no_object_has_are_told(rt: HostRuntime) -> Result<(), AllocError> 
 }
 
 // A description, and the first re-export that can't be.
-const REEXPORTS: [(On, &[Part], Option<&str>); 21] = [
+const REEXPORTS: [(On, &[Part], Option<&str>); 22] = [
     (On::Web, &[Field("r", Module("x"))], Some("r")),
     (On::NodeScript, &[Field("r", Host("x"))], Some("r")),
     // a global has no line that an ES module could export
@@ -153,6 +162,7 @@ const REEXPORTS: [(On, &[Part], Option<&str>); 21] = [
     (On::Web, &[Reexport("r", Host("x"))], Some("r")),
     (On::NodeModule, &[Reexport("r", Host("x"))], Some("r")),
     (On::Deno, &[Reexport("r", Host("x"))], Some("r")),
+    (On::Module, &[Reexport("r", Host("x"))], Some("r")),
     (On::NodeScript, &[Reexport("r", Host("x"))], None),
     (On::NoModules, &[Reexport("r", Host("x"))], None),
     (On::Emscripten, &[Reexport("r", Host("x"))], None),
