@@ -16,6 +16,7 @@ use Rattle.glue_shared.specs.declared.settings.Target.{Target}
 use Rattle.glue_shared.specs.declared.settings.Target.TheVariants as targets
 use Rattle.glue_shared.specs.Names.{is_one_of, own_imports}
 use Rattle.glue_adapters.specs.Resolving.{entry_at, is_some_item}
+use Rattle.glue_published.specs.Things.{stands_alone}
 use Rattle.glue_faults.proofs.First.{where_true-none, list_any-none, neither}
 use Rattle.glue_adapters.specs.Adapters.{code_of}
 use Rattle.glue_check.specs.declared.files.FileFlags.{FileFlags}
@@ -86,7 +87,22 @@ settings_built f s l h =
     let published = neither s.export_wasm s.reset_state all.1 in
     record { no_tests = texts.0; no_types = texts.1; no_module = published.0; no_reset = published.1 }
 
+-- ---- classes
+
+-- no class is described, no member, and no import of an instance
+no_classes : (f : FileFlags) (s : Settings) (l : Lowered) → unbuilt f s l ≡ None
+    → ((is_some_item l.aux.structs || list_any spec.is_member l.aux.exports) ≡ false) × (list_any (λ (e : ℕ × AuxImport). spec.is_of_class e.1) l.aux.imports ≡ false)
+unfolding answer
+no_classes f s l h =
+    let described = is_some_item l.aux.structs || list_any spec.is_member l.aux.exports in
+    let imported = list_any (λ (e : ℕ × AuxImport). spec.is_of_class e.1) l.aux.imports in
+    neither described imported (where_true-none (described || imported) _ (none_unbuilt conditions.UnbuiltClasses f s l (search rules) h))
+
 -- ---- imports
+
+pub first_true : (a b : Bool) → (a || b) ≡ true → b ≡ false → a ≡ true
+first_true true b h k = refl
+first_true false b h k = sym k ∙ h
 
 -- the imports of the module and of the description, and the setting on them
 pub record AreBuiltImports (s : Settings) (l : Lowered) : Type 0 where
@@ -104,7 +120,9 @@ imports_built f s l h =
       kinds = λ place i.
           not_false (spec.is_defined_kind l.«module» (entry_at l.«module».imports place)) (list_any-none (spec.is_other_own l.«module») own place both.0 i);
       expressions = λ e i.
-          not_false (has_expression s e.1 || is_told s e) (list_any-none (is_unbuilt_entry s) l.aux.imports e both.1 i);
+          first_true (has_expression s e.1 || is_told s e) (spec.is_of_class e.1)
+          (not_false ((has_expression s e.1 || is_told s e) || spec.is_of_class e.1) (list_any-none (is_unbuilt_entry s) l.aux.imports e both.1 i))
+          (list_any-none (λ (e : ℕ × AuxImport). spec.is_of_class e.1) l.aux.imports e (no_classes f s l h).1 i);
     }
 
 -- ---- exports
@@ -114,7 +132,7 @@ pub record IsBuiltExport (e : AuxExport) : Type 0 where
   pub function : e.kind ≡ export_kinds.Function
 
 -- neither a member nor a function that takes `this`
-function_is : (k : AuxExportKind) → not (spec.is_function_kind k) ≡ false → spec.takes_this k ≡ false → k ≡ export_kinds.Function
+function_is : (k : AuxExportKind) → not (stands_alone k) ≡ false → spec.takes_this k ≡ false → k ≡ export_kinds.Function
 function_is export_kinds.Function h t = refl
 function_is export_kinds.FunctionThis h t = absurd (true≢false t)
 function_is export_kinds.Constructor h t = absurd (true≢false h)
@@ -124,7 +142,7 @@ function_is (export_kinds.Method m) h t = absurd (true≢false h)
 pub exports_built : (f : FileFlags) (s : Settings) (l : Lowered) → unbuilt f s l ≡ None → (e : AuxExport) → IsIn e l.aux.exports → IsBuiltExport e
 unfolding answer
 exports_built f s l h e i =
-    let classes = neither (is_some_item l.aux.structs) (list_any spec.is_member l.aux.exports) (where_true-none (is_some_item l.aux.structs || list_any spec.is_member l.aux.exports) _ (none_unbuilt conditions.UnbuiltClasses f s l (search rules) h)) in
+    let classes = neither (is_some_item l.aux.structs) (list_any spec.is_member l.aux.exports) (no_classes f s l h).0 in
     let alone = list_any-none spec.is_member l.aux.exports e classes.1 i in
     let codes = list_any is_unbuilt_adapter l.wit.adapters || is_some_item l.wit.exports in
     let kept = is_some_item l.aux.imports_with_catch || list_any spec.is_special_export l.aux.exports in
@@ -132,23 +150,20 @@ exports_built f s l h e i =
     let special = list_any-none spec.is_special_export l.aux.exports e (neither (is_some_item l.aux.imports_with_catch) (list_any spec.is_special_export l.aux.exports) passed.1).1 i in
     let this = (neither (spec.takes_this e.kind) (e.variadic || e.jsdoc) special).0 in record { function = function_is e.kind alone this }
 
--- no class is described, no re-export, no closure and no caught import
+-- no class is described, no closure and no caught import
 pub record AreAbsent (l : Lowered) : Type 0 where
   pub structs : l.aux.structs ≡ []
-  pub reexports : l.aux.reexports ≡ []
   pub callbacks : l.wit.exports ≡ []
   pub caught : l.aux.imports_with_catch ≡ []
 
 pub absent_built : (f : FileFlags) (s : Settings) (l : Lowered) → unbuilt f s l ≡ None → AreAbsent l
 unfolding answer
 absent_built f s l h =
-    let listed = where_true-none (is_some_item l.aux.reexports) _ (none_unbuilt conditions.UnbuiltExports f s l (search rules) h) in
-    let classes = neither (is_some_item l.aux.structs) (list_any spec.is_member l.aux.exports) (where_true-none (is_some_item l.aux.structs || list_any spec.is_member l.aux.exports) _ (none_unbuilt conditions.UnbuiltClasses f s l (search rules) h)) in
+    let classes = neither (is_some_item l.aux.structs) (list_any spec.is_member l.aux.exports) (no_classes f s l h).0 in
     let codes = list_any is_unbuilt_adapter l.wit.adapters || is_some_item l.wit.exports in
     let kept = is_some_item l.aux.imports_with_catch || list_any spec.is_special_export l.aux.exports in
     let passed = neither codes kept (where_true-none (codes || kept) _ (none_unbuilt conditions.UnbuiltInstructions f s l (search rules) h)) in record {
       structs = nothing l.aux.structs classes.0;
-      reexports = nothing l.aux.reexports listed;
       callbacks = nothing l.wit.exports (neither (list_any is_unbuilt_adapter l.wit.adapters) (is_some_item l.wit.exports) passed.0).1;
       caught = nothing l.aux.imports_with_catch (neither (is_some_item l.aux.imports_with_catch) (list_any spec.is_special_export l.aux.exports) passed.1).0;
     }

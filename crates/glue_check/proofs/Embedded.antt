@@ -22,7 +22,7 @@ use Rattle.glue_check.specs.Missing.{entry_lacks, excludes, has_sole_memory, is_
 use Rattle.glue_check.specs.TargetValues.{is_absent}
 use Rattle.glue_check.specs.Unbuilt.{is_told}
 use Rattle.glue_check.specs.Verdict.{verdict}
-use Rattle.glue_check.proofs.BuiltForm.{AreBuiltImports}
+use Rattle.glue_check.proofs.BuiltForm.{AreBuiltImports, first_true}
 use Rattle.glue_check.proofs.Conditions.{none_of}
 
 -- no link is without content that linked modules aren't split off for
@@ -90,12 +90,8 @@ given_there s l h e i g = given_by s l e.1 (complete s l h e i) g
 untold : (s : Settings) (l : Lowered) → verdict s l ≡ None → (e : ℕ × AuxImport) → IsIn e l.aux.imports → is_told s e ≡ false
 untold s l h e i = rw (embedded s l h e i, present s l h e i, unexcluded s l e.1 (complete s l h e i)) refl
 
-last_true : (a b : Bool) → (a || b) ≡ true → b ≡ false → a ≡ true
-last_true true b h k = refl
-last_true false b h k = sym k ∙ h
-
 -- so each described import has an expression
 pub expression_there : (s : Settings) (l : Lowered) → AreBuiltImports s l → verdict s l ≡ None → (e : ℕ × AuxImport) → IsIn e l.aux.imports
     → has_expression s e.1 ≡ true
 expression_there s l built h e i =
-    last_true (has_expression s e.1) (is_told s e) (built.expressions e i) (untold s l h e i)
+    first_true (has_expression s e.1) (is_told s e) (built.expressions e i) (untold s l h e i)

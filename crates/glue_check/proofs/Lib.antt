@@ -6,7 +6,6 @@ pub mod EachOnce
 pub mod FaultKinds
 pub mod Globals
 pub mod Embedded
-pub mod ImportOrder
 mod SeenNames
 mod GivenNames
 pub mod OwnNames

@@ -7,8 +7,9 @@ use Rattle.std.proofs.lemmas.List.Folds.{list_any-append}
 use Rattle.values.specs.Map.{look_up}
 use Rattle.values.proofs.Maps.{look_up_inserted}
 use Rattle.glue_shared.specs.declared.import.JsImportName.{JsImportName}
-use Rattle.glue_check.specs.Once.{import_order, is_same, has_name, each_once, each_new}
-use Rattle.glue_check.proofs.ImportOrder.{import_order_total}
+use Rattle.glue_published.specs.Reexports.{import_order, is_same}
+use Rattle.glue_check.specs.Once.{has_name, each_once, each_new}
+use Rattle.glue_published.proofs.ImportOrder.{import_order_total}
 
 -- a name that came before isn't added, whatever is left out
 left : (p : JsImportName → Bool) (x : JsImportName) (same has : Bool) → p x ≡ not same → filter p (cond has [] (x ∷ [])) ≡ cond (same || has) [] (x ∷ [])

@@ -13,7 +13,8 @@ use Rattle.glue_check.specs.Once.{each_new, each_once}
 abbrev pub values_name : AuxStringEnum → List ℕ
 values_name e = codes "__wbindgen_enum_" ++ e.name
 
--- The given names of a description: those from modules that imports begin with, then those of string enums, then those from modules of
+-- The given names of a description that a condition looks at; none looks yet at the names of exports that closures call, at `inspect` of
+-- Node, and at those of a bundler's own imports, which no description that is built has. They are those from modules that imports begin with, then those of string enums, then those from modules of
 -- re-exports. Each name from a module counts once, where it first comes.
 abbrev pub given_names : (omitted : Bool) → WasmBindgenAux → List (List ℕ)
 given_names omitted aux =

@@ -1,18 +1,8 @@
 -- Names that imports begin with, each once.
 use Rattle.std.specs.Prelude.{Bool, not, List, [], ◌∷◌, filter}
 use Rattle.std.specs.List.{list_any}
-use Rattle.std.specs.Ordering.{is_eq}
-use Rattle.std.specs.declared.cmp.Ordering.{Ordering}
-use Rattle.glue_shared.specs.contracts.import.JsImportNameOrd.TheImpl as by_fields
 use Rattle.glue_shared.specs.declared.import.JsImportName.{JsImportName}
-
--- names that imports begin with by their variants, and then by their fields in order
-abbrev pub import_order : JsImportName → JsImportName → Ordering
-import_order = by_fields.ghosts.cmp
-
--- the same variant with the same fields
-abbrev pub is_same : JsImportName → JsImportName → Bool
-is_same a b = is_eq (import_order a b)
+use Rattle.glue_published.specs.Reexports.{is_same}
 
 -- each of these names once, where it comes first
 abbrev pub each_once : List JsImportName → List JsImportName

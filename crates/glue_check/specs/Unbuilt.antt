@@ -16,6 +16,7 @@ use Rattle.glue_shared.specs.declared.aux.AuxExport.{AuxExport}
 use Rattle.glue_shared.specs.declared.aux.AuxExportKind.{AuxExportKind}
 use Rattle.glue_shared.specs.declared.aux.AuxExportKind.TheVariants as export_kinds
 use Rattle.glue_shared.specs.declared.import.AuxImport.{AuxImport}
+use Rattle.glue_shared.specs.declared.import.AuxImport.TheVariants as what
 use Rattle.glue_shared.specs.declared.description.Lowered.{Lowered}
 use Rattle.glue_shared.specs.declared.settings.Settings.{Settings}
 use Rattle.glue_shared.specs.declared.settings.Target.{Target}
@@ -23,6 +24,7 @@ use Rattle.glue_shared.specs.declared.settings.Target.TheVariants as targets
 use Rattle.glue_shared.specs.Names.{own_imports}
 use Rattle.glue_imports.specs.Expressions.{has_expression}
 use Rattle.glue_adapters.specs.Resolving.{entry_at, is_some_item}
+use Rattle.glue_published.specs.Things.{stands_alone}
 use Rattle.glue_faults.specs.declared.fault.Fault.{Fault}
 use Rattle.glue_faults.specs.declared.fault.Fault.TheVariants as faults
 use Rattle.glue_faults.specs.First.{where_true}
@@ -82,27 +84,21 @@ abbrev pub is_told : Settings → ℕ × AuxImport → Bool
 is_told settings entry =
     is_some (unembedded settings.split_linked_modules entry) || (is_absent settings.target entry || excludes settings.externref entry.1)
 
+-- an import that wraps or unwraps an instance of a class of the description
+abbrev pub is_of_class : AuxImport → Bool
+is_of_class (what.WrapInExportedClass class) = true
+is_of_class (what.UnwrapExportedClass class) = true
+is_of_class other = false
+
 -- any other import without an expression
 unfoldable pub is_unbuilt_entry : Settings → ℕ × AuxImport → Bool
-is_unbuilt_entry settings entry = not (has_expression settings entry.1 || is_told settings entry)
+is_unbuilt_entry settings entry = not ((has_expression settings entry.1 || is_told settings entry) || is_of_class entry.1)
 
 -- imports that the glue file defines and that bring in another thing, or imports of another form
 abbrev pub unbuilt_imports : Settings → Lowered → Option Fault
 unbuilt_imports settings l = where_true (
     list_any (is_other_own l.«module») (own_imports settings l.«module» l.wit l.aux) || list_any (is_unbuilt_entry settings) l.aux.imports
     ) (faults.NotBuilt (codes "imports"))
-
--- ---- exports
-
-abbrev pub is_function_kind : AuxExportKind → Bool
-is_function_kind export_kinds.Function = true
-is_function_kind export_kinds.FunctionThis = true
-is_function_kind export_kinds.Constructor = false
-is_function_kind (export_kinds.Method m) = false
-
--- re-exports
-abbrev pub unbuilt_exports : Lowered → Option Fault
-unbuilt_exports l = where_true (is_some_item l.aux.reexports) (faults.NotBuilt (codes "exports"))
 
 -- ---- instructions
 
@@ -145,11 +141,13 @@ unbuilt_instructions l = where_true (
 -- ---- classes
 
 abbrev pub is_member : AuxExport → Bool
-is_member e = not (is_function_kind e.kind)
+is_member e = not (stands_alone e.kind)
 
--- classes and their members
+-- classes, their members, and imports of their instances
 abbrev pub unbuilt_classes : Lowered → Option Fault
-unbuilt_classes l = where_true (is_some_item l.aux.structs || list_any is_member l.aux.exports) (faults.NotBuilt (codes "classes"))
+unbuilt_classes l = where_true (
+    (is_some_item l.aux.structs || list_any is_member l.aux.exports) || list_any (λ e. is_of_class e.1) l.aux.imports
+    ) (faults.NotBuilt (codes "classes"))
 
 -- ---- settings
 

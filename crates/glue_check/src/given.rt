@@ -11,7 +11,7 @@ use std::alloc::{AllocError, Global};
 use values::{Duplicate, Seq, Text};
 
 /// The name of the values of a string enum. Want of memory is the only error.
-pub(crate) fn values_name(alloc: Global, texts: &AuxStringEnum) -> Result<Text, AllocError>
+pub fn values_name(alloc: Global, texts: &AuxStringEnum) -> Result<Text, AllocError>
     ensures name { IfOk result (λ name. name ≡ spec.values_name texts.now) }
 {
     let mut name = Text::from_str(alloc, "__wbindgen_enum_")?;

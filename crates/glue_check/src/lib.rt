@@ -10,7 +10,7 @@
 //!
 //! The generator calls it before it makes anything, and makes files of a `Checked` alone. Each condition on names and on what is published
 //! is a call by itself too, from `bad_name` to `bad_reexport`, and `intrinsic_target`, since some can't be met where all is built. Of each
-//! condition, what it says of members of classes, names that a bundler gives, kinds of described imports, targets and other parts is
+//! condition, what it says of members of classes, names that closures, Node and a bundler give, kinds of described imports, targets and other parts is
 //! missing: no description that is built can meet it. `own_ids` gives the imports that the glue file defines; where all is built, each
 //! brings in a function or a memory (`memory_of`), and `proofs/OwnPairs.antt` says what it is defined by. Some names are given, and none is
 //! drawn for what has them (`specs/Given.antt`): those of string enums' values, and where imports are left out those from modules. Each
@@ -38,15 +38,16 @@ mod unbuilt;
 mod verdict;
 
 pub use files::FileFlags;
+pub use given::values_name;
 pub use glue_exports::qualified_name;
 pub use glue_faults::Fault;
 pub use glue_published::{bad_reexport, thing_clash};
 pub use modules::{glue_module_name, module_clash};
 pub use naming::{bad_name, global_twice, has_start, name_clash};
-pub use once::{copied_import, each_once};
+pub use once::{each_new, each_once};
 pub use own::{own_ids, own_places};
 pub use publishing::{fixed_export, qualified};
 pub use taken::taken_names;
 pub use target_values::intrinsic_target;
-pub use unbuilt::{is_function_kind, memory_of};
+pub use unbuilt::memory_of;
 pub use verdict::{Checked, check};

@@ -3,7 +3,7 @@ ghost use Rattle.std.specs.Prelude.{◌≡◌, ◌++◌, IfOk, OnOk};
 ghost use Rattle.glue_shared.specs.Names as names;
 ghost use Rattle.glue_check.specs.Omitted as spec;
 
-use crate::once::copied_import;
+use glue_published::copied_import;
 use glue_shared::{AdapterId, AuxImport, JsImport, JsImportName, js_import};
 use std::alloc::{AllocError, Global};
 use values::{Duplicate, Seq, Text};

@@ -2,43 +2,13 @@
 ghost use Rattle.std.specs.Prelude.{◌≡◌, ◌++◌, ◌∷◌, [], IfOk, OnOk, if◌then◌else◌, is_some};
 ghost use Rattle.std.specs.BTreeMap.{insert_entry};
 ghost use Rattle.values.specs.Map.{look_up};
+ghost use Rattle.glue_published.specs.Reexports.{import_order};
 ghost use Rattle.glue_check.specs.Once as spec;
 
+use glue_published::copied_import;
 use glue_shared::JsImportName;
 use std::alloc::{AllocError, Global};
-use values::{Duplicate, Map, Seq};
-
-/// A copy of the name that an import begins with. Want of memory is the only error.
-pub fn copied_import(alloc: Global, import: &JsImportName) -> Result<JsImportName, AllocError>
-    ensures equal { IfOk result (λ copy. copy ≡ import.now) }
-{
-    match import {
-        JsImportName::Global { name } => Ok(JsImportName::Global {
-            name: name.copy(alloc)?,
-        }),
-        JsImportName::Module { module, name } => Ok(JsImportName::Module {
-            module: module.copy(alloc)?,
-            name: name.copy(alloc)?,
-        }),
-        JsImportName::LocalModule { module, name } => Ok(JsImportName::LocalModule {
-            module: module.copy(alloc)?,
-            name: name.copy(alloc)?,
-        }),
-        JsImportName::InlineJs {
-            crate_name,
-            index,
-            name,
-        } => Ok(JsImportName::InlineJs {
-            crate_name: crate_name.copy(alloc)?,
-            index: *index,
-            name: name.copy(alloc)?,
-        }),
-        JsImportName::VendorPrefixed { name, prefixes } => Ok(JsImportName::VendorPrefixed {
-            name: name.copy(alloc)?,
-            prefixes: prefixes.copy(alloc)?,
-        }),
-    }
-}
+use values::{Map, Seq};
 
 // Adds a name, where it hasn't come yet.
 fn push_new(
@@ -47,8 +17,8 @@ fn push_new(
     name: &JsImportName,
     once: &mut Seq<JsImportName>,
 ) -> Result<(), AllocError>
-    ensures seen { OnOk result (seen.new ≡ insert_entry spec.import_order seen.old name.now tt) }
-    ensures pushed { OnOk result (once.new ≡ once.old ++ (if is_some (look_up spec.import_order seen.old name.now) then [] else name.now ∷ [])) }
+    ensures seen { OnOk result (seen.new ≡ insert_entry import_order seen.old name.now tt) }
+    ensures pushed { OnOk result (once.new ≡ once.old ++ (if is_some (look_up import_order seen.old name.now) then [] else name.now ∷ [])) }
 {
     if seen.insert(copied_import(alloc, name)?, ())?.is_none() {
         once.push(copied_import(alloc, name)?)?;
@@ -70,7 +40,7 @@ pub fn each_once(alloc: Global, list: &[JsImportName]) -> Result<Seq<JsImportNam
 
 // The set of these names.
 fn seen_names(alloc: Global, before: &[JsImportName]) -> Result<Map<JsImportName, ()>, AllocError>
-    ensures seen { IfOk result (λ seen. (name : JsImportName) → is_some (look_up spec.import_order seen name) ≡ spec.has_name name before.now) }
+    ensures seen { IfOk result (λ seen. (name : JsImportName) → is_some (look_up import_order seen name) ≡ spec.has_name name before.now) }
 {
     let mut seen = Map::new(alloc);
     for name in before {
@@ -80,7 +50,7 @@ fn seen_names(alloc: Global, before: &[JsImportName]) -> Result<Map<JsImportName
 }
 
 /// Each of these names that isn't among those before, once, where it comes first. Want of memory is the only error.
-pub(crate) fn each_new(
+pub fn each_new(
     alloc: Global,
     before: &[JsImportName],
     list: &[JsImportName],

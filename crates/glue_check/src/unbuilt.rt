@@ -15,6 +15,7 @@ use crate::own::{import_at, own_ids};
 use crate::target_values::is_absent;
 use glue_faults::{Fault, not_built};
 use glue_imports::has_expression;
+use glue_published::stands_alone;
 use glue_shared::{
     Adapter, AdapterId, AdapterKind, AdapterType, AuxExport, AuxExportKind, AuxImport, Instruction,
     Lowered, Settings, Target,
@@ -110,12 +111,22 @@ fn is_told(settings: &Settings, entry: &(AdapterId, AuxImport)) -> bool
         || excludes(settings.externref, &entry.1)
 }
 
-// Whether an import has no expression that is built, and no condition tells of it.
+// Whether an import wraps or unwraps an instance of a class of the description.
+fn is_of_class(import: &AuxImport) -> bool
+    ensures test { result ≡ spec.is_of_class import.now }
+{
+    matches!(
+        import,
+        AuxImport::WrapInExportedClass(_) | AuxImport::UnwrapExportedClass(_)
+    )
+}
+
+// Whether an import has no expression that is built, isn't one of classes, and no condition tells of it.
 #[tactic(auto, unfolding(crate::specs::Unbuilt::is_unbuilt_entry))]
 fn is_unbuilt_entry(settings: &Settings, entry: &(AdapterId, AuxImport)) -> bool
     ensures test { result ≡ spec.is_unbuilt_entry settings.now entry.now }
 {
-    !(has_expression(settings, &entry.1) || is_told(settings, entry))
+    !(has_expression(settings, &entry.1) || is_told(settings, entry) || is_of_class(&entry.1))
 }
 
 // Whether one of these imports brings in another thing.
@@ -152,23 +163,6 @@ pub(crate) fn unbuilt_imports(
     let others = has_other_own(alloc, settings, lowered)?;
     let asked = others || has_unbuilt_entry(settings, lowered.aux.imports.as_slice());
     not_built(alloc, asked, "imports")
-}
-
-/// Whether an export is a function that stands by itself.
-pub fn is_function_kind(kind: AuxExportKind) -> bool
-    ensures test { result ≡ spec.is_function_kind kind }
-{
-    match kind {
-        AuxExportKind::Function | AuxExportKind::FunctionThis => true,
-        AuxExportKind::Constructor | AuxExportKind::Method(_) => false,
-    }
-}
-
-/// That re-exports aren't built. Want of memory is the only error.
-pub(crate) fn unbuilt_exports(alloc: Global, lowered: &Lowered) -> Result<Option<Fault>, AllocError>
-    ensures fault { IfOk result (λ fault. fault ≡ spec.unbuilt_exports lowered.now) }
-{
-    not_built(alloc, !lowered.aux.reexports.is_empty(), "exports")
 }
 
 // Whether an instruction passes another value than a number, or keeps something for later.
@@ -267,14 +261,22 @@ pub(crate) fn unbuilt_instructions(
 fn has_member(exports: &[AuxExport]) -> bool
     ensures test { result ≡ list_any spec.is_member exports.now }
 {
-    exports.iter().any(|export| !is_function_kind(export.kind))
+    exports.iter().any(|export| !stands_alone(export.kind))
+}
+
+fn has_class_import(entries: &[(AdapterId, AuxImport)]) -> bool
+    ensures test { result ≡ list_any (λ e. spec.is_of_class e.1) entries.now }
+{
+    entries.iter().any(|entry| is_of_class(&entry.1))
 }
 
 /// That classes aren't built. Want of memory is the only error.
 pub(crate) fn unbuilt_classes(alloc: Global, lowered: &Lowered) -> Result<Option<Fault>, AllocError>
     ensures fault { IfOk result (λ fault. fault ≡ spec.unbuilt_classes lowered.now) }
 {
-    let asked = !lowered.aux.structs.is_empty() || has_member(lowered.aux.exports.as_slice());
+    let aux = &lowered.aux;
+    let described = !aux.structs.is_empty() || has_member(aux.exports.as_slice());
+    let asked = described || has_class_import(aux.imports.as_slice());
     not_built(alloc, asked, "classes")
 }
 

@@ -14,8 +14,8 @@ use crate::naming::{bad_name, global_twice, name_clash};
 use crate::publishing::fixed_export;
 use crate::target_values::intrinsic_target;
 use crate::unbuilt::{
-    unbuilt_classes, unbuilt_exports, unbuilt_files, unbuilt_imports, unbuilt_instructions,
-    unbuilt_lifecycle, unbuilt_settings, unbuilt_target,
+    unbuilt_classes, unbuilt_files, unbuilt_imports, unbuilt_instructions, unbuilt_lifecycle,
+    unbuilt_settings, unbuilt_target,
 };
 use glue_adapters::{bad_adapter, unbound_import, unsupported};
 use glue_faults::{Fault, where_true};
@@ -30,7 +30,6 @@ use wasm_core::{Memory, Module};
 enum Condition {
     UnbuiltTarget,
     UnbuiltImports,
-    UnbuiltExports,
     UnbuiltInstructions,
     UnbuiltClasses,
     UnbuiltSettings,
@@ -54,10 +53,9 @@ enum Condition {
 }
 
 /// What isn't built yet, in its order.
-const UNBUILT: [Condition; 8] = [
+const UNBUILT: [Condition; 7] = [
     Condition::UnbuiltTarget,
     Condition::UnbuiltImports,
-    Condition::UnbuiltExports,
     Condition::UnbuiltInstructions,
     Condition::UnbuiltClasses,
     Condition::UnbuiltSettings,
@@ -133,7 +131,6 @@ fn answer(
     match condition {
         Condition::UnbuiltTarget => unbuilt_target(alloc, settings),
         Condition::UnbuiltImports => unbuilt_imports(alloc, settings, lowered),
-        Condition::UnbuiltExports => unbuilt_exports(alloc, lowered),
         Condition::UnbuiltInstructions => unbuilt_instructions(alloc, lowered),
         Condition::UnbuiltClasses => unbuilt_classes(alloc, lowered),
         Condition::UnbuiltSettings => unbuilt_settings(alloc, settings),

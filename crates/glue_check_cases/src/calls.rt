@@ -272,6 +272,12 @@ const PUBLISHED: &[Row] = &[
         ],
     ),
     (
+        &[Asked::Web, Asked::ExportWasm],
+        ADD,
+        NAME,
+        &[(r#""name":"__wasm""#, "FixedExport __wasm")],
+    ),
+    (
         &[Asked::NoModules],
         ADD,
         NAME,

@@ -1,10 +1,10 @@
 //! Edits of the description of `add` and `log` that more than one table makes.
 use crate::described::Edit;
 
-/// A name from a module is exported again.
+/// A name of the host is exported again.
 pub const REEXPORT: Edit = (
     r#""version":1"#,
-    r#""version":1,"reexports":[{"name":"r","js":{"module":"m","name":"r"}}]"#,
+    r#""version":1,"reexports":[{"name":"r","js":{"global":"r"}}]"#,
 );
 
 /// Another name for the export, one that is no ordinary key of an object.

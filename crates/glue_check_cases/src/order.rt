@@ -32,8 +32,7 @@ const REINIT: Edit = (r#""version":1"#, r#""version":1,"uses_reinit":true"#);
 /// Two kinds of what isn't built, or two conditions, each next to the other in the order.
 const PAIRS: &[AskedCase] = &[
     (&[Asked::Web], (WITH_TABLE_IMPORT, &[], "NotBuilt target")),
-    (&[], (WITH_TABLE_IMPORT, &[REEXPORT], "NotBuilt imports")),
-    (&[], (ADD, &[REEXPORT, TRUTH], "NotBuilt exports")),
+    (&[], (WITH_TABLE_IMPORT, &[TRUTH], "NotBuilt imports")),
     (&[], (ADD, &[TRUTH, CLASS], "NotBuilt instructions")),
     (&[Asked::Debug], (ADD, &[CLASS], "NotBuilt classes")),
     (&[Asked::Debug], (ADD, &[REINIT], "NotBuilt settings")),
@@ -62,12 +61,9 @@ const PAIRS: &[AskedCase] = &[
     ),
     (
         &[],
-        (
-            ADD,
-            &[ADDING, SECOND_ADD, CALL_MORE, MODULE],
-            "ExportClash add",
-        ),
+        (ADD, &[ADDING, SECOND_ADD, REEXPORT], "ExportClash add"),
     ),
+    (&[], (ADD, &[REEXPORT, CALL_MORE, MODULE], "BadReexport r")),
     (&[], (ADD, &[CALL_MORE, LINK_AND_MODULE], "IntrinsicTarget")),
     // The first and the last.
     (&[Asked::Web, Asked::Debug], (ADD, &[], "NotBuilt target")),

@@ -2,7 +2,7 @@
 use crate::call::{Call, Condition, assert_conditions};
 use crate::checking::{Asked, Case};
 use crate::described::Edit;
-use crate::edits::{LOGGING, SECOND_PAIR};
+use crate::edits::{LOGGING, PROTO_NAME, SECOND_PAIR};
 use crate::modules::{ADD, IMPORTED_TWICE, WITH_PROTO};
 use glue_lower::LowerFault;
 
@@ -110,9 +110,9 @@ const BAD_NAMES: &[Case] = &[
     (ADD, &[CLASS], "BadName __proto__"),
     (ADD, &[CLASS_BELOW], "BadName __proto__"),
     (ADD, &[ANY_CLASS], ""),
-    (ADD, &[PROTO_METHOD], "BadName __proto__"),
+    (ADD, &[PROTO_METHOD], ""),
     // Exports, imports, classes, enums, string enums, re-exports, and then the module's imports.
-    (ADD, &[PROTO_METHOD, BAD_IMPORT], "BadName __proto__"),
+    (ADD, &[PROTO_NAME, BAD_IMPORT], "BadName __proto__"),
     (ADD, &[CLASS, BAD_IMPORT], "BadName 1x"),
     (ADD, &[BAD_GLOBAL, BAD_IMPORT], "BadName 1x"),
     (ADD, &[CLASS_AND_ENUM], "BadName __proto__"),

@@ -56,6 +56,7 @@ const GROUPS: &[Group] = &[
             r#""enums":[{"name":"E","namespace":["a"],"variants":[["A",-1,"some"]],"comments":"some","private":true}]"#,
             r#""string_enums":[{"name":"E"}]"#,
             r#""string_enums":[{"name":"E","variants":["a"],"comments":"some","private":true,"typescript":false}]"#,
+            r#""reexports":[{"name":"r","js":{"module":"m","name":"r"}}]"#,
             r#""snippets":{},"local_modules":{},"package_jsons":[],"extra_typescript":[]"#,
             r#""uses_reinit":false,"legacy_exception_handling":false"#,
             // Parts that nothing built asks for.
@@ -69,11 +70,8 @@ const GROUPS: &[Group] = &[
     (
         WITH_PARTS,
         KEY,
-        "NotBuilt exports",
-        &[
-            r#""reexports":[{"name":"r","js":{"global":"r"}}]"#,
-            r#""reexports":[{"name":"r","js":{"module":"m","name":"r"}}]"#,
-        ],
+        "BadReexport r",
+        &[r#""reexports":[{"name":"r","js":{"global":"r"}}]"#],
     ),
     (
         WITH_PARTS,
@@ -281,7 +279,7 @@ const GROUPS: &[Group] = &[
     (
         ADD,
         DESCRIBED,
-        "NotBuilt imports",
+        "NotBuilt classes",
         &[
             r#"["WrapInExportedClass","C"]"#,
             r#"["UnwrapExportedClass","C"]"#,

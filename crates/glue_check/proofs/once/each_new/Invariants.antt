@@ -2,7 +2,8 @@ use Rattle.std.proofs.Common.{◌≡◌, ◌++◌, take}
 use Rattle.std.specs.Prelude.{is_some}
 use Rattle.values.specs.Map.{look_up}
 use Rattle.glue_shared.specs.declared.import.JsImportName.{JsImportName}
-use Rattle.glue_check.specs.Once.{import_order, has_name, each_new}
+use Rattle.glue_published.specs.Reexports.{import_order}
+use Rattle.glue_check.specs.Once.{has_name, each_new}
 use Rattle.glue_check.proofs.once.each_new.Given as goal
 
 abbrev pub invariant-loop-name : goal.invariant-loop-name
