@@ -1,5 +1,6 @@
--- The names that are drawn for what own imports call: each that is no name of the host has one, an identifier that is taken for nothing else.
-use Rattle.std.proofs.Common.{◌≡◌, ℕ, Bool, true, false, cond, ◌==◌, true≢false, List, [], ◌∷◌, map, refl, sym, ap, subst, ◌∙◌, inl, inr}
+-- The names that are drawn for what own imports call and re-exports name: each that is no name of the host has one, an identifier that is
+-- taken for nothing else.
+use Rattle.std.proofs.Common.{◌≡◌, ℕ, Bool, true, false, cond, ◌==◌, true≢false, List, [], ◌∷◌, map, refl, sym, ap, subst, ◌∙◌, ◌⊎◌, inl, inr}
 use Rattle.std.specs.Prelude.{Option, None, Some, option_map, option_and_then, find, filter_map}
 use Rattle.std.specs.FinSet as set
 use Rattle.std.specs.List.{flat_map, list_all}
@@ -8,7 +9,7 @@ use Rattle.std.proofs.lemmas.List.Sorted.{IsPermutation-sym}
 use Rattle.std.proofs.lemmas.List.Sums.{list_all-from_AllPass}
 use Rattle.values.specs.Lists.{IsIn, AreDistinct, AreApart}
 use Rattle.values.specs.Map.{look_up}
-use Rattle.values.proofs.Members.{in_left, in_right}
+use Rattle.values.proofs.Members.{in_either, in_left, in_right}
 use Rattle.wasm_core.specs.ids.ImportId.{ImportId}
 use Rattle.glue_words.specs.Ident.{is_ident}
 use Rattle.glue_words.proofs.Among.{apart_by}
@@ -23,15 +24,17 @@ use Rattle.glue_shared.specs.declared.name_map.NameMap.{NameMap}
 use Rattle.glue_shared.specs.declared.settings.Settings.{Settings}
 use Rattle.glue_shared.specs.declared.settings.Target.{Target}
 use Rattle.glue_shared.specs.Names.{code_of, described_names, entry_of, fixed_names, has_number, host_names, js_import, names_of, own_imports}
+use Rattle.glue_published.specs.Reexports.{Reexport, is_outside}
 use Rattle.glue_check.specs.Handed.{callee, own_callees, pair_callees}
 use Rattle.glue_check.specs.Publishing.{qualified}
-use Rattle.glue_check.specs.Unbuilt.{is_function_kind}
+use Rattle.glue_published.specs.Things.{stands_alone}
 use Rattle.glue_check.proofs.Globals.{from_flat, in_flat}
 use Rattle.glue_check.proofs.Passed.{number_in}
 use Rattle.glue_naming.specs.Given.{reserved_names}
-use Rattle.glue_naming.specs.Imported.{called_name, called_names, import_wanted, is_outside, local_name, names_called, pair_names}
-use Rattle.glue_naming.specs.Listed.{called_once, drawn_import, drawn_imports, names_drawn}
+use Rattle.glue_naming.specs.Imported.{called_name, called_names, import_wanted, local_name, names_called, pair_names}
+use Rattle.glue_naming.specs.Listed.{called_once, drawn_import, drawn_imports, imports_named, names_drawn}
 use Rattle.glue_naming.specs.Naming.{AreNames, declared_name, function_name, import_name, is_named, without_items}
+use Rattle.glue_naming.specs.Reexported.{reexported_besides}
 use Rattle.glue_naming.specs.Wanted.{class_names, enum_wanted, function_names, function_wanted, root_wanted}
 use Rattle.glue_naming.specs.declared.named.Named.{Named}
 use Rattle.glue_naming.specs.declared.named.Named.TheVariants.{Import, Function}
@@ -40,10 +43,12 @@ use Rattle.glue_naming.specs.declared.named.WantedName.TheVariants.{Plain}
 use Rattle.glue_naming.proofs.Arranged.{all_are, moved_from}
 use Rattle.glue_naming.proofs.Draws.{IsAt, stands}
 use Rattle.glue_naming.proofs.Functions.{given_of}
-use Rattle.glue_check.proofs.EachOnce.{once_distinct, once_from, once_has}
+use Rattle.glue_check.proofs.EachOnce.{once_from, once_has}
 use Rattle.glue_naming.proofs.MappedLists.{flat_more, from_map, from_part, in_map, in_part, part_distinct}
 use Rattle.glue_naming.proofs.Reserved.{free_no_fixed, free_no_host}
+use Rattle.glue_naming.proofs.Reexports.{besides_from, both_once, reexport_there}
 use Rattle.glue_naming.proofs.WantedNames.{each_wanted, import_there}
+use Rattle.glue_naming.proofs.WantedNames as asked
 
 -- ---- what is wanted
 
@@ -92,7 +97,7 @@ in_where x xs true i = (i, refl)
 in_where x xs false i = absurd i
 
 no_function : (x : AuxExport) (w : Wanted) (name : JsImportName) → IsIn w (function_names x) → Import name ≡ w.thing → ⊥
-no_function x w name i e = only (in_where w (function_wanted (qualified x) ∷ []) (is_function_kind x.kind) i).0
+no_function x w name i e = only (in_where w (function_wanted (qualified x) ∷ []) (stands_alone x.kind) i).0
   where
     only : IsIn w (function_wanted (qualified x) ∷ []) → ⊥
     only (inl same) = cc
@@ -143,15 +148,20 @@ import_one a b e = cc
 -- ---- what has a drawn name
 
 module _ (s : Settings) (l : Lowered) (m : NameMap) (n : AreNames s l m) where
+  asked_import : (name : JsImportName) (w : Wanted) (names : List JsImportName) → IsIn w (filter_map (import_wanted s.omit_imports s.target) names)
+      → Import name ≡ w.thing → is_outside s.omit_imports name ≡ false
+  asked_import name w names i e =
+      let r = from_part (import_wanted s.omit_imports s.target) w names i in
+      let k = wanted_only s.omit_imports s.target r.0 w r.2 in
+      ap (is_outside s.omit_imports) (import_one name r.0 (e ∙ k.0)) ∙ k.1
+
   asked_thing : (name : JsImportName) (w : Wanted) → IsIn w n.list → Import name ≡ w.thing → is_outside s.omit_imports name ≡ false
   asked_thing name = each_wanted s l n.list n.wanted (λ (w : Wanted). Import name ≡ w.thing → is_outside s.omit_imports name ≡ false)
       (λ w i e. let r = from_flat class_names l.aux.structs w i in absurd (no_class r.0 w name r.2 e))
       (λ w i e. let r = from_map enum_wanted w n.wanted.enums i in absurd (no_enum r.0 w name r.2 e))
-      (λ w i e.
-      let r = from_part (import_wanted s.omit_imports s.target) w (called_once s l n.wanted.pairs) i in
-      let k = wanted_only s.omit_imports s.target r.0 w r.2 in
-      ap (is_outside s.omit_imports) (import_one name r.0 (e ∙ k.0)) ∙ k.1)
+      (λ w i e. asked_import name w (called_once s l n.wanted.pairs) i e)
       (λ w i e. let r = from_flat function_names n.wanted.functions w i in absurd (no_function r.0 w name r.2 e))
+      (λ w i e. asked_import name w (reexported_besides l.aux (names_called s l n.wanted.pairs)) i e)
       (λ w i e. let r = from_map root_wanted w n.wanted.roots i in absurd (no_root r.0 w name r.2 e))
 
   -- it is no name of the host
@@ -169,7 +179,25 @@ module _ (s : Settings) (l : Lowered) (m : NameMap) (n : AreNames s l m) where
       → function_name m e ≡ Some drawn → ⊥
   named_no_function name e drawn h k = let same = n.good.apart (Import name) (Function (qualified e)) drawn h k in cc
 
-  -- ---- of what is called by the adapters of these pairs, which are some of the description's, and all of own imports
+  -- what is called or re-exported has a drawn name, where it is no name of the host
+  wanted_named : (name : JsImportName)
+      → IsIn name (names_called s l n.wanted.pairs) ⊎ IsIn name (reexported_besides l.aux (names_called s l n.wanted.pairs))
+      → is_outside s.omit_imports name ≡ false → (drawn : List ℕ) × (import_name m name ≡ Some drawn)
+  wanted_named name i h =
+      let w = wanted_as s.target name in
+      let asks = wanted_there s.omit_imports s.target name h in
+      let wanted = import_wanted s.omit_imports s.target in
+      let among : IsIn w n.list = elim i [
+        | inl called ↦
+            import_there s l n.list n.wanted w (in_part wanted name w (called_once s l n.wanted.pairs)
+            (once_has name (names_called s l n.wanted.pairs) called) asks)
+        | inr besides ↦
+            asked.reexport_there s l n.list n.wanted w (in_part wanted name w (reexported_besides l.aux (names_called s l n.wanted.pairs)) besides asks)
+      ] in
+      n.good.found (Import name) (in_map (λ (x : Wanted). x.thing) w n.list among)
+
+  -- ---- of what is called by the adapters of these pairs, which are some of the description's, and all of own imports, and of what
+  -- re-exports name
 
   module _ (pairs : List (ImportId × ℕ)) (sub : (pair : ImportId × ℕ) → IsIn pair pairs → IsIn pair l.wit.implements)
       (has : (pair : ImportId × ℕ) → IsIn pair l.wit.implements → has_number pair.0.0 (own_imports s l.«module» l.wit l.aux) ≡ true
@@ -177,22 +205,25 @@ module _ (s : Settings) (l : Lowered) (m : NameMap) (n : AreNames s l m) where
     abbrev own : List ℕ
     own = own_imports s l.«module» l.wit l.aux
 
-    abbrev called : List JsImportName
-    called = called_once s l pairs
+    abbrev named : List JsImportName
+    named = imports_named s l pairs
 
     abbrev listed : List (JsImportName × List ℕ)
     listed = drawn_imports s l m pairs
 
+    called_there : (name : JsImportName) → IsIn name (names_called s l pairs) → IsIn name named
+    called_there name i = in_left name (called_once s l pairs) _ (once_has name (names_called s l pairs) i)
+
     -- what the code of an own import's adapter calls is among it
     pub code_called : (pair : ImportId × ℕ) → IsIn pair l.wit.implements → has_number pair.0.0 own ≡ true → (name : JsImportName)
-        → IsIn name (called_names l pair.1) → IsIn name called
+        → IsIn name (called_names l pair.1) → IsIn name named
     code_called pair at is name i =
-        once_has name (names_called s l pairs)
+        called_there name
         (in_flat (pair_names own l) pairs pair name (has pair at is) (where_true name (called_names l pair.1) (has_number pair.0.0 own) is i))
 
     -- and so is what is described of an adapter that such code calls
     pub entry_called : (id : ℕ) (w : AuxImport) → has_number id (own_callees s l) ≡ true → entry_of id l.aux.imports ≡ Some w
-        → (name : JsImportName) → IsIn name (names_of (js_import w)) → IsIn name called
+        → (name : JsImportName) → IsIn name (names_of (js_import w)) → IsIn name named
     entry_called id w mine is name i =
         let pair = from_flat (pair_callees own l) l.wit.implements id (number_in id (own_callees s l) mine) in
         let code = code_of (look_up nat_cmp l.wit.adapters pair.0.1) in
@@ -203,29 +234,49 @@ module _ (s : Settings) (l : Lowered) (m : NameMap) (n : AreNames s l m) where
         (subst (λ (o : Option AuxImport). IsIn name (names_of (option_and_then js_import o))) (sym is) i) in
         code_called pair.0 pair.1 call.1 name (in_flat (called_name l.aux.imports) code step.0 name step.1 there)
 
+    -- and so is what a re-export names
+    pub reexport_named : (r : Reexport) → IsIn r l.aux.reexports → IsIn r.1.name named
+    reexport_named r i = elim (reexport_there l.aux (names_called s l pairs) r i) [
+      | inl called ↦ called_there r.1.name called
+      | inr besides ↦ in_right r.1.name (called_once s l pairs) _ besides
+    ]
+
     -- it is described
-    pub called_described : (name : JsImportName) → IsIn name called → IsIn name (described_names l.aux)
-    called_described name i =
+    own_described : (name : JsImportName) → IsIn name (called_once s l pairs) → IsIn name (described_names l.aux)
+    own_described name i =
         let pair = from_flat (pair_names own l) pairs name (once_from name (names_called s l pairs) i) in
         let step = from_flat (called_name l.aux.imports) (code_of (look_up nat_cmp l.wit.adapters pair.0.1)) name
         (in_where name (called_names l pair.0.1) (has_number pair.0.0.0 own) pair.2).0 in
         in_left name (flat_map (λ (x : ℕ × AuxImport). names_of (js_import x.1)) l.aux.imports) (map (λ r. r.1.name) l.aux.reexports)
         (step_described l.aux.imports step.0 name step.2)
 
+    pub called_described : (name : JsImportName) → IsIn name named → IsIn name (described_names l.aux)
+    called_described name i = elim (in_either name (called_once s l pairs) (reexported_besides l.aux (names_called s l pairs)) i) [
+      | inl called ↦ own_described name called
+      | inr besides ↦
+          let r = besides_from l.aux (names_called s l pairs) name besides in
+          let reexported = map (λ (r : Reexport). r.1.name) l.aux.reexports in
+          in_right name (flat_map (λ (x : ℕ × AuxImport). names_of (js_import x.1)) l.aux.imports) reexported
+          (subst (λ (x : JsImportName). IsIn x reexported) (sym r.2) (in_map (λ (r : Reexport). r.1.name) r.0 l.aux.reexports r.1))
+    ]
+
     -- and has a drawn name, where it is no name of the host
-    pub called_named : (name : JsImportName) → IsIn name called → is_outside s.omit_imports name ≡ false → (drawn : List ℕ) × (import_name m name ≡ Some drawn)
-    called_named name i h =
-        let moved = λ (x : ImportId × ℕ) (k : IsIn x pairs).
-        moved_from n.wanted.pairs l.wit.implements (IsPermutation-sym _ _ n.wanted.by_import.same) x (sub x k) in
-        let there = once_has name (names_called s l n.wanted.pairs)
-        (flat_more (pair_names own l) pairs n.wanted.pairs moved name (once_from name (names_called s l pairs) i)) in
-        let w = wanted_as s.target name in
-        let asked = in_part (import_wanted s.omit_imports s.target) name w (called_once s l n.wanted.pairs) there (wanted_there s.omit_imports s.target name h) in
-        let among = import_there s l n.list n.wanted w asked in
-        n.good.found (Import name) (in_map (λ (x : Wanted). x.thing) w n.list among)
+    pub called_named : (name : JsImportName) → IsIn name named → is_outside s.omit_imports name ≡ false → (drawn : List ℕ) × (import_name m name ≡ Some drawn)
+    called_named name i = elim (in_either name (called_once s l pairs) (reexported_besides l.aux (names_called s l pairs)) i) [
+      | inl called ↦
+          let moved = λ (x : ImportId × ℕ) (k : IsIn x pairs).
+          moved_from n.wanted.pairs l.wit.implements (IsPermutation-sym _ _ n.wanted.by_import.same) x (sub x k) in
+          wanted_named name (inl (flat_more (pair_names own l) pairs n.wanted.pairs moved name (once_from name (names_called s l pairs) called)))
+      | inr besides ↦
+          let r = besides_from l.aux (names_called s l pairs) name besides in
+          let there = reexport_there l.aux (names_called s l n.wanted.pairs) r.0 r.1 in
+          wanted_named name
+          (subst (λ (x : JsImportName). IsIn x (names_called s l n.wanted.pairs) ⊎ IsIn x (reexported_besides l.aux (names_called s l n.wanted.pairs)))
+          (sym r.2) there)
+    ]
 
     -- so one without a drawn name is a name of the host
-    pub unnamed_host : (name : JsImportName) → IsIn name called → import_name m name ≡ None → is_outside s.omit_imports name ≡ true
+    pub unnamed_host : (name : JsImportName) → IsIn name named → import_name m name ≡ None → is_outside s.omit_imports name ≡ true
     unnamed_host name i none = by (is_outside s.omit_imports name) refl
       where
         by : (b : Bool) → is_outside s.omit_imports name ≡ b → is_outside s.omit_imports name ≡ true
@@ -233,15 +284,23 @@ module _ (s : Settings) (l : Lowered) (m : NameMap) (n : AreNames s l m) where
         by false q = let d = called_named name i q in absurd (not_both (import_name m name) d.0 none d.1)
 
     -- so it is listed with that name
-    pub named_listed : (name : JsImportName) (drawn : List ℕ) → IsIn name called → import_name m name ≡ Some drawn → IsIn (name, drawn) listed
-    named_listed name drawn i e = in_part (drawn_import m) name (name, drawn) called i (ap (option_map (λ (d : List ℕ). (name, d))) e)
+    pub named_listed : (name : JsImportName) (drawn : List ℕ) → IsIn name named → import_name m name ≡ Some drawn → IsIn (name, drawn) listed
+    named_listed name drawn i e = in_part (drawn_import m) name (name, drawn) named i (ap (option_map (λ (d : List ℕ). (name, d))) e)
 
-    -- what is listed is called, and has that name
-    pub listed_named : (import : JsImportName × List ℕ) → IsIn import listed → IsIn import.0 called × (import_name m import.0 ≡ Some import.1)
+    -- as is what a re-export names, where it is no name of the host
+    pub reexport_listed : (r : Reexport) → IsIn r l.aux.reexports → is_outside s.omit_imports r.1.name ≡ false
+        → (drawn : List ℕ) × (import_name m r.1.name ≡ Some drawn) × IsIn (r.1.name, drawn) listed
+    reexport_listed r i h =
+        let there = reexport_named r i in
+        let d = called_named r.1.name there h in
+        (d.0, d.1, named_listed r.1.name d.0 there d.1)
+
+    -- what is listed is called or re-exported, and has that name
+    pub listed_named : (import : JsImportName × List ℕ) → IsIn import listed → IsIn import.0 named × (import_name m import.0 ≡ Some import.1)
     listed_named import i =
-        let r = from_part (drawn_import m) import called i in
+        let r = from_part (drawn_import m) import named i in
         let k = drawn_is r.0 (import_name m r.0) import r.2 in
-        (subst (λ (x : JsImportName). IsIn x called) (sym k.1) r.1, ap (import_name m) k.1 ∙ k.0)
+        (subst (λ (x : JsImportName). IsIn x named) (sym k.1) r.1, ap (import_name m) k.1 ∙ k.0)
 
     listed_of : (drawn : List ℕ) → IsIn drawn (names_drawn listed) → (name : JsImportName) × (import_name m name ≡ Some drawn)
     listed_of drawn i =
@@ -251,7 +310,7 @@ module _ (s : Settings) (l : Lowered) (m : NameMap) (n : AreNames s l m) where
     -- the names are distinct identifiers
     pub listed_distinct : AreDistinct (names_drawn listed)
     listed_distinct =
-        part_distinct (drawn_import m) (λ (x : JsImportName × List ℕ). x.1) called (once_distinct (names_called s l pairs)) (λ a b u v h k look.
+        part_distinct (drawn_import m) (λ (x : JsImportName × List ℕ). x.1) named (both_once l.aux (names_called s l pairs)) (λ a b u v h k look.
         named_apart a b u.1 (drawn_is a (import_name m a) u h).0 ((drawn_is b (import_name m b) v k).0 ∙ ap Some (sym look)))
 
     pub listed_idents : list_all is_ident (names_drawn listed) ≡ true
@@ -272,8 +331,8 @@ module _ (s : Settings) (l : Lowered) (m : NameMap) (n : AreNames s l m) where
 
     -- and none is that of a function of an export
     pub listed_no_function : (es : List AuxExport) → list_all (is_named m) es ≡ true → AreApart (names_drawn listed) (map (declared_name m) es)
-    listed_no_function es named =
+    listed_no_function es have =
         apart_by (names_drawn listed) (map (declared_name m) es) (λ drawn i k.
         let r = listed_of drawn i in
-        let e = given_of m es named drawn k in
+        let e = given_of m es have drawn k in
         named_no_function r.0 e.0 drawn r.1 e.2)

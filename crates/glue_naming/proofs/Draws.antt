@@ -23,10 +23,10 @@ use Rattle.glue_naming.specs.declared.named.Wanted.{Wanted}
 use Rattle.glue_shared.specs.declared.import.JsImportName.{JsImportName}
 use Rattle.glue_shared.specs.declared.name_map.NameMap.{NameMap}
 use Rattle.glue_shared.specs.NameMap.{no_names}
-use Rattle.glue_check.specs.Once.{import_order}
+use Rattle.glue_published.specs.Reexports.{import_order}
 use Rattle.glue_naming.specs.Arranged.{text_order}
 use Rattle.glue_naming.specs.Drawing.{name_wanted, turn_names, put_name, name_in, map_of, AreGood}
-use Rattle.glue_check.proofs.ImportOrder.{import_order_total, import_same}
+use Rattle.glue_published.proofs.ImportOrder.{import_order_total, import_same}
 
 -- ---- the loops
 

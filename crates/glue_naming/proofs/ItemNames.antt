@@ -16,7 +16,6 @@ use Rattle.values.specs.Map.{look_up}
 use Rattle.values.specs.TextSet.{TextSet, with_texts}
 use Rattle.values.proofs.Maps.{look_up_inserted}
 use Rattle.values.proofs.Members.{in_left, in_right}
-use Rattle.wasm_core.specs.ids.ImportId.{ImportId}
 use Rattle.wasm_core.specs.entries.Export.{Export}
 use Rattle.wasm_core.specs.entries.ExportItem.{ExportItem}
 use Rattle.wasm_core.specs.entries.ExportItem.TheVariants as items

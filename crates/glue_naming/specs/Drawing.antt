@@ -14,7 +14,7 @@ use Rattle.glue_naming.specs.declared.named.Named.TheVariants.{Class, Registry, 
 use Rattle.glue_naming.specs.declared.named.WantedName.{WantedName}
 use Rattle.glue_naming.specs.declared.named.WantedName.TheVariants.{Plain, After}
 use Rattle.glue_naming.specs.declared.named.Wanted.{Wanted}
-use Rattle.glue_check.specs.Once.{import_order}
+use Rattle.glue_published.specs.Reexports.{import_order}
 use Rattle.glue_naming.specs.Arranged.{text_order}
 
 -- ---- the names that are wanted

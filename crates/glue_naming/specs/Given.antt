@@ -1,15 +1,15 @@
 -- Names that no drawn one may be: those that the glue file may not declare as they are, and those that others give to what it declares.
-use Rattle.std.specs.Prelude.{ℕ, List, [], ◌∷◌, ◌++◌, Option, Some, map, codes, slice_get, if◌then◌else◌}
+use Rattle.std.specs.Prelude.{ℕ, List, [], ◌∷◌, ◌++◌, Option, Some, map, slice_get, if◌then◌else◌}
 use Rattle.std.specs.List.{flat_map}
 use Rattle.values.specs.TextSet.{TextSet, with_texts}
 use Rattle.wasm_core.specs.entries.Export.{Export}
 use Rattle.wasm_core.specs.declared.types.Import.{Import}
 use Rattle.wasm_core.specs.ids.ExportId.{ExportId}
 use Rattle.wasm_core.specs.Contents.{Contents}
-use Rattle.glue_shared.specs.declared.aux.AuxStringEnum.{AuxStringEnum}
 use Rattle.glue_shared.specs.declared.settings.Settings.{Settings}
 use Rattle.glue_shared.specs.declared.description.Lowered.{Lowered}
 use Rattle.glue_shared.specs.Names.{own_names}
+use Rattle.glue_check.specs.Given.{values_name}
 use Rattle.glue_check.specs.Publishing.{is_bundler}
 use Rattle.glue_check.specs.Taken.{taken_names}
 
@@ -32,10 +32,6 @@ import_name_at imports place = name_of (slice_get imports place)
 -- the name of the export that a closure calls
 abbrev pub closure_export : Contents → ExportId × ℕ → List (List ℕ)
 closure_export m entry = export_name_at m.exports entry.0.0
-
--- the name of the values of an enum of texts
-abbrev pub values_name : AuxStringEnum → List ℕ
-values_name e = codes "__wbindgen_enum_" ++ e.name
 
 -- a bundler's glue file exports each own import under its name
 abbrev pub bundled_names : Settings → Lowered → List (List ℕ)

@@ -16,6 +16,7 @@ use Rattle.glue_shared.specs.Names.{code_of, entry_of, has_number, is_emscripten
 use Rattle.glue_naming.specs.declared.named.Named.TheVariants.{Import}
 use Rattle.glue_naming.specs.declared.named.WantedName.TheVariants.{Plain}
 use Rattle.glue_naming.specs.declared.named.Wanted.{Wanted}
+use Rattle.glue_published.specs.Reexports.{is_outside}
 use Rattle.glue_check.specs.Once.{each_once}
 
 -- ---- names that adapters call
@@ -42,14 +43,6 @@ names_called s l pairs = flat_map (pair_names (own_imports s l.«module» l.wit 
 -- what stands before the name of a module's export: `__wbg_` on Emscripten, where names of the runtime stand in the same scope
 abbrev pub local_front : Target → List ℕ
 local_front target = if is_emscripten target then codes "__wbg_" else []
-
--- it is one of the host: a global, and where imports are left out a module's export
-abbrev pub is_outside : (omitted : Bool) → JsImportName → Bool
-is_outside omitted (Global name) = true
-is_outside omitted (Module from name) = omitted
-is_outside omitted (LocalModule from name) = omitted
-is_outside omitted (InlineJs from index name) = omitted
-is_outside omitted (VendorPrefixed name prefixes) = false
 
 -- the name that a drawn one is wanted to be: that of the module's export, and that of a vendor behind `l`
 abbrev pub local_name : Target → JsImportName → List ℕ

@@ -3,6 +3,7 @@ pub mod Drawing
 pub mod Given
 pub mod Pairs
 pub mod Imported
+pub mod Reexported
 pub mod Handed
 pub mod ItemNames
 pub mod Wanted

@@ -12,13 +12,14 @@ use Rattle.glue_shared.specs.declared.settings.Settings.{Settings}
 use Rattle.glue_shared.specs.Paths.{qualified_name}
 use Rattle.glue_published.specs.Roots.{AreRoots}
 use Rattle.glue_check.specs.Publishing.{qualified}
-use Rattle.glue_check.specs.Unbuilt.{is_function_kind}
+use Rattle.glue_published.specs.Things.{stands_alone}
 use Rattle.glue_naming.specs.declared.named.Named.TheVariants.{Class, Registry, Enum, Function, Namespace}
 use Rattle.glue_naming.specs.declared.named.WantedName.TheVariants.{Plain, After}
 use Rattle.glue_naming.specs.declared.named.Wanted.{Wanted}
 use Rattle.glue_naming.specs.Arranged.{IsArranged, text_order}
 use Rattle.glue_naming.specs.Imported.{imports_wanted}
 use Rattle.glue_naming.specs.Pairs.{pair_order}
+use Rattle.glue_naming.specs.Reexported.{reexports_wanted}
 
 -- the qualified name of a class, and of an enum
 abbrev pub class_key : AuxStruct → List ℕ
@@ -44,7 +45,7 @@ function_wanted key = record { thing = Function key; name = Plain key }
 
 -- an export, where it stands by itself
 abbrev pub function_names : AuxExport → List Wanted
-function_names e = if is_function_kind e.kind then function_wanted (qualified e) ∷ [] else []
+function_names e = if stands_alone e.kind then function_wanted (qualified e) ∷ [] else []
 
 -- a namespace with this name, at which the glue file makes its object
 abbrev pub root_wanted : List ℕ → Wanted
@@ -55,7 +56,8 @@ abbrev pub debug_order : AuxExport → AuxExport → Ordering
 debug_order a b = ordering_then (text_order a.debug b.debug) (nat_cmp a.adapter b.adapter)
 
 -- classes as they are described, each with its registry, enums by qualified name, what own imports call by the import's name and then by
--- the adapter's id, functions by debug name and then by id, and namespaces at the root in the order of their names' bytes
+-- the adapter's id, functions by debug name and then by id, what re-exports name besides by export name, and namespaces at the root in the
+-- order of their names' bytes
 pub record AreWanted (s : Settings) (l : Lowered) (list : List Wanted) : Type 0 where
   pub enums : List (List ℕ)
   pub by_name : IsArranged text_order (map enum_key l.aux.enums) enums
@@ -66,4 +68,5 @@ pub record AreWanted (s : Settings) (l : Lowered) (list : List Wanted) : Type 0 
   pub roots : List (List ℕ)
   pub by_bytes : AreRoots s l.aux roots
   pub all : list ≡ flat_map class_names l.aux.structs
-      ++ (map enum_wanted enums ++ (imports_wanted s l pairs ++ (flat_map function_names functions ++ map root_wanted roots)))
+      ++ (map enum_wanted enums
+      ++ (imports_wanted s l pairs ++ (flat_map function_names functions ++ (reexports_wanted s l pairs ++ map root_wanted roots))))

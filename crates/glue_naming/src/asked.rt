@@ -4,11 +4,12 @@ ghost use Rattle.std.specs.List.{flat_map};
 ghost use Rattle.glue_naming.specs.Arranged.{IsArranged, text_order};
 ghost use Rattle.glue_naming.specs.Wanted as spec;
 
-use crate::imported::push_imports;
+use crate::imported::{names_called, push_imports};
 use crate::named::{Named, Wanted, WantedName};
 use crate::pairs::pairs_by_import;
-use glue_check::{is_function_kind, qualified, qualified_name};
-use glue_published::root_names;
+use crate::reexported::push_reexports;
+use glue_check::{qualified, qualified_name};
+use glue_published::{root_names, stands_alone};
 use glue_shared::{AuxEnum, AuxExport, AuxStruct, Lowered, Settings};
 use std::alloc::{AllocError, Global};
 use std::cmp::Ordering;
@@ -111,7 +112,7 @@ fn push_function(
 ) -> Result<(), AllocError>
     ensures pushed { OnOk result (list.new ≡ list.old ++ spec.function_names export.now) }
 {
-    if is_function_kind(export.kind) {
+    if stands_alone(export.kind) {
         let key = qualified(alloc, export)?;
         list.push(Wanted {
             thing: Named::Function(key.copy(alloc)?),
@@ -158,13 +159,15 @@ pub fn wanted(
 {
     let enums = enums_by_name(alloc, lowered.aux.enums.as_slice())?;
     let pairs = pairs_by_import(alloc, lowered)?;
+    let called = names_called(alloc, settings, lowered, pairs.as_slice())?;
     let functions = exports_by_debug(alloc, lowered.aux.exports.as_slice())?;
     let roots = root_names(alloc, settings, &lowered.aux)?;
     let mut list = Seq::new(alloc);
     push_classes(alloc, lowered.aux.structs.as_slice(), &mut list)?;
     push_enums(alloc, enums.as_slice(), &mut list)?;
-    push_imports(alloc, settings, lowered, pairs.as_slice(), &mut list)?;
+    push_imports(alloc, settings, called.as_slice(), &mut list)?;
     push_functions(alloc, functions.as_slice(), &mut list)?;
+    push_reexports(alloc, settings, &lowered.aux, called.as_slice(), &mut list)?;
     push_roots(alloc, roots.as_slice(), &mut list)?;
     Ok(list)
 }

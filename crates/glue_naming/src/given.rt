@@ -4,13 +4,13 @@ ghost use Rattle.std.specs.List.{flat_map};
 ghost use Rattle.std.specs.FinSet as set;
 ghost use Rattle.values.specs.TextSet.{with_texts};
 ghost use Rattle.glue_shared.specs.Names as names;
+ghost use Rattle.glue_check.specs.Given.{values_name};
 ghost use Rattle.glue_naming.specs.Given as spec;
 
-use glue_check::taken_names;
+use glue_check::{taken_names, values_name};
 use glue_scope::Names;
 use glue_shared::{AdapterId, AuxStringEnum, Lowered, Settings, Target, own_imports};
 use std::alloc::{AllocError, Global};
-use values::Text;
 use wasm_core::{Export, ExportId, Import, ImportId, Module};
 
 // With a name.
@@ -53,16 +53,15 @@ fn with_exports<N: Names>(
 
 // With the name of the values of an enum of texts.
 fn with_values<N: Names>(alloc: Global, scope: N, texts: &AuxStringEnum) -> Result<N, AllocError>
-    ensures bound { IfOk result (λ more. N.bound more ≡ set.insert (N.bound scope) (spec.values_name texts.now)) }
+    ensures bound { IfOk result (λ more. N.bound more ≡ set.insert (N.bound scope) (values_name texts.now)) }
 {
-    let mut name = Text::from_str(alloc, "__wbindgen_enum_")?;
-    name.push_str(texts.name.as_str())?;
+    let name = values_name(alloc, texts)?;
     with_name(scope, name.as_str())
 }
 
 // With those of all.
 fn with_enums<N: Names>(alloc: Global, scope: N, enums: &[AuxStringEnum]) -> Result<N, AllocError>
-    ensures bound { IfOk result (λ more. N.bound more ≡ with_texts (N.bound scope) (map spec.values_name enums.now)) }
+    ensures bound { IfOk result (λ more. N.bound more ≡ with_texts (N.bound scope) (map values_name enums.now)) }
 {
     let mut more = scope;
     for texts in enums {

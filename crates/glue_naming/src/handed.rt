@@ -4,7 +4,8 @@ ghost use Rattle.std.specs.List.{flat_map};
 ghost use Rattle.glue_naming.specs.Handed as spec;
 
 use crate::imported::push_code;
-use glue_check::{copied_import, own_places};
+use glue_check::own_places;
+use glue_published::copied_import;
 use glue_shared::{AdapterId, DescribedImports, IdSet, JsImportName, Lowered, Settings, code_of};
 use std::alloc::{AllocError, Global};
 use values::Seq;

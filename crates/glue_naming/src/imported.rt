@@ -3,10 +3,12 @@ ghost use Rattle.std.specs.Prelude.{◌≡◌, ◌++◌, ◌∷◌, [], IfOk, On
 ghost use Rattle.std.specs.List.{flat_map};
 ghost use Rattle.std.specs.Option.{option_copied};
 ghost use Rattle.glue_shared.specs.Names as names;
+ghost use Rattle.glue_check.specs.Once as once;
 ghost use Rattle.glue_naming.specs.Imported as spec;
 
 use crate::named::{Named, Wanted, WantedName};
-use glue_check::{copied_import, each_once, own_places};
+use glue_check::{each_once, own_places};
+use glue_published::{copied_import, is_outside};
 use glue_shared::{
     AdapterId, AuxImport, DescribedImports, IdSet, Instruction, JsImportName, Lowered, Settings,
     Target, code_of, js_import,
@@ -142,19 +144,6 @@ fn joined(alloc: Global, front: &str, rest: &Text) -> Result<Text, AllocError>
     Ok(text)
 }
 
-// Whether it is one of the host.
-fn is_outside(omitted: bool, import: &JsImportName) -> bool
-    ensures test { result ≡ spec.is_outside omitted import.now }
-{
-    match import {
-        JsImportName::Global { .. } => true,
-        JsImportName::Module { .. }
-        | JsImportName::LocalModule { .. }
-        | JsImportName::InlineJs { .. } => omitted,
-        JsImportName::VendorPrefixed { .. } => false,
-    }
-}
-
 // The name that a drawn one is wanted to be.
 fn local_name(alloc: Global, target: &Target, import: &JsImportName) -> Result<Text, AllocError>
     ensures name { IfOk result (λ name. name ≡ spec.local_name target.now import.now) }
@@ -189,8 +178,8 @@ fn push_import(
     Ok(())
 }
 
-// Adds those of these.
-fn push_each(
+/// Adds those of these. Want of memory is the only error.
+pub(crate) fn push_each(
     alloc: Global,
     omitted: bool,
     target: &Target,
@@ -205,18 +194,16 @@ fn push_each(
     Ok(())
 }
 
-/// Adds the names that own imports among these pairs ask for. Want of memory is the only error.
+/// Adds the names that are wanted for what is called, each where it comes first. Want of memory is the only error.
 pub(crate) fn push_imports(
     alloc: Global,
     settings: &Settings,
-    lowered: &Lowered,
-    pairs: &[(ImportId, AdapterId)],
+    called: &[JsImportName],
     list: &mut Seq<Wanted>,
 ) -> Result<(), AllocError>
-    ensures pushed { OnOk result (list.new ≡ list.old ++ spec.imports_wanted settings.now lowered.now pairs.now) }
+    ensures pushed { OnOk result (list.new ≡ list.old ++ filter_map (spec.import_wanted settings.now.omit_imports settings.now.target) (once.each_once called.now)) }
 {
-    let called = names_called(alloc, settings, lowered, pairs)?;
-    let once = each_once(alloc, called.as_slice())?;
+    let once = each_once(alloc, called)?;
     push_each(
         alloc,
         settings.omit_imports,

@@ -3,22 +3,23 @@
 //! A name that no drawn one may be is bound first (`reserved_names` in `specs/Given.antt`): names of the outside, names that helpers and texts
 //! of targets bind, and names that are given by others. Then one name is drawn for each thing in turn (`AreWanted` in `specs/Wanted.antt`):
 //! classes as they are described, each with its registry, enums by qualified name, imports, functions by debug name and then by their adapter's
-//! id, and the objects of namespaces at the root (`AreRoots` of `glue_published`). Of imports, those draw a name that begin with a module's
-//! export or a vendor's name (`imports_wanted` in `specs/Imported.antt`): each once, over what the adapters of own imports call, by the import's
-//! name and then by the adapter's id (`pair_order` in `specs/Pairs.antt`). A direct import is its name itself (`handed_imports`), and a name of
-//! the host goes by itself: a global, and a module's export where imports are left out (`is_outside`). What is one more kind is one more list of
-//! `AreWanted`. Names of re-exports and of `inspect` on Node, which come behind those of functions, aren't drawn: no description that is built
-//! has any.
+//! id, re-exports by export name, and the objects of namespaces at the root (`AreRoots` of `glue_published`). Of imports, those draw a name that
+//! begin with a module's export or a vendor's name (`imports_wanted` in `specs/Imported.antt`): each once, over what the adapters of own imports
+//! call, by the import's name and then by the adapter's id (`pair_order` in `specs/Pairs.antt`). A direct import is its name itself
+//! (`handed_imports`), and a name of the host goes by itself: a global, and a module's export where imports are left out (`is_outside`). A
+//! re-export draws a name for its import, where no own import calls that and no re-export before it names that (`reexported_besides` in
+//! `specs/Reexported.antt`). What is one more kind is one more list of `AreWanted`. A name of `inspect` on Node, which comes behind those of
+//! re-exports, isn't drawn: no description that is built has any.
 //!
 //! Promised of `draw_names` (`names`, by the record `AreNames` in `specs/Naming.antt`): the maps have the names that any scope
 //! (`glue_scope::Names`) draws for that list; each is an identifier and none that is reserved, and two things have two names (`AreGood` in
 //! `specs/Drawing.antt`). And (`named`): each exported function of a description that is checked has a name, its own where that is an
 //! identifier, not reserved and not drawn earlier (`kept` of `IsDrawnMap`). `proofs/Functions.antt` says of these names,
-//! `proofs/CalledNames.antt` of those that are drawn for what own imports call, `proofs/EnumNames.antt` of those of enums and
+//! `proofs/CalledNames.antt` of those that are drawn for what own imports call and re-exports name, `proofs/EnumNames.antt` of those of enums and
 //! `proofs/Namespaces.antt` of those of namespaces, that they are distinct identifiers that stand for nothing else. `function_name` and
-//! `import_name` read the maps, and `drawn_imports` (`listed`) gives what own imports call with the names that were drawn for it, each once
-//! (`specs/Listed.antt`). `pairs_by_import` (`sorted`) gives the pairs in the order in which imports are named, and `own_places_by_name` the
-//! places of own imports in the order in which the crate above defines them.
+//! `import_name` read the maps, and `drawn_imports` (`listed`) gives what own imports call, and behind that what re-exports name, with the names
+//! that were drawn for it, each once (`specs/Listed.antt`). `pairs_by_import` (`sorted`) gives the pairs in the order in which imports are named,
+//! and `own_places_by_name` the places of own imports in the order in which the crate above defines them.
 //!
 //! `item_names` (`named`) gives the items of the module that own imports ask for, each once, with the names of the exports that give them, and
 //! `added_exports` (`added`) the exports that have to be added for that (`specs/ItemNames.antt`); a name that is added is no other export's.
@@ -37,6 +38,7 @@ mod listed;
 mod named;
 mod naming;
 mod pairs;
+mod reexported;
 #[cfg(test)]
 mod tests;
 

@@ -4,7 +4,7 @@ ghost use Rattle.std.specs.BTreeMap.{insert_entry};
 ghost use Rattle.std.specs.Option.{option_copied};
 ghost use Rattle.glue_naming.specs.Drawing as spec;
 
-use glue_check::copied_import;
+use glue_published::copied_import;
 use glue_shared::{JsImportName, NameMap};
 use std::alloc::{AllocError, Global};
 use values::{Duplicate, Map, Text};

@@ -291,7 +291,19 @@ fn function(alloc: Global, namespace: &[&str], name: &str) -> Result<AuxExport, 
     })
 }
 
-// An enum, an import, a function and a namespace, each of which wants the name `x`.
+fn reexport(
+    alloc: Global,
+    name: &str,
+    begins: Begins,
+) -> Result<(Text, JsImport, bool), AllocError> {
+    let import = JsImport {
+        name: js_name(alloc, begins)?,
+        fields: Seq::new(alloc),
+    };
+    Ok((Text::from_str(alloc, name)?, import, false))
+}
+
+// An enum, an import, a function, a re-export and a namespace, each of which wants the name `x`.
 #[test]
 fn kinds_draw_their_names_in_order(rt: HostRuntime) -> Result<(), ParseFault> {
     let alloc = rt.alloc();
@@ -300,6 +312,7 @@ fn kinds_draw_their_names_in_order(rt: HostRuntime) -> Result<(), ParseFault> {
     lowered.aux.enums.push(enum_x(alloc)?)?;
     lowered.aux.exports.push(function(alloc, &["x"], "f")?)?;
     lowered.aux.exports.push(function(alloc, &[], "x")?)?;
+    lowered.aux.reexports.push(reexport(alloc, "r", LOCAL_X)?)?;
     let map: NameMap = names_of::<IdentScope>(alloc, &settings, &lowered)?;
     let declared = Named::Enum(Text::from_str(alloc, "x")?);
     assert_name(&rt, name_in(&map, &declared), "x");
@@ -310,7 +323,9 @@ fn kinds_draw_their_names_in_order(rt: HostRuntime) -> Result<(), ParseFault> {
     let member = function(alloc, &["x"], "f")?;
     assert_name(&rt, function_name(alloc, &map, &member)?, "x__f");
     let root = Named::Namespace(Text::from_str(alloc, "x")?);
-    assert_name(&rt, name_in(&map, &root), "x4");
+    assert_name(&rt, name_in(&map, &root), "x5");
+    let reexported = js_name(alloc, LOCAL_X)?;
+    assert_name(&rt, import_name(&map, &reexported), "x4");
     Ok(())
 }
 
@@ -346,14 +361,13 @@ fn listed_imports(alloc: Global, target: Target) -> Result<Seq<(JsImportName, Te
 }
 
 // The imports that are listed are those rows that have a name, in order.
-fn assert_listed<H: Abort>(
+fn assert_rows<H: Abort>(
     rt: &H,
     alloc: Global,
-    target: Target,
+    list: &[(JsImportName, Text)],
     names: &[(Begins, &str)],
-) -> Result<(), ParseFault> {
-    let list = listed_imports(alloc, target)?;
-    let mut listed = list.as_slice().iter();
+) -> Result<(), AllocError> {
+    let mut listed = list.iter();
     for (begins, want) in names {
         if !want.is_empty() {
             assert_next(rt, listed.next(), &js_name(alloc, *begins)?, want);
@@ -363,8 +377,47 @@ fn assert_listed<H: Abort>(
     Ok(())
 }
 
+// Those of the pairs above, for a target.
+fn assert_listed<H: Abort>(
+    rt: &H,
+    alloc: Global,
+    target: Target,
+    names: &[(Begins, &str)],
+) -> Result<(), ParseFault> {
+    let list = listed_imports(alloc, target)?;
+    Ok(assert_rows(rt, alloc, list.as_slice(), names)?)
+}
+
 #[test]
 fn lists_imports_in_order_of_first_calls(rt: HostRuntime) -> Result<(), ParseFault> {
     assert_listed(&rt, rt.alloc(), Target::Deno, NAMES)?;
     assert_listed(&rt, rt.alloc(), Target::Emscripten, EMSCRIPTEN_NAMES)
+}
+
+const REEXPORTS: &[(&str, Begins)] = &[
+    ("c", FETCH),
+    ("a", LOCAL_X),
+    ("d", X),
+    ("b", CONSOLE),
+    ("e", FETCH),
+];
+
+/// What is listed where these are re-exported and an own import calls the name `x` of a module.
+const REEXPORTED_NAMES: &[(Begins, &str)] = &[
+    (X, "x"),
+    (LOCAL_X, "x2"),
+    (CONSOLE, ""),
+    (FETCH, "fetch2"),
+];
+
+#[test]
+fn lists_reexports_behind_calls_by_export_name(rt: HostRuntime) -> Result<(), ParseFault> {
+    let alloc = rt.alloc();
+    let settings = settings(alloc, Target::Deno)?;
+    let mut lowered = lowered_pairs(alloc, ONE_PAIR)?;
+    for (name, begins) in REEXPORTS {
+        lowered.aux.reexports.push(reexport(alloc, name, *begins)?)?;
+    }
+    let list = listed(alloc, &settings, &lowered)?;
+    Ok(assert_rows(&rt, alloc, list.as_slice(), REEXPORTED_NAMES)?)
 }

@@ -1,4 +1,4 @@
-use Rattle.std.proofs.Common.{rules, ℕ, IsPermutation}
+use Rattle.std.proofs.Common.{rules, IsPermutation}
 use Rattle.std.proofs.lemmas.Cmp.{nat_list_cmp_total, nat_cmp_total, on_total, then_total}
 use Rattle.wasm_core.specs.ids.ImportId.{ImportId}
 use Rattle.glue_naming.specs.Pairs.{place_name, place_order}
