@@ -30,10 +30,8 @@ pub record Facts (s : Settings) (l : Lowered) : Type 0 where
   -- own imports are distinct, and an adapter stands for each, or it brings in a memory whose definition is built
   pub once : AreDistinct (own_imports s l.«module» l.wit l.aux)
   pub defined : (place : ℕ) → IsIn place (own_imports s l.«module» l.wit l.aux) → IsDefinedImport l place
-  -- no class is published and nothing is re-exported, and what described names bring of the outside are identifiers that the file doesn't bind
-  -- itself
+  -- no class is published, and what described names bring of the outside are identifiers that the file doesn't bind itself
   pub structs : l.aux.structs ≡ []
-  pub reexports : l.aux.reexports ≡ []
   pub idents : (name : JsImportName) → IsIn name (described_names l.aux) → (x : List ℕ) → IsIn x (described_hosts s.omit_imports name) → is_ident x ≡ true
   pub apart : (name : JsImportName) → IsIn name (described_names l.aux) → (x : List ℕ) → IsIn x (described_hosts s.omit_imports name)
       → IsAway x (fixed_names s l.«module»)
@@ -70,7 +68,6 @@ built f s l whole passed =
       once = own_distinct f s l whole;
       defined = own_defined f s l whole passed;
       structs = absent.structs;
-      reexports = absent.reexports;
       idents = described_ident s l passed;
       apart = described_apart s l passed;
       exports = exports_built f s l whole;

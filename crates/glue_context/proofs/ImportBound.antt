@@ -1,11 +1,11 @@
 -- Each import that is listed with a name is bound under it, by an item of the import lines or by a vendor constant.
-use Rattle.glue_context.proofs.Common.{◌≡◌, ℕ, inl, inr, List, [], ◌∷◌, ◌++◌, Some, Bool, true, false, true≢false, refl, ap, sym, ◌∙◌, append-nil, subst, codes, bytes_eq, bytes_eq-Decides, filter_map, IsIn, Item, Imported, AreImportLines, vendor_items}
+use Rattle.glue_context.proofs.Common.{◌≡◌, ℕ, inl, inr, List, [], ◌∷◌, ◌++◌, Some, Bool, true, false, true≢false, refl, ap, sym, ◌∙◌, append-nil, subst, codes, bytes_eq, bytes_eq-Decides, filter_map, flat_map, map, IsIn, Item, Imported, AreImportLines, vendor_items}
 use Rattle.std.proofs.Common.{append_assoc, ◌⊎◌}
 use Rattle.std.specs.Fmt.{decimal}
 use Rattle.glue_words.specs.declared.word.Word.{Word}
 use Rattle.glue_words.specs.declared.word.Word.TheVariants as w
 use Rattle.glue_words.specs.declared.punct.TheConstants as punct
-use Rattle.glue_words.specs.Words.{space}
+use Rattle.glue_words.specs.Words.{line_feed, space}
 use Rattle.glue_shared.specs.declared.import.JsImportName.{JsImportName}
 use Rattle.glue_shared.specs.declared.import.JsImportName.TheVariants as js
 use Rattle.glue_targets.specs.Published.{entries_from, text_name, Enters, IsVendorConstant, BindsImport, IsImportBound}
@@ -13,13 +13,13 @@ use Rattle.glue_lines.specs.declared.form.LineForm.{LineForm}
 use Rattle.glue_lines.specs.declared.form.LineForm.TheVariants as form
 use Rattle.glue_lines.specs.Lines.{LineEntry, entry_with, next_entry, further_entries, entry_words, entries_words, end_words, import_words, import_line}
 use Rattle.glue_lines.specs.Grouped.{placed_entry, placed_entries, entries_of, local_path, inline_path}
-use Rattle.glue_lines.specs.Vendor.{vendor_names, vendor_constant}
+use Rattle.glue_lines.specs.Vendor.{closing_word, constant_words, tested_words, vendor_names, vendor_constant}
 use Rattle.glue_lines.proofs.GroupedFacts.{entry_stands}
 use Rattle.glue_lines.proofs.VendorFacts.{constant_holds, tried_names}
-use Rattle.glue_naming.specs.Imported.{is_outside}
 use Rattle.glue_check.proofs.Globals.{in_flat}
 use Rattle.glue_context.specs.ImportedItems.{vendor_item}
 use Rattle.glue_context.proofs.Entries.{in_filter_map}
+use Rattle.glue_published.specs.Reexports.{is_outside}
 
 -- ---- import lines
 
@@ -104,6 +104,26 @@ tried_all [] x at = absurd at
 tried_all (name ∷ names) x (inl same) = inl same
 tried_all (name ∷ names) x (inr at) = inr (inr (tried_all names x at))
 
+-- its words have no text but `undefined`
+abbrev HasNoTexts : List Word → Type 0
+HasNoTexts words = (text : List ℕ) → IsIn text (filter_map text_name words) → text ≡ codes "undefined"
+
+closing_texts : (names : List (List ℕ)) (rest : List Word) → filter_map text_name (map closing_word names ++ rest) ≡ filter_map text_name rest
+closing_texts [] rest = refl
+closing_texts (name ∷ names) rest = closing_texts names rest
+
+tested_texts : (names : List (List ℕ)) (rest : List Word) → HasNoTexts rest → HasNoTexts (flat_map tested_words names ++ rest)
+tested_texts [] rest none text at = none text at
+tested_texts (name ∷ names) rest none text (inl same) = same
+tested_texts (name ∷ names) rest none text (inr later) = tested_texts names rest none text later
+
+constant_texts : (bound : List ℕ) (names : List (List ℕ)) → HasNoTexts (constant_words bound names)
+constant_texts bound names text at =
+    let last : List Word = w.Host (codes "undefined") true ∷ map closing_word names in
+    let end : List Word = w.Punct punct.SEMICOLON ∷ line_feed ∷ [] in
+    tested_texts names (last ++ end) (λ text at. absurd (subst (IsIn text) (closing_texts names end) at)) text
+    (subst (λ (words : List Word). IsIn text (filter_map text_name words)) (append_assoc (flat_map tested_words names) last end) at)
+
 -- the constant of a name with prefixes tells which of its names is there
 pub constant_tells : (bound name : List ℕ) (prefixes : List (List ℕ))
     → IsVendorConstant (vendor_names name prefixes) bound (vendor_constant bound name prefixes)
@@ -114,6 +134,7 @@ constant_tells bound name prefixes =
       binds = holds.binds;
       only = λ x at. tried_only names x (subst (IsIn x) holds.hosts at);
       all = λ x at. subst (IsIn x) (sym holds.hosts) (tried_all names x at);
+      texts = constant_texts bound names;
     }
 
 -- ---- imports

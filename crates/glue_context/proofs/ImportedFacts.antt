@@ -22,12 +22,12 @@ use Rattle.glue_lines.proofs.GroupedFacts as grouped
 use Rattle.glue_lines.proofs.LineFacts.{entry_names, line_hosts, import_holds}
 use Rattle.glue_lines.proofs.Shown.{HoldsOnly}
 use Rattle.glue_lines.proofs.VendorFacts.{constant_belongs, constant_holds, tried_names}
-use Rattle.glue_naming.specs.Imported.{is_outside}
 use Rattle.glue_naming.specs.Listed.{names_drawn}
 use Rattle.glue_context.specs.Defined.{HoldsFunction}
 use Rattle.glue_context.specs.ImportedItems.{constant_of, vendor_item, vendor_items}
 use Rattle.glue_context.proofs.Lists.{all_joined}
 use Rattle.glue_context.proofs.ImportedNames.{each_kind, is_vendor_name, kind_distinct, kind_names, kinds_apart, names_of_kind, placed_are}
+use Rattle.glue_published.specs.Reexports.{is_outside}
 
 -- ---- an item that binds names of the outside
 

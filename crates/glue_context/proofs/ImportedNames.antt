@@ -7,10 +7,10 @@ use Rattle.glue_shared.specs.declared.import.JsImportName.{JsImportName}
 use Rattle.glue_shared.specs.declared.import.JsImportName.TheVariants as js
 use Rattle.glue_shared.specs.Names.{is_from_module}
 use Rattle.glue_check.specs.Omitted.{name_where}
-use Rattle.glue_naming.specs.Imported.{is_outside}
 use Rattle.glue_naming.specs.Listed.{names_drawn}
 use Rattle.glue_lines.specs.Lines.{LineEntry}
 use Rattle.glue_lines.specs.Grouped.{Imported, placed_entries}
+use Rattle.glue_published.specs.Reexports.{is_outside}
 
 -- the name has vendor prefixes
 abbrev pub is_vendor_name : JsImportName → Bool

@@ -3,7 +3,7 @@ use Rattle.glue_context.proofs.Common.{◌≡◌, ℕ, ◌+◌, ◌<◌, ◌==�
 use Rattle.std.specs.Prelude.{◌≤◌, ◌^◌, ◌&&◌, cond, Option}
 use Rattle.std.proofs.lemmas.{List.map-id, Bool.Decides.Decides-eqb, List.Sums.list_all-from_AllPass}
 use Rattle.values.proofs.Members.{in_left, in_right, in_either}
-use Rattle.glue_targets.specs.Published.{IsNamed, fixed_of}
+use Rattle.glue_targets.specs.Published.{IsImportBound, IsNamed, fixed_of}
 use Rattle.glue_targets.specs.RoleWords.{role_words}
 use Rattle.glue_targets.specs.Targets.{FixedText, Frame, frame_end, frame_start, frame_texts, module_name, own_path}
 use Rattle.glue_shared.specs.declared.import.Intrinsic.{Intrinsic}
@@ -32,6 +32,7 @@ use Rattle.glue_imports.specs.Intrinsics.{loaded_name}
 use Rattle.glue_targets.proofs.FixedTexts as fixed
 use Rattle.glue_targets.proofs.FixedTexts.{start_binds}
 use Rattle.glue_targets.proofs.FrameEnd.{module_names, own_name, end_bound, end_fixed, end_fits, end_hosts}
+use Rattle.glue_published.specs.Reexports.{Reexport, is_outside}
 use Rattle.glue_check.specs.Handed.{own_callees}
 use Rattle.glue_check.proofs.Globals.{described_host, from_flat, in_flat, more_hosts}
 use Rattle.glue_check.proofs.OwnPairs.{pair_kept}
@@ -41,7 +42,6 @@ use Rattle.glue_context.specs.FrameIn.{frame_in}
 use Rattle.glue_context.specs.Keys.{described_keys}
 use Rattle.glue_context.specs.Linked.{IsOneOf}
 use Rattle.glue_context.specs.Foreign.{has_strings, path_of}
-use Rattle.glue_naming.specs.Imported.{is_outside}
 use Rattle.glue_naming.specs.Listed.{names_drawn}
 use Rattle.glue_naming.specs.Naming.{import_name}
 use Rattle.glue_naming.specs.Pairs.{is_among, own_pairs}
@@ -50,13 +50,14 @@ use Rattle.glue_naming.proofs.CalledNames as called
 use Rattle.glue_naming.proofs.MappedLists.{from_map, in_map}
 use Rattle.glue_context.specs.Parts.{helper_parts}
 use Rattle.glue_context.proofs.{Declared.AreDrawn, Declared.all_apart, Declared.all_distinct, Declared.all_found, Declared.all_names, Declared.constants_first, Declared.first_among, Declared.first_names, Declared.frame_first, Declared.held_among, Declared.imports_first, Declared.lines_first, Declared.loading_bound, Declared.loading_first, Declared.modules_few, Declared.modules_idents, Declared.names_first, Declared.own_fixed, Declared.own_framed, Declared.own_names, Declared.own_no_hosts}
+use Rattle.glue_context.proofs.ImportBound.{import_bound_among}
 use Rattle.glue_context.proofs.ImportedFacts as imported
 use Rattle.glue_context.proofs.TreeFacts as published
 use Rattle.glue_naming.proofs.ItemNames.{names_with_added}
 use Rattle.glue_context.proofs.ExpressionFits.{IsBegunWell}
 use Rattle.glue_context.proofs.ExpressionNames.{HasBegun, HasName}
 use Rattle.glue_context.proofs.HandedParts.{entry_there}
-use Rattle.glue_context.proofs.{Facts.Facts, Facts.built, Facts.own_pair, Fits.names_with, Fits.AreWell, Fits.HasBasis, DefinedFacts.define_belongs, DefinedFacts.define_binds, DefinedFacts.define_exported, DefinedFacts.define_holds, DefinedFacts.define_role, Lists.arranged_from, Lists.moved_from, Lists.distinct_moved, Lists.all_are, Lists.flat_none, Lists.all_applied, Lists.all_kept, Lists.constants, Lists.each_among, Lists.each_any, Lists.each_at, Lists.each_item, Lists.each_line, Lists.front, Lists.given, Lists.declared_stands, Lists.imports, Lists.items_with, Lists.loading, Lists.none_given, Lists.with_held, Edited.item_exported, Edited.rewritten_exports, Paths.written_count}
+use Rattle.glue_context.proofs.{Facts.Facts, Facts.built, Facts.own_pair, Fits.names_with, Fits.AreWell, Fits.HasBasis, DefinedFacts.define_belongs, DefinedFacts.define_binds, DefinedFacts.define_exported, DefinedFacts.define_holds, DefinedFacts.define_role, Lists.arranged_from, Lists.moved_from, Lists.distinct_moved, Lists.all_are, Lists.flat_none, Lists.all_applied, Lists.all_kept, Lists.constants, Lists.each_among, Lists.each_any, Lists.each_at, Lists.each_item, Lists.each_line, Lists.front, Lists.given, Lists.declared_stands, Lists.imported_stands, Lists.imports, Lists.items_with, Lists.loading, Lists.none_given, Lists.with_held, Edited.item_exported, Edited.rewritten_exports, Paths.written_count}
 
 -- the three facts of items that a built description asks for
 pub record IsSound (s : Settings) (m : NameMap) (l : Lowered) (items : List Item) : Type 0 where
@@ -389,6 +390,29 @@ module _ (s : Settings) (m : NameMap) (l : Lowered) (items : List Item) (b : Fac
     items = n.items;
   }
 
+  -- ---- re-exports
+
+  -- what a re-export names is listed with a drawn name
+  reexport_listed : (r : Reexport) → IsIn r l.aux.reexports → (x : List ℕ) × (import_name m (r.1).name ≡ Some x) × IsIn ((r.1).name, x) (imports g)
+  reexport_listed r i = called.reexport_listed s l m n g.pairs sub has r i (published.no_outside s m l b n g.declares g.declared r i)
+
+  -- it stands among the first names
+  reexport_first : (r : Reexport) → IsIn r l.aux.reexports → (x : List ℕ) × (import_name m (r.1).name ≡ Some x) × IsIn x (first ++ free_names)
+  reexport_first r i =
+      let d = reexport_listed r i in
+      (d.0, d.1, drawn_first d.0 (in_map (λ (import : Imported). import.1) ((r.1).name, d.0) (imports g) d.2))
+
+  -- and an item binds it for the import
+  reexport_bound : (r : Reexport) → IsIn r l.aux.reexports → (x : List ℕ) × (import_name m (r.1).name ≡ Some x) × IsImportBound all (r.1).name x
+  reexport_bound r i =
+      let d = reexport_listed r i in (
+        d.0,
+        d.1,
+        import_bound_among form (imports g) g.lines g.imported all
+            (λ item k. imported_stands g g.helpers item (inl k)) (λ item k. imported_stands g g.helpers item (inr k))
+            s.omit_imports (r.1).name d.0 d.2 (published.no_outside s m l b n g.declares g.declared r i),
+      )
+
   -- ---- linkage
 
   -- what a drawn name's vendor brings are identifiers, and known
@@ -421,8 +445,8 @@ module _ (s : Settings) (m : NameMap) (l : Lowered) (items : List Item) (b : Fac
       (imported.lines_belong form (imports g) g.lines g.imported c drawn_idents (rw b.deno tt))
       (each_line (λ item. Belongs c item.words) 1 paths (λ n path less. foreign_belongs Es n path c (omega (arith, less, small)) tt))
       (imported.constants_belong form (imports g) g.lines g.imported c drawn_idents (known (codes "undefined" ∷ []) refl).0 (import_hosts c refl))
-      (published.tree_belongs s m l b n g.declares g.declared well c.declared basis
-      (there names (names_first s l.«module» paths held memory few g.numbered listed imported_names constant_names names)))
+      (published.items_belong s m l b n g.declares g.declared well c.declared basis
+      (there names (names_first s l.«module» paths held memory few g.numbered listed imported_names constant_names names)) reexport_first)
       (λ place item k x. define_belongs s m l well c.declared basis b.pair_steps place k (b.defined place k) item x)
       (belongs_by_facts c _ (fixed.start_fits c s.stem memory))
       (belongs_by_facts c _ (end_fits s.stem paths strings c (modules_idents 0 (own_path s.stem ∷ paths) (omega (arith, small)))
@@ -532,7 +556,7 @@ module _ (s : Settings) (m : NameMap) (l : Lowered) (items : List Item) (b : Fac
       (lines_so _ (λ item h. imported.import_named item h s l.aux all))
       (each_line _ 1 paths (λ n path less. tt))
       (constants_so _ (λ item h. imported.import_named item h s l.aux all))
-      (published.tree_named s m l b n g.declares g.declared well all (declared_stands g g.helpers))
+      (published.items_named s m l b n g.declares g.declared well all (declared_stands g g.helpers) reexport_bound)
       (λ place item k x. rw (define_role s m l place item x) tt) tt tt (held_so _ (λ entry. tt)) tt
 
   -- the glue file publishes no fixed name

@@ -11,6 +11,7 @@ use Rattle.glue_words.specs.declared.item.Thing.TheVariants as thing
 use Rattle.glue_words.specs.declared.word.Word.{Word}
 use Rattle.glue_words.proofs.Among.{among_in, among_left, apart_in}
 use Rattle.glue_shared.specs.declared.aux.AuxEnum.{AuxEnum}
+use Rattle.glue_shared.specs.declared.settings.Target.{Target}
 use Rattle.glue_shared.specs.Names.{is_none}
 use Rattle.glue_faults.proofs.After.{after-none}
 use Rattle.glue_faults.proofs.First.{option_map-none}
@@ -30,7 +31,7 @@ use Rattle.glue_public.specs.Described as public
 use Rattle.glue_public.specs.Described.{FunctionItems, Reexport, enum_name, lone_functions}
 use Rattle.glue_public.specs.Public.{ArePublic, IsCovered, IsDeclared}
 use Rattle.glue_public.proofs.TreeFacts.{public_items, tree_sound}
-use Rattle.glue_published.specs.Reexports.{has_members, is_bad_import, is_bad_reexport}
+use Rattle.glue_published.specs.Reexports.{has_members, is_bad_import, is_bad_reexport, is_outside}
 use Rattle.glue_published.specs.Things.{published_things, stands_alone}
 use Rattle.glue_exports.proofs.Joined.{from_filter}
 use Rattle.glue_naming.specs.declared.named.Named.TheVariants.{Import}
@@ -232,20 +233,24 @@ module _ (s : Settings) (m : NameMap) (l : Lowered) (b : Facts s l) (n : AreName
   abbrev pub ForReexports : (Reexport → List ℕ → Type 0) → Type 0
   ForReexports P = (r : Reexport) → IsIn r l.aux.reexports → (x : List ℕ) × (import_name m (r.1).name ≡ Some x) × P r x
 
-  -- nothing is re-exported yet
-  none_reexported : (P : Reexport → List ℕ → Type 0) → ForReexports P
-  none_reexported P r i = absurd (subst (IsIn r) b.reexports i)
-
   import_given : (r : Reexport) (x : List ℕ) → import_name m (r.1).name ≡ Some x → public.import_name m.imports (r.1).name ≡ x
   import_given r x h = rw h refl
 
-  -- it has no fields
-  whole : (r : Reexport) → IsIn r l.aux.reexports → (r.1).fields ≡ []
-  whole r i =
+  import_fits : (r : Reexport) → IsIn r l.aux.reexports → is_bad_import s r.1 ≡ false
+  import_fits r i =
       let members = has_members (published_things s l.aux) in
       let fit = after-none (is_bad_reexport s members) [] l.aux.reexports r (option_map-none _ _ b.reexported) i in
-      let bad = (or_parts (is_bad_import s r.1) _ fit.1).0 in
-      no_items (r.1).fields (or_parts (not (is_none (r.1).fields)) _ bad).0
+      (or_parts (is_bad_import s r.1) _ fit.1).0
+
+  -- it has no fields
+  whole : (r : Reexport) → IsIn r l.aux.reexports → (r.1).fields ≡ []
+  whole r i = no_items (r.1).fields (or_parts (not (is_none (r.1).fields)) _ (import_fits r i)).0
+
+  -- and it is no name of the host
+  pub no_outside : (r : Reexport) → IsIn r l.aux.reexports → is_outside s.omit_imports (r.1).name ≡ false
+  no_outside r i =
+      let unbound = (or_parts (not (is_none (r.1).fields)) _ (import_fits r i)).1 in
+      subst (λ (t : Target). (is_es_module t && is_outside s.omit_imports (r.1).name) ≡ false) b.deno unbound
 
   module _ (well : AreWell s l m) where
     -- ---- declarations
@@ -348,11 +353,6 @@ module _ (s : Settings) (m : NameMap) (l : Lowered) (b : Facts s l) (n : AreName
           subst (λ (items : List Item). AllItems (λ item. Belongs c item.words) items) (sym d.are)
           (printed_belong c m.namespaces [] d.tree has_tree (is_tree s m l b n declares d))
 
-    -- the same where nothing is re-exported
-    pub tree_belongs : (names : List (List ℕ)) → HasBasis s l m names → AreAmong (bound_names declares) names
-        → AllItems (λ item. Belongs (names_with s l names) item.words) declares
-    tree_belongs names basis among = items_belong names basis among (none_reexported (λ r x. IsIn x names))
-
     -- ---- what their roles ask for
 
     module _ (all : List Item) (among : (item : Item) → IsIn item declares → IsIn item all) where
@@ -405,7 +405,3 @@ module _ (s : Settings) (m : NameMap) (l : Lowered) (b : Facts s l) (n : AreName
             subst (λ (items : List Item). AllItems (λ item. IsNamed s l.aux all item.role) items) (sym d.are)
             (each_item (λ item. IsNamed s l.aux all item.role) printed (λ item i.
             named_for item.role (printed_named m.namespaces [] d.tree (is_tree s m l b n declares d) sound item i)))
-
-      -- the same where nothing is re-exported
-      pub tree_named : AllItems (λ item. IsNamed s l.aux all item.role) declares
-      tree_named = items_named (none_reexported (λ r x. IsImportBound all (r.1).name x))

@@ -79,7 +79,7 @@ pub record AreTreeItems (s : Settings) (m : NameMap) (l : Lowered) (items : List
   pub put : ArePut (described l.aux m functions) [] tree
   pub are : items ≡ tree_items m.namespaces [] tree
 
--- the groups of items up to loading, but for helpers, where own imports have these places and call these, and this is what the frame goes by
+-- the groups of items up to loading, but for helpers, where own imports have these places, these are called or re-exported, and this is what the frame goes by
 pub record AreGroups (s : Settings) (m : NameMap) (l : Lowered) (places : List ℕ) (called : List Imported) (frame : Frame)
     (groups : List (List Item)) : Type 0 where
   pub lines : List Item
@@ -92,9 +92,9 @@ pub record AreGroups (s : Settings) (m : NameMap) (l : Lowered) (places : List �
   pub are : groups ≡ front_groups s.stem frame lines (vendor_items called) declares defines
 
 -- the items that settings and a description ask for, where these names are drawn: what is published stands by path, the definitions
--- of own imports by the import's name and then by its place; what the adapters of own imports call that is no name of the host is bound: import lines
--- stand by module, their entries and the vendor constants in the order in which they are first called, by the import's name and then by the
--- adapter's id; the helpers are those for which the items before them ask, and those for which these ask
+-- of own imports by the import's name and then by its place; what the adapters of own imports call and re-exports name that is no name of the
+-- host is bound: import lines stand by module, their entries and the vendor constants in the order in which they are first called, by the
+-- import's name and then by the adapter's id, and behind that by the names of the re-exports; the helpers are those for which the items before them ask, and those for which these ask
 pub record IsGlue (settings : Settings) (m : NameMap) (l : Lowered) (items : List Item) : Type 0 where
   pub pairs : List (ImportId × ℕ)
   pub by_import : IsArranged (pair_order l) (own_pairs settings l) pairs

@@ -1,8 +1,8 @@
 //! The items of the glue file, what is changed in its module, and the theorem that both are linked.
 //!
-//! `glue_items` puts the groups together: the lines that import what own imports call of described modules, a line for each import that the
-//! glue file doesn't define, which takes the import's module whole, the constants of vendors' names, a declaration for each described export,
-//! by name, and behind it the clause that publishes it where its function has another name, the frame with a definition for each own import,
+//! `glue_items` puts the groups together: the lines that import what own imports call and re-exports name of described modules, a line for
+//! each import that the glue file doesn't define, which takes the import's module whole, the constants of vendors' names, the items of the
+//! description's export tree, by path, the frame with a definition for each own import,
 //! by the import's name, which hands foreign modules on, the helpers for which the other items ask, and loading (`all_items` of
 //! `specs/Items.antt`). Promised: the items are those of the definition `IsGlue`, and want of memory is the only error, where the check has
 //! found steps for each adapter (`proofs/Facts.antt`) and the function of each export was given a name (`named` of `draw_names` in
