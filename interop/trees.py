@@ -1,8 +1,8 @@
 #!/usr/bin/env python3
 """Makes glue files of modules that publish random trees, and has node load them: trees.py [COUNT [SEED [FOLDER]]]
 
-A tree has functions, enums, private ones too, and, in a few trees, re-exports of modules that this script writes beside the
-glue file, at paths of up to six names. Names are reserved words, names of the host and of helpers, texts that are no identifiers, and
+A tree has functions, enums, private ones too, and re-exports of modules that this script writes beside the glue file, at
+paths of up to six names. Names are reserved words, names of the host and of helpers, texts that are no identifiers, and
 letters of several scripts. trees.mjs compares what `import` sees with the tree: the names of each level, what each function
 returns, the numbers and names of each enum, and each re-exported value by identity, with what it held before and what is put
 into it.
@@ -106,8 +106,6 @@ def share_members(one, other, things):
 def verdict(things):
     """The fault of a description that publishes these, nothing where it has none. The first one decides."""
     reexports = [thing for thing in things if thing.kind == "reexport"]
-    if reexports:
-        return "NotBuilt"
     if any(map(has_bad_name, things)):
         return "BadName"
     if any(itertools.starmap(clash, itertools.combinations(things, 2))):
@@ -209,6 +207,14 @@ class Maker:
         js, source = self.import_of(below)
         return Thing("reexport", path, {"js": js, "from": source})
 
+    def reexports(self, things):
+        """Re-exports under the names of some namespaces, and one under another name."""
+        tops = {thing.path[0] for thing in things}
+        roots = sorted({thing.path[0] for thing in things if len(thing.path) > 1})
+        others = sorted(set(self.pool) - tops)
+        names = self.rng.sample(roots, self.rng.randint(0, len(roots))) + self.rng.sample(others, min(1, len(others)))
+        return [self.reexport([key], things) for key in names]
+
     def spoil(self, things):
         """One more thing, or a name, or an import, that may be one that can't stand."""
         one = self.rng.choice(things)
@@ -238,17 +244,10 @@ class Maker:
         """What one description publishes, in any order."""
         paths = list(itertools.islice(self.level([], DEPTH), MOST))
         things = [self.leaf(path) for path in paths]
-        roots = sorted({path[0] for path in paths if len(path) > 1})
-        tops = {path[0] for path in paths}
-        for key in self.rng.sample(roots, self.rng.randint(0, len(roots))):
-            things.append(self.reexport([key], things))
-        if self.rng.random() < 0.5 and set(self.pool) - tops:
-            things.append(self.reexport([self.rng.choice(sorted(set(self.pool) - tops))], things))
+        if self.rng.random() < 0.5:
+            things += self.reexports(things)
         if self.rng.random() < 0.35:
             self.spoil(things)
-        # re-exports aren't built yet: a few trees keep theirs, and are refused
-        if self.rng.random() < 0.95:
-            things = [thing for thing in things if thing.kind != "reexport"]
         self.rng.shuffle(things)
         return own_names(things)
 

@@ -25,6 +25,7 @@ function showAll(published) {
     console.log(`Error(3) gives ${Error(3)}`);
     console.log(`Unit[25] is ${Unit[25]}`);
     console.log(`heap(65535) gives ${heap(65535)}`);
+    console.log(`kit.deep.half(9) gives ${kit.deep.half(9)}`);
     console.log(`kit.deep.thrice(9) gives ${kit.deep.thrice(9)}`);
     console.log(`kit.twice(9) gives ${kit.twice(9)}`);
     console.log(`shapes.area(3, 4) gives ${shapes.area(3, 4)}`);

@@ -36,6 +36,12 @@ const PLACES: &[Place] = &[
         takes_proto: false,
     },
     Place {
+        keys: r#""exports":[{"adapter":0,"kind":"function","namespace":["n"],"name":"NAME"}]"#,
+        identifier: "function n__NAME() {..}\nexport const n = {};\nn.NAME = n__NAME;\n",
+        other: "function n__JOINED() {..}\nexport const n = {};\nn[LITERAL] = n__JOINED;\n",
+        takes_proto: false,
+    },
+    Place {
         keys: r#""enums":[{"name":"NAME"}]"#,
         identifier: "/**\n * @enum {}\n */\nexport const NAME = Object.freeze({\n});\n",
         other: "/**\n * @enum {}\n */\nconst DRAWN = Object.freeze({\n});\nexport { DRAWN as LITERAL };\n",
@@ -45,6 +51,24 @@ const PLACES: &[Place] = &[
         keys: r#""enums":[{"name":"E","variants":[["NAME",1,""]]}]"#,
         identifier: "/**\n * @enum {1}\n */\nexport const E = Object.freeze({\n    NAME: 1, \"1\": \"NAME\",\n});\n",
         other: "BadName { name: Text { string: LITERAL } }",
+        takes_proto: false,
+    },
+    Place {
+        keys: r#""reexports":[{"name":"NAME","js":{"module":"./m.js","name":"v"}}]"#,
+        identifier: "import { v } from \"./m.js\";\nexport { v as NAME };\n",
+        other: "import { v } from \"./m.js\";\nexport { v as LITERAL };\n",
+        takes_proto: false,
+    },
+    Place {
+        keys: r#""reexports":[{"name":"r","js":{"module":"./m.js","name":"NAME"}}]"#,
+        identifier: "import { NAME } from \"./m.js\";\nexport { NAME as r };\n",
+        other: "import { LITERAL as DRAWN } from \"./m.js\";\nexport { DRAWN as r };\n",
+        takes_proto: true,
+    },
+    Place {
+        keys: r#""reexports":[{"name":"r","js":{"module":"./m.js","name":"v"}}],"exports":[{"adapter":0,"kind":"function","namespace":["r","NAME"],"name":"g"}]"#,
+        identifier: "import { v } from \"./m.js\";\nfunction r__NAME__g() {..}\nv.NAME ||= {};\nv.NAME.g = r__NAME__g;\nexport { v as r };\n",
+        other: "import { v } from \"./m.js\";\nfunction r__JOINED__g() {..}\nv[LITERAL] ||= {};\nv[LITERAL].g = r__JOINED__g;\nexport { v as r };\n",
         takes_proto: false,
     },
     Place {

@@ -96,3 +96,50 @@ n.E = n__E;
 fn an_enum_is_a_frozen_object(rt: HostRuntime) -> Result<(), Fail> {
     assert_rows(&rt, rt.alloc(), ENUMS)
 }
+
+// What is published below a re-export is put into the value.
+const MERGED: &str = r#"import { v } from "./m.js";
+function ns__deep__g() {..}
+function ns__f() {..}
+v.deep ||= {};
+v.deep.g = ns__deep__g;
+v.f = ns__f;
+export { v as ns };
+"#;
+
+const REEXPORTS: &[Row] = &[
+    // A namespace of its name may be described before it and behind it.
+    (
+        r#""exports":[{"adapter":0,"kind":"function","namespace":["ns"],"name":"f"},
+{"adapter":1,"kind":"function","namespace":["ns","deep"],"name":"g"}],"reexports":[{"name":"ns","js":{"module":"./m.js","name":"v"}}]"#,
+        MERGED,
+    ),
+    (
+        r#""reexports":[{"name":"ns","js":{"module":"./m.js","name":"v"}}],"exports":[
+{"adapter":1,"kind":"function","namespace":["ns","deep"],"name":"g"},{"adapter":0,"kind":"function","namespace":["ns"],"name":"f"}]"#,
+        MERGED,
+    ),
+    // Imports of each sort, one of them twice. Names are drawn by the published names, behind that of the function.
+    (
+        r#""exports":[{"adapter":0,"kind":"function","name":"v"}],"reexports":[{"name":"v5","js":{"vendor":"v","prefixes":["moz"]}},
+{"name":"v4","js":{"inline":"krate","index":1,"name":"v"}},{"name":"v3","js":{"local":"l.js","name":"v"}},
+{"name":"v2","js":{"module":"./m.js","name":"v"}},{"name":"v1","js":{"module":"./m.js","name":"v"}}]"#,
+        r#"import { v as v3 } from "./m.js";
+import { v as v5 } from "./snippets/krate/inline1.js";
+import { v as v4 } from "./snippets/l.js";
+const lv = (typeof v !== "undefined" ? v : (typeof mozv !== "undefined" ? mozv : undefined));
+function v2() {..}
+export { v2 as v };
+export { v3 as v1 };
+export { v3 as v2 };
+export { v4 as v3 };
+export { v5 as v4 };
+export { lv as v5 };
+"#,
+    ),
+];
+
+#[test]
+fn a_re_export_publishes_a_value_and_what_is_put_into_it(rt: HostRuntime) -> Result<(), Fail> {
+    assert_rows(&rt, rt.alloc(), REEXPORTS)
+}
