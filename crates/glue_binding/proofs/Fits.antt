@@ -4,11 +4,11 @@ use Rattle.std.proofs.lemmas.Bool.{and_parts}
 use Rattle.std.specs.Prelude.{◌&&◌, codes}
 use Rattle.std.specs.List.{list_all}
 use Rattle.glue_words.specs.Ident.{is_ident}
-use Rattle.glue_words.proofs.Idents.{ascii_ident}
+use Rattle.glue_words.proofs.Idents.{ascii_ident, ascii_prop}
 use Rattle.glue_tree.specs.Term.{Lines, NoLines}
 use Rattle.glue_tree.proofs.Fit.{fit, all_fit, line_fit, lines_fit}
 use Rattle.glue_steps.specs.declared.step.Step.{Step}
-use Rattle.glue_binding.specs.Spelling.{Plain, Missing, Local, Unsigned, term_of, terms, Piece, Ahead, Cleanup, pieces_of, nested, tree_of, temporaries}
+use Rattle.glue_binding.specs.Spelling.{Plain, Missing, Local, Unsigned, NotZero, term_of, terms, Piece, Ahead, Cleanup, pieces_of, nested, tree_of, temporaries}
 use Rattle.glue_binding.proofs.Each.{Each}
 use Rattle.glue_binding.proofs.Standing.{IsNamed, step_fit, fitting, steps_each, run_stands, bound_stands}
 use Rattle.glue_binding.proofs.Rowwise.{IsRowwise, AllHave, pieces_have}
@@ -25,6 +25,7 @@ plain_fit : (p : Plain) → IsNamed p → fit (term_of p) ≡ true
 plain_fit Missing h = refl
 plain_fit (Local name) h = h
 plain_fit (Unsigned p) h = and_true _ _ (plain_fit p h) refl
+plain_fit (NotZero p) h = and_true _ _ (plain_fit p h) refl
 
 terms_fit : (ps : List Plain) → Each IsNamed ps → all_fit (terms ps) ≡ true
 terms_fit [] h = refl
@@ -35,12 +36,15 @@ fits = record {
   missing = tt;
   local = λ x h. h;
   unsigned = λ p h. h;
+  not_zero = λ p h. h;
   ends = λ p h. plain_fit p h;
   export_runs = λ name n f args h. terms_fit args h;
   export_binds = λ name n f x d args h. and_true _ _ d (terms_fit args h);
   import_runs = λ adapter n e f locals c l args h. run_stands e (fitting e f) locals c l args h;
   import_binds = λ adapter n e f locals c l x d args h. bound_stands e (fitting e f) locals c l args h x d;
-  takes = λ f x d p h. and_true _ _ d (rw (ascii_ident (codes "takeObject") refl) (terms_fit (p ∷ []) (h, tt)));
+  reads = λ f x d p h. and_true _ _ d (and_true _ _ (rw (ascii_ident (codes "BigInt") refl, ascii_prop (codes "asUintN") refl) refl)
+      (terms_fit (p ∷ []) (h, tt)));
+  calls = λ helper n f x d args h. and_true _ _ d (and_true _ _ f (terms_fit args h));
   borrows = λ f x d p h. and_true _ _ d (rw (ascii_ident (codes "addBorrowedObject") refl)
       (terms_fit (p ∷ []) (h, tt)));
   gives_back = λ f. rw (
@@ -49,8 +53,8 @@ fits = record {
     ascii_ident
         (codes "undefined") refl,
   ) refl;
-  throws = λ f p q h k. and_true _ _ (plain_fit p h) (and_true _ _
-      (rw (ascii_ident (codes "takeObject") refl) (terms_fit (q ∷ []) (k, tt))) refl);
+  throws = λ helper f p q h k. and_true _ _ (plain_fit p h) (and_true _ _
+      (and_true _ _ f (terms_fit (q ∷ []) (k, tt))) refl);
 }
 
 nested_fit : (pieces : List Piece) (rest : Lines) → AllHave (λ l. line_fit l ≡ true) pieces → lines_fit rest ≡ true

@@ -18,8 +18,8 @@ use Rattle.glue_imports.specs.declared.part.Expression.{Expression}
 use Rattle.glue_binding.proofs.Parts.{parts_found}
 use Rattle.glue_steps.specs.Stack.{top, below, operands, without}
 use Rattle.glue_steps.specs.declared.step.Step.{Step}
-use Rattle.glue_steps.specs.declared.step.Step.TheVariants.{Parameter, Unchanged, CallExport, CallImport, ToUnsigned, TakeIndex, IndexFromBorrow, UnwrapResult}
-use Rattle.glue_binding.specs.Spelling.{Plain, Missing, Local, Unsigned, term_of, terms, first, next_names, parts_words, import_line_words, Piece, Ahead, Cleanup, ending, import_row, row, pieces_of, nested, tree_of}
+use Rattle.glue_steps.specs.declared.step.Step.TheVariants.{Parameter, Unchanged, CallExport, CallImport, ToUnsigned, IsNotZero, ToUnsigned64, CallHelper, IndexFromBorrow, UnwrapResult}
+use Rattle.glue_binding.specs.Spelling.{Plain, Missing, Local, Unsigned, NotZero, term_of, terms, first, next_names, parts_words, import_line_words, Piece, Ahead, Cleanup, ending, import_row, row, pieces_of, nested, tree_of}
 use Rattle.glue_binding.specs.Outer.{outer_in, seed_words}
 
 -- operands have no names of a kind that locals have none of
@@ -28,6 +28,7 @@ pub plain_none : (kind : Word → Option (List ℕ)) → ((name : List ℕ) → 
 plain_none kind h Missing = refl
 plain_none kind h (Local name) = rw (h name) refl
 plain_none kind h (Unsigned p) = ap (filter_map kind) (append-nil (leaves (term_of p))) ∙ plain_none kind h p
+plain_none kind h (NotZero p) = ap (filter_map kind) (append-nil (leaves (term_of p))) ∙ plain_none kind h p
 
 pub terms_none : (kind : Word → Option (List ℕ)) → ((name : List ℕ) → kind (w.Local name) ≡ None) → (ps : List Plain)
     → filter_map kind (leaves_of (terms ps)) ≡ []
@@ -74,9 +75,11 @@ row_many (CallImport adapter i has_result e) p t p' t' n n' h =
     let k = length e.locals in
     called_many adapter i has_result e (next_names k n) (next_names k n') t t' (without k n) (without k n') h
 row_many ToUnsigned p t p' t' n n' h = below_many t t' h
-row_many TakeIndex p t p' t' n n' h = below_many t t' h
+row_many IsNotZero p t p' t' n n' h = below_many t t' h
+row_many ToUnsigned64 p t p' t' n n' h = below_many t t' h
+row_many (CallHelper helper i) p t p' t' n n' h = without_many i t t' h
 row_many IndexFromBorrow p t p' t' n n' h = below_many t t' h
-row_many UnwrapResult p t p' t' n n' h = without_many 2 t t' h
+row_many (UnwrapResult helper) p t p' t' n n' h = without_many 2 t t' h
 
 module _ (kind : Word → Option (List ℕ)) (outer : IsOuter kind) where
   abbrev found : List Word → List (List ℕ)
@@ -124,10 +127,9 @@ module _ (kind : Word → Option (List ℕ)) (outer : IsOuter kind) where
   bound_same e a b ls ms ps qs = beside (parts_same e.prelude ls ms ps qs)
       (kept (w.Key 8) (kept space (bind a b (kept space (kept (w.Punct 14) (kept space (value_same e.value ls ms ps qs)))))))
 
-  -- `helper(p)`
-  helper_same : (key : List ℕ) (p q : Plain) → Alike (w.Refer key false ∷ leaves_of (terms (p ∷ [])))
-      (w.Refer key false ∷ leaves_of (terms (q ∷ [])))
-  helper_same key p q = kept (w.Refer key false) (passed (p ∷ []) (q ∷ []))
+  -- `helper(args)`
+  helper_same : (key : List ℕ) (ps qs : List Plain) → Alike (w.Refer key false ∷ leaves_of (terms ps)) (w.Refer key false ∷ leaves_of (terms qs))
+  helper_same key ps qs = kept (w.Refer key false) (passed ps qs)
 
   -- the same pieces, but for the locals
   abbrev AllAlike : List Piece → List Piece → Type 0
@@ -161,19 +163,24 @@ module _ (kind : Word → Option (List ℕ)) (outer : IsOuter kind) where
       let k = length e.locals in
       called_same adapter i has_result e (next_names k n) (next_names k n') t t' (without k n) (without k n')
   row_same ToUnsigned p t p' t' n n' = tt
-  row_same TakeIndex p t p' t' n n' = (
-    bind (first n) (first n')
-        (helper_same (codes "takeObject") (top Missing t) (top Missing t')),
+  row_same IsNotZero p t p' t' n n' = tt
+  row_same ToUnsigned64 p t p' t' n n' = (
+    bind (first n) (first n') (kept (w.Host (codes "BigInt") false) (kept (w.Prop (codes "asUintN"))
+        (passed (top Missing t ∷ []) (top Missing t' ∷ [])))),
+    tt,
+  )
+  row_same (CallHelper helper i) p t p' t' n n' = (
+    bind (first n) (first n') (helper_same helper (operands Missing i t []) (operands Missing i t' [])),
     tt,
   )
   row_same IndexFromBorrow p t p' t' n n' = (
     bind (first n) (first n')
-        (helper_same (codes "addBorrowedObject") (top Missing t) (top Missing t')),
+        (helper_same (codes "addBorrowedObject") (top Missing t ∷ []) (top Missing t' ∷ [])),
     (equal _, tt),
   )
-  row_same UnwrapResult p t p' t' n n' = (
+  row_same (UnwrapResult helper) p t p' t' n n' = (
     beside (operand (top Missing t) (top Missing t'))
-        (beside (helper_same (codes "takeObject") (top Missing (below t)) (top Missing (below t'))) (equal [])),
+        (beside (helper_same helper (top Missing (below t) ∷ []) (top Missing (below t') ∷ [])) (equal [])),
     tt,
   )
 

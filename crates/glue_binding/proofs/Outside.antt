@@ -27,8 +27,8 @@ use Rattle.glue_tree.proofs.Names.{IsKind, Has, function_names}
 use Rattle.glue_tree.proofs.Functions.{local_kind, local_bound_kind}
 use Rattle.glue_steps.specs.Stack.{top, below, item_at, operands, without}
 use Rattle.glue_steps.specs.declared.step.Step.{Step}
-use Rattle.glue_steps.specs.declared.step.Step.TheVariants.{Parameter, Unchanged, CallExport, CallImport, ToUnsigned, TakeIndex, IndexFromBorrow, UnwrapResult}
-use Rattle.glue_binding.specs.Spelling.{Plain, Missing, Local, Unsigned, term_of, terms, plain_words, guarded_words, argument_words, arguments_words, next_names, part_words, parts_words, start_words, import_line_words, Piece, Ahead, Cleanup, ending, import_row, pieces_of, nested, tree_of, result_of, counted, wanted_from, temporaries}
+use Rattle.glue_steps.specs.declared.step.Step.TheVariants.{Parameter, Unchanged, CallExport, CallImport, ToUnsigned, IsNotZero, ToUnsigned64, CallHelper, IndexFromBorrow, UnwrapResult}
+use Rattle.glue_binding.specs.Spelling.{Plain, Missing, Local, Unsigned, NotZero, term_of, terms, is_comparison, word_if, plain_words, guarded_words, argument_words, arguments_words, next_names, part_words, parts_words, start_words, import_line_words, Piece, Ahead, Cleanup, ending, import_row, pieces_of, nested, tree_of, result_of, counted, wanted_from, temporaries}
 use Rattle.glue_binding.proofs.Each.{Each, each_by, each_there, each_item, each_below}
 use Rattle.glue_binding.proofs.Coming.{next_count, next_rest, first_enough, left_exact}
 use Rattle.glue_binding.proofs.Standing.{part_good, expression_fits, step_fit, fitting, fitting_good, steps_each, prelude_places, value_places}
@@ -40,11 +40,12 @@ use Rattle.glue_binding.proofs.Outer.{IsOuter, plain_none, terms_none}
 abbrev pub outside_words : Step → List Word
 outside_words (CallExport name n has_result) = w.Refer (codes "wasm") false ∷ w.Wasm name ∷ []
 outside_words (CallImport adapter n has_result e) = outer_expression e
-outside_words TakeIndex = w.Refer (codes "takeObject") false ∷ []
+outside_words ToUnsigned64 = w.Host (codes "BigInt") false ∷ w.Prop (codes "asUintN") ∷ []
+outside_words (CallHelper helper n) = w.Refer helper false ∷ []
 outside_words IndexFromBorrow =
     w.Refer (codes "addBorrowedObject") false ∷ w.Refer (codes "heap") false ∷ w.Refer (codes "stack_pointer") false
     ∷ w.Host (codes "undefined") false ∷ []
-outside_words UnwrapResult = w.Refer (codes "takeObject") false ∷ []
+outside_words (UnwrapResult helper) = w.Refer helper false ∷ []
 outside_words other = []
 
 -- those of steps, in order
@@ -81,11 +82,13 @@ module _ (kind : Word → Option (List ℕ)) (is : IsKind kind) where
     OfPlain Missing = Unit {0}
     OfPlain (Local name) = Holds (w.Local name ∷ [])
     OfPlain (Unsigned p) = OfPlain p
+    OfPlain (NotZero p) = OfPlain p
 
     plain_holds : (p : Plain) → OfPlain p → Holds (leaves (term_of p))
     plain_holds Missing h = none
     plain_holds (Local name) h = h
     plain_holds (Unsigned p) h = merge (plain_holds p h) none
+    plain_holds (NotZero p) h = merge (plain_holds p h) none
 
     terms_hold : (ps : List Plain) → Each OfPlain ps → Holds (leaves_of (terms ps))
     terms_hold [] h = none
@@ -112,18 +115,27 @@ module _ (kind : Word → Option (List ℕ)) (is : IsKind kind) where
     parens_hold : {words : List Word} → Holds words → Holds (parenthesised words)
     parens_hold h = merge (mark 2) (merge h (mark 3))
 
+    -- a word of punctuation, where it stands, and the number 0
+    mark_if : (b : Bool) (place : ℕ) → Holds (word_if b (w.Punct place))
+    mark_if true place = mark place
+    mark_if false place = none
+
+    zero : Holds (w.Num (pos 0) ∷ [])
+    zero = record { among = rw (is.num (pos 0)) tt }
+
     -- operands of an import, in parentheses or not, and as arguments
     operand_holds : (p : Plain) → OfPlain p → Holds (plain_words p)
     operand_holds Missing h = record { among = rw (is.key 27) tt }
     operand_holds (Local name) h = h
     operand_holds (Unsigned p) h =
-        let zero : Holds (w.Num (pos 0) ∷ []) = record { among = rw (is.num (pos 0)) tt } in
-        merge (operand_holds p h) (merge gap (merge (mark 38) (merge gap zero)))
+        merge (mark_if (is_comparison p) 2) (merge (operand_holds p h) (merge (mark_if (is_comparison p) 3) (merge gap (merge (mark 38) (merge gap zero)))))
+    operand_holds (NotZero p) h = merge (operand_holds p h) (merge gap (merge (mark 18) (merge gap zero)))
 
     guarded_holds : (p : Plain) → OfPlain p → Holds (guarded_words p)
     guarded_holds Missing h = operand_holds Missing h
     guarded_holds (Local name) h = operand_holds (Local name) h
     guarded_holds (Unsigned p) h = parens_hold (operand_holds (Unsigned p) h)
+    guarded_holds (NotZero p) h = parens_hold (operand_holds (NotZero p) h)
 
     argument_holds : (spread : Bool) (p : Plain) → OfPlain p → Holds (argument_words spread p)
     argument_holds true p h = merge (mark 12) (parens_hold (operand_holds p h))
@@ -230,6 +242,7 @@ module _ (kind : Word → Option (List ℕ)) (is : IsKind kind) where
       missing = tt;
       local = λ x h. h.used;
       unsigned = λ p h. h;
+      not_zero = λ p h. h;
       ends = λ p h. plain_holds p h;
       export_runs = λ name n f args h. merge f.0 (terms_hold args h);
       export_binds = λ name n f x d args h. merge d.declared (merge f.0 (terms_hold args h));
@@ -237,11 +250,12 @@ module _ (kind : Word → Option (List ℕ)) (is : IsKind kind) where
           above_holds e locals args (known_parts adapter n false e locals c l f.1) f.0 h [] none;
       import_binds = λ adapter n e f locals c l x d args h.
           above_holds e locals args (known_parts adapter n true e locals c l f.1) f.0 h (const_start x) (start_holds x d);
-      takes = λ f x d p h. merge d.declared (merge f.0 (terms_hold (p ∷ []) (h, tt)));
+      reads = λ f x d p h. merge d.declared (merge f.0 (terms_hold (p ∷ []) (h, tt)));
+      calls = λ helper n f x d args h. merge d.declared (merge f.0 (terms_hold args h));
       borrows = λ f x d p h. merge d.declared (merge (split (w.Refer (codes "addBorrowedObject") false ∷ []) _ f.0).0
           (terms_hold (p ∷ []) (h, tt)));
       gives_back = λ f. (split (w.Refer (codes "addBorrowedObject") false ∷ []) _ f.0).1;
-      throws = λ f p q h k. merge (plain_holds p h) (merge (merge f.0 (terms_hold (q ∷ []) (k, tt))) none);
+      throws = λ helper f p q h k. merge (plain_holds p h) (merge (merge f.0 (terms_hold (q ∷ []) (k, tt))) none);
     }
 
     nested_holds : (pieces : List Piece) (rest : Lines) → AllHave (λ l. Holds (line_leaves l)) pieces
@@ -430,10 +444,16 @@ pieces_declare (CallImport adapter n has_result e ∷ steps) params stack names 
     (λ stack names c. pieces_declare steps params stack names count g.1 c)
     ∙ next_rest k names (first_enough e.locals (result_of has_result ++ rest) names (omega (arith, wanted)))
 pieces_declare (ToUnsigned ∷ steps) params stack names count g e = pieces_declare steps params _ names count g.1 e
-pieces_declare (TakeIndex ∷ steps) params stack [] count g e = absurd (omega (arith, e))
-pieces_declare (TakeIndex ∷ steps) params stack (x ∷ names) count g e =
+pieces_declare (IsNotZero ∷ steps) params stack names count g e = pieces_declare steps params _ names count g.1 e
+pieces_declare (ToUnsigned64 ∷ steps) params stack [] count g e = absurd (omega (arith, e))
+pieces_declare (ToUnsigned64 ∷ steps) params stack (x ∷ names) count g e =
     ap (λ (ns : List (List ℕ)). x ∷ ns) (after_none (leaves_of (terms (top Missing stack ∷ []))) _ names
-    (terms_declare (top Missing stack ∷ [])) (pieces_declare steps params _ names (counted TakeIndex count) g.1
+    (terms_declare (top Missing stack ∷ [])) (pieces_declare steps params _ names (counted ToUnsigned64 count) g.1
+    (omega (arith, e))))
+pieces_declare (CallHelper helper n ∷ steps) params stack [] count g e = absurd (omega (arith, e))
+pieces_declare (CallHelper helper n ∷ steps) params stack (x ∷ names) count g e =
+    ap (λ (ns : List (List ℕ)). x ∷ ns) (after_none (leaves_of (terms (operands Missing n stack []))) _ names
+    (terms_declare (operands Missing n stack [])) (pieces_declare steps params _ names (counted (CallHelper helper n) count) g.1
     (omega (arith, e))))
 pieces_declare (IndexFromBorrow ∷ steps) params stack [] count g e = absurd (omega (arith, e))
 pieces_declare (IndexFromBorrow ∷ steps) params stack (x ∷ names) count g e =
@@ -441,11 +461,11 @@ pieces_declare (IndexFromBorrow ∷ steps) params stack (x ∷ names) count g e 
     (terms_declare (top Missing stack ∷ []))
     (append-nil (declared_in (pieces_of steps params (Local x ∷ below stack) names))
     ∙ pieces_declare steps params (Local x ∷ below stack) names (counted IndexFromBorrow count) g.1 (omega (arith, e))))
-pieces_declare (UnwrapResult ∷ steps) params stack names count g e =
+pieces_declare (UnwrapResult helper ∷ steps) params stack names count g e =
     let flag = leaves (term_of (top Missing stack)) in
     let handle = leaves_of (terms (top Missing (below stack) ∷ [])) in
-    after_none (flag ++ ((w.Refer (codes "takeObject") false ∷ handle) ++ [])) _ names
-    (two_declared flag ((w.Refer (codes "takeObject") false ∷ handle) ++ [])
+    after_none (flag ++ ((w.Refer helper false ∷ handle) ++ [])) _ names
+    (two_declared flag ((w.Refer helper false ∷ handle) ++ [])
     ∙ after_none flag _ [] (plain_none local_bound_name (λ n. refl) (top Missing stack))
     (ap local_bound_in (append-nil handle) ∙ terms_declare (top Missing (below stack) ∷ [])))
     (pieces_declare steps params _ names count g.1 e)

@@ -17,7 +17,7 @@ use Rattle.glue_steps.specs.Stack.{below, item_at}
 use Rattle.glue_imports.specs.declared.part.Part.{Part}
 use Rattle.glue_imports.specs.declared.part.Part.TheVariants as part
 use Rattle.glue_imports.specs.declared.part.Expression.{Expression}
-use Rattle.glue_binding.specs.Spelling.{Plain, Missing, Local, Unsigned, path_words, shift_words, plain_words, guarded_words, argument_words, arguments_words, chained_words, part_words, parts_words}
+use Rattle.glue_binding.specs.Spelling.{Plain, Missing, Local, Unsigned, NotZero, path_words, shift_words, unequal_words, is_comparison, word_if, plain_words, guarded_words, argument_words, arguments_words, chained_words, part_words, parts_words}
 use Rattle.glue_binding.proofs.Paths.{path_tells, property_tells, chained_tells}
 
 -- the words that a part brings along, whatever the locals and the operands are
@@ -66,10 +66,22 @@ module _ (kind : Word → Option (List ℕ)) (is : IsKind kind) (local : (name :
   shift_none : found shift_words ≡ []
   shift_none = rw (is.gap (codes " "), is.punct 38, is.num (pos 0)) refl
 
+  unequal_none : found unequal_words ≡ []
+  unequal_none = rw (is.gap (codes " "), is.punct 18, is.num (pos 0)) refl
+
+  mark_none : (b : Bool) (place : ℕ) → found (word_if b (w.Punct place)) ≡ []
+  mark_none true place = rw (is.punct place) refl
+  mark_none false place = refl
+
   operand_none : (p : Plain) → found (plain_words p) ≡ []
   operand_none Missing = rw (is.key 27) refl
   operand_none (Local name) = rw (local name) refl
-  operand_none (Unsigned p) = both_none (plain_words p) shift_words (operand_none p) shift_none
+  operand_none (Unsigned p) =
+      let opened = word_if (is_comparison p) (w.Punct 2) in
+      let closed = word_if (is_comparison p) (w.Punct 3) in
+      both_none opened (plain_words p ++ (closed ++ shift_words)) (mark_none (is_comparison p) 2)
+      (both_none (plain_words p) (closed ++ shift_words) (operand_none p) (both_none closed shift_words (mark_none (is_comparison p) 3) shift_none))
+  operand_none (NotZero p) = both_none (plain_words p) unequal_words (operand_none p) unequal_none
 
   parens_none : (words : List Word) → found words ≡ [] → found (parenthesised words) ≡ []
   parens_none words h = rw (is.punct 2) (both_none words (close_paren ∷ []) h (rw (is.punct 3) refl))
@@ -78,6 +90,7 @@ module _ (kind : Word → Option (List ℕ)) (is : IsKind kind) (local : (name :
   guarded_none Missing = operand_none Missing
   guarded_none (Local name) = operand_none (Local name)
   guarded_none (Unsigned p) = parens_none (plain_words (Unsigned p)) (operand_none (Unsigned p))
+  guarded_none (NotZero p) = parens_none (plain_words (NotZero p)) (operand_none (NotZero p))
 
   argument_none : (spread : Bool) (p : Plain) → found (argument_words spread p) ≡ []
   argument_none true p = rw (is.punct 12) (parens_none (plain_words p) (operand_none p))

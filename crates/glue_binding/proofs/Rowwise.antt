@@ -5,8 +5,8 @@ use Rattle.glue_tree.specs.Term.{Line, Bind, Run, Leave}
 use Rattle.glue_imports.specs.declared.part.Expression.{Expression}
 use Rattle.glue_steps.specs.Stack.{top, below, operands, without}
 use Rattle.glue_steps.specs.declared.step.Step.{Step}
-use Rattle.glue_steps.specs.declared.step.Step.TheVariants.{Parameter, Unchanged, CallExport, CallImport, ToUnsigned, TakeIndex, IndexFromBorrow, UnwrapResult}
-use Rattle.glue_binding.specs.Spelling.{Plain, Missing, Local, Unsigned, term_of, export_call, helper_call, import_call, gives_back_line, throw_line, next_names, Piece, Ahead, Cleanup, ending, import_row, row, pieces_of, result_of, wanted_by, counted, wanted_from}
+use Rattle.glue_steps.specs.declared.step.Step.TheVariants.{Parameter, Unchanged, CallExport, CallImport, ToUnsigned, IsNotZero, ToUnsigned64, CallHelper, IndexFromBorrow, UnwrapResult}
+use Rattle.glue_binding.specs.Spelling.{Plain, Missing, Local, Unsigned, NotZero, term_of, export_call, helper_call, unsigned_64_call, import_call, gives_back_line, throw_line, next_names, Piece, Ahead, Cleanup, ending, import_row, row, pieces_of, result_of, wanted_by, counted, wanted_from}
 use Rattle.glue_binding.proofs.Each.{Each, each_item, each_top, each_below, each_without, each_operands}
 use Rattle.glue_binding.proofs.Coming.{next_count, first_enough, left_enough, next_each, left_each}
 
@@ -15,6 +15,7 @@ pub record IsRowwise (D : Line → Type 0) (S : Plain → Type 0) (N : List ℕ 
   pub missing : S Missing
   pub local : (x : List ℕ) → N x → S (Local x)
   pub unsigned : (p : Plain) → S p → S (Unsigned p)
+  pub not_zero : (p : Plain) → S p → S (NotZero p)
   pub ends : (p : Plain) → S p → D (Leave (Some (term_of p)))
   pub export_runs : (name : List ℕ) (n : ℕ) → F (CallExport name n false) → (args : List Plain) → Each S args
       → D (Run (export_call name args))
@@ -25,11 +26,13 @@ pub record IsRowwise (D : Line → Type 0) (S : Plain → Type 0) (N : List ℕ 
   pub import_binds : (adapter n : ℕ) (e : Expression) → F (CallImport adapter n true e) → (locals : List (List ℕ))
       → length locals ≡ length e.locals → Each N locals → (x : List ℕ) → N x → (args : List Plain) → Each S args
       → D (import_call adapter (Some x) e locals args)
-  pub takes : F TakeIndex → (x : List ℕ) → N x → (p : Plain) → S p → D (Bind x (helper_call (codes "takeObject") p))
+  pub reads : F ToUnsigned64 → (x : List ℕ) → N x → (p : Plain) → S p → D (Bind x (unsigned_64_call p))
+  pub calls : (helper : List ℕ) (n : ℕ) → F (CallHelper helper n) → (x : List ℕ) → N x → (args : List Plain) → Each S args
+      → D (Bind x (helper_call helper args))
   pub borrows : F IndexFromBorrow → (x : List ℕ) → N x → (p : Plain) → S p
-      → D (Bind x (helper_call (codes "addBorrowedObject") p))
+      → D (Bind x (helper_call (codes "addBorrowedObject") (p ∷ [])))
   pub gives_back : F IndexFromBorrow → D gives_back_line
-  pub throws : F UnwrapResult → (p q : Plain) → S p → S q → D (throw_line p q)
+  pub throws : (helper : List ℕ) → F (UnwrapResult helper) → (p q : Plain) → S p → S q → D (throw_line helper p q)
 
 -- the statement of each piece has the property
 abbrev pub AllHave : (Line → Type 0) → List Piece → Type 0
@@ -62,11 +65,14 @@ row_enough (CallImport adapter n has_result e) params stack names count rest le 
     called_enough adapter n has_result e (next_names (length e.locals) names) stack (without (length e.locals) names) rest
     (left_enough e.locals (result_of has_result ++ rest) names (apart_wanted e has_result rest names le))
 row_enough ToUnsigned params stack names count rest le = le
-row_enough TakeIndex params stack [] count rest le = absurd (omega (arith, le))
-row_enough TakeIndex params stack (x ∷ names) count rest le = omega (arith, le)
+row_enough IsNotZero params stack names count rest le = le
+row_enough ToUnsigned64 params stack [] count rest le = absurd (omega (arith, le))
+row_enough ToUnsigned64 params stack (x ∷ names) count rest le = omega (arith, le)
+row_enough (CallHelper helper n) params stack [] count rest le = absurd (omega (arith, le))
+row_enough (CallHelper helper n) params stack (x ∷ names) count rest le = omega (arith, le)
 row_enough IndexFromBorrow params stack [] count rest le = absurd (omega (arith, le))
 row_enough IndexFromBorrow params stack (x ∷ names) count rest le = omega (arith, le)
-row_enough UnwrapResult params stack names count rest le = le
+row_enough (UnwrapResult helper) params stack names count rest le = le
 
 module _ {D : Line → Type 0} {S : Plain → Type 0} {N : List ℕ → Type 0} {F : Step → Type 0}
     (is : IsRowwise D S N F) where
@@ -153,10 +159,30 @@ module _ {D : Line → Type 0} {S : Plain → Type 0} {N : List ℕ → Type 0} 
         );
         names_have = m;
       }
-  row_has TakeIndex params stack [] count rest f le p t m = absurd (omega (arith, le))
-  row_has TakeIndex params stack (x ∷ names) count rest f le p t m = record {
-    pieces_have = (is.takes f x m.0 (top Missing stack) (each_top S Missing is.missing stack t), tt);
+  row_has IsNotZero params stack names count rest f le p t m =
+      record {
+        pieces_have = tt;
+        stack_has = (
+          is.not_zero (top Missing stack)
+              (each_top S Missing is.missing stack t),
+          each_below S Missing is.missing stack t,
+        );
+        names_have = m;
+      }
+  row_has ToUnsigned64 params stack [] count rest f le p t m = absurd (omega (arith, le))
+  row_has ToUnsigned64 params stack (x ∷ names) count rest f le p t m = record {
+    pieces_have = (is.reads f x m.0 (top Missing stack) (each_top S Missing is.missing stack t), tt);
     stack_has = (is.local x m.0, each_below S Missing is.missing stack t);
+    names_have = m.1;
+  }
+  row_has (CallHelper helper n) params stack [] count rest f le p t m = absurd (omega (arith, le))
+  row_has (CallHelper helper n) params stack (x ∷ names) count rest f le p t m = record {
+    pieces_have = (
+      is.calls helper n f x m.0 (operands Missing n stack [])
+          (each_operands S Missing is.missing n stack [] t tt),
+      tt,
+    );
+    stack_has = (is.local x m.0, each_without S Missing is.missing n stack t);
     names_have = m.1;
   }
   row_has IndexFromBorrow params stack [] count rest f le p t m = absurd (omega (arith, le))
@@ -168,10 +194,10 @@ module _ {D : Line → Type 0} {S : Plain → Type 0} {N : List ℕ → Type 0} 
     stack_has = (is.local x m.0, each_below S Missing is.missing stack t);
     names_have = m.1;
   }
-  row_has UnwrapResult params stack names count rest f le p t m =
+  row_has (UnwrapResult helper) params stack names count rest f le p t m =
       let under = each_below S Missing is.missing stack t in record {
         pieces_have = (
-          is.throws f (top Missing stack) (top Missing (below stack))
+          is.throws helper f (top Missing stack) (top Missing (below stack))
               (each_top S Missing is.missing stack t) (each_top S Missing is.missing (below stack) under),
           tt,
         );

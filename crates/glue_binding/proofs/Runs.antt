@@ -5,14 +5,14 @@ use Rattle.std.specs.Bool.{Decides}
 use Rattle.std.specs.Cmp.Lexicographic.{pointwise}
 use Rattle.std.proofs.lemmas.Slice.Eq.{bytes_eq-Decides}
 use Rattle.values.specs.Lists.{IsIn, IsAway, AreDistinct}
-use Rattle.values.specs.Value.{Thing, Helper, OfExport, Value, Undefined, Null, Entry, Calls, CallsAdapter, Answer, Ran, Went, Threw, Ended, Act, goes_on, step, and_then_cleans, is_true, unsigned}
+use Rattle.values.specs.Value.{Thing, Helper, OfExport, Value, Undefined, Null, Entry, Calls, CallsAdapter, Answer, Ran, Went, Threw, Ended, Act, goes_on, step, and_then_cleans, is_true, unsigned, is_not_zero}
 use Rattle.glue_tree.specs.Term.{Line, Fail, Lines, NoLines, AndLine}
 use Rattle.glue_tree.specs.TreeMeaning.{Locals, locals_of, value_in, if_true, value_of, values_of, unless_left, and_always, runs, tree_meaning}
 use Rattle.glue_steps.specs.Stack.{top, below, item_at, operands, without}
-use Rattle.glue_steps.specs.AdapterMeaning.{Left, gives_back, throws_if, act, cleans, after_act, newest, means, seen, adapter_meaning}
+use Rattle.glue_steps.specs.AdapterMeaning.{Left, gives_back, throws_if, unsigned_64, act, cleans, after_act, newest, means, seen, adapter_meaning}
 use Rattle.glue_steps.specs.declared.step.Step.{Step}
-use Rattle.glue_steps.specs.declared.step.Step.TheVariants.{Parameter, Unchanged, CallExport, CallImport, ToUnsigned, TakeIndex, IndexFromBorrow, UnwrapResult}
-use Rattle.glue_binding.specs.Spelling.{Plain, Missing, Local, Unsigned, term_of, plain_value, terms, helper_call, next_names, gives_back_line, import_row, pieces_of, cleaned_by, nested, tree_of, result_of, wanted_from, counted, temporaries}
+use Rattle.glue_steps.specs.declared.step.Step.TheVariants.{Parameter, Unchanged, CallExport, CallImport, ToUnsigned, IsNotZero, ToUnsigned64, CallHelper, IndexFromBorrow, UnwrapResult}
+use Rattle.glue_binding.specs.Spelling.{Plain, Missing, Local, Unsigned, NotZero, term_of, plain_value, terms, helper_call, unsigned_64_call, next_names, gives_back_line, import_row, pieces_of, cleaned_by, nested, tree_of, result_of, wanted_from, counted, temporaries}
 use Rattle.glue_binding.specs.Binding.{KnowsHelpers}
 use Rattle.glue_imports.specs.declared.part.Expression.{Expression}
 use Rattle.glue_binding.proofs.Each.{Each, each_item, each_top, each_below, each_without}
@@ -95,6 +95,7 @@ abbrev Avoids : List ℕ → Plain → Type 0
 Avoids x Missing = Unit {0}
 Avoids x (Local y) = x ≡ y → ⊥
 Avoids x (Unsigned p) = Avoids x p
+Avoids x (NotZero p) = Avoids x p
 
 -- the names to come are distinct, and no parameter and no operand speaks of one
 record IsFresh (names : List (List ℕ)) (params stack : List Plain) : Type 0 where
@@ -158,6 +159,7 @@ keep_one : (p : Plain) (x : List ℕ) (v : Value) (env : Locals) → Avoids x p
 keep_one Missing x v env h = refl
 keep_one (Local y) x v env h = miss x y v env h
 keep_one (Unsigned p) x v env h = ap unsigned (keep_one p x v env h)
+keep_one (NotZero p) x v env h = ap is_not_zero (keep_one p x v env h)
 
 -- a new local leaves the others as they are
 keep : (stack : List Plain) (x : List ℕ) (v : Value) (env : Locals) → Each (Avoids x) stack
@@ -214,6 +216,7 @@ module _ (thing_of : List ℕ → Thing) where
   value_is Missing env trace answers = refl
   value_is (Local x) env trace answers = refl
   value_is (Unsigned p) env trace answers = rw (value_is p env trace answers) refl
+  value_is (NotZero p) env trace answers = rw (value_is p env trace answers) refl
 
   values_are : (ps : List Plain) (env : Locals) (trace : List Entry) (answers : List Answer)
       → values_of thing_of (terms ps) env trace answers ≡ Went (map (plain_value env) ps) trace answers
@@ -221,10 +224,15 @@ module _ (thing_of : List ℕ → Thing) where
   values_are (p ∷ ps) env trace answers = rw (value_is p env trace answers, values_are ps env trace answers)
 
   -- the call of a helper is one step
-  helper_is : (key : List ℕ) (p : Plain) (env : Locals) → thing_of key ≡ Helper key
-      → (trace : List Entry) (answers : List Answer) → value_of thing_of (helper_call key p) env trace answers
-      ≡ step (Calls (Helper key) (plain_value env p ∷ [])) trace answers
-  helper_is key p env e trace answers = rw (value_is p env trace answers, e)
+  helper_is : (key : List ℕ) (ps : List Plain) (env : Locals) → thing_of key ≡ Helper key
+      → (trace : List Entry) (answers : List Answer) → value_of thing_of (helper_call key ps) env trace answers
+      ≡ step (Calls (Helper key) (map (plain_value env) ps)) trace answers
+  helper_is key ps env e trace answers = rw (values_are ps env trace answers, e)
+
+  -- so is that of `BigInt.asUintN`
+  unsigned_64_is : (p : Plain) (env : Locals) (trace : List Entry) (answers : List Answer)
+      → value_of thing_of (unsigned_64_call p) env trace answers ≡ unsigned_64 (plain_value env p) trace answers
+  unsigned_64_is p env trace answers = rw (value_is p env trace answers) refl
 
   gives_back_is : (env : Locals) → thing_of (codes "heap") ≡ Helper (codes "heap")
       → thing_of (codes "stack_pointer") ≡ Helper (codes "stack_pointer") → (trace : List Entry) (answers : List Answer)
@@ -263,18 +271,18 @@ module _ (thing_of : List ℕ → Thing) where
   thrown (Threw v trace answers) rest next = refl
   thrown (Ended trace) rest next = refl
 
-  -- a flag that is true throws what the object table gives
-  unwrapping : (b : Bool) (p : Plain) (env : Locals) (y : Value) → plain_value env p ≡ y
-      → thing_of (codes "takeObject") ≡ Helper (codes "takeObject")
+  -- a flag that is true throws what the helper gives
+  unwrapping : (b : Bool) (helper : List ℕ) (p : Plain) (env : Locals) (y : Value) → plain_value env p ≡ y
+      → thing_of helper ≡ Helper helper
       → (rest : Act (Option Value)) (ss : List Value) (next : List Value → List (Act Value) → Act (Option Value))
       → ((trace : List Entry) (answers : List Answer) → rest trace answers ≡ next ss [] trace answers)
       → (trace : List Entry) (answers : List Answer) → unless_left
-      (if_true b (runs thing_of (AndLine (Fail (helper_call (codes "takeObject") p)) NoLines) env trace answers)
-      (Went None trace answers)) rest ≡ after_act (throws_if b y ss trace answers) [] next
-  unwrapping false p env y e k rest ss next h trace answers = h trace answers
-  unwrapping true p env y e k rest ss next h trace answers =
-      rw (helper_is (codes "takeObject") p env k trace answers, e)
-      (thrown (step (Calls (Helper (codes "takeObject")) (y ∷ [])) trace answers) rest next)
+      (if_true b (runs thing_of (AndLine (Fail (helper_call helper (p ∷ []))) NoLines) env trace answers)
+      (Went None trace answers)) rest ≡ after_act (throws_if b helper y ss trace answers) [] next
+  unwrapping false helper p env y e k rest ss next h trace answers = h trace answers
+  unwrapping true helper p env y e k rest ss next h trace answers =
+      rw (helper_is helper (p ∷ []) env k trace answers, e)
+      (thrown (step (Calls (Helper helper) (y ∷ [])) trace answers) rest next)
 
   -- what a call of an import and the rest mean, where the rest means what it is to
   imported : (adapter n : ℕ) (has_result : Bool) (e : Expression) (locals : List (List ℕ)) (steps : List Step) (params stack : List Plain)
@@ -347,23 +355,32 @@ module _ (thing_of : List ℕ → Thing) where
       (fresh_top Unsigned (λ x p a. a) f) le trace answers
       ∙ ap (λ s. means steps (map (plain_value env) params) s [] trace answers)
       (changed env Unsigned unsigned (λ p. refl) stack)
-  same (TakeIndex ∷ steps) params stack [] env count k f le trace answers = absurd (omega (arith, le))
-  same (TakeIndex ∷ steps) params stack (x ∷ names) env count k f le trace answers =
-      rw (
-        helper_is (codes "takeObject") (top Missing stack) env
-            (k (codes "takeObject") (inl refl)) trace answers,
-        top_is env stack,
-      )
-      (one_step (step (Calls (Helper (codes "takeObject"))
-      (top Null (map (plain_value env) stack) ∷ [])) trace answers) _ _ _ (λ v trace answers.
-      same steps params (Local x ∷ below stack) names ((x, v) ∷ env) (counted TakeIndex count)
-      (λ key at. k key (inr at)) (fresh_push (fresh_without 1 f)) (omega (arith, le)) trace answers
+  same (IsNotZero ∷ steps) params stack names env count k f le trace answers =
+      same steps params (NotZero (top Missing stack) ∷ below stack) names env count k
+      (fresh_top NotZero (λ x p a. a) f) le trace answers
+      ∙ ap (λ s. means steps (map (plain_value env) params) s [] trace answers)
+      (changed env NotZero is_not_zero (λ p. refl) stack)
+  same (ToUnsigned64 ∷ steps) params stack [] env count k f le trace answers = absurd (omega (arith, le))
+  same (ToUnsigned64 ∷ steps) params stack (x ∷ names) env count k f le trace answers =
+      rw (unsigned_64_is (top Missing stack) env trace answers, top_is env stack)
+      (one_step (unsigned_64 (top Null (map (plain_value env) stack)) trace answers) _ _ _ (λ v trace answers.
+      same steps params (Local x ∷ below stack) names ((x, v) ∷ env) (counted ToUnsigned64 count)
+      k (fresh_push (fresh_without 1 f)) (omega (arith, le)) trace answers
       ∙ bound steps params (below stack) x v env _ (below_is env stack) (f.from_params x (inl refl))
       ((fresh_without 1 f).from_stack x (inl refl)) trace answers))
+  same (CallHelper helper n ∷ steps) params stack [] env count k f le trace answers = absurd (omega (arith, le))
+  same (CallHelper helper n ∷ steps) params stack (x ∷ names) env count k f le trace answers =
+      rw (helper_is helper (operands Missing n stack []) env (k helper (inl refl)) trace answers, operands_are env n stack [])
+      (one_step (step (Calls (Helper helper) (operands Null n (map (plain_value env) stack) [])) trace answers) _ _ _
+      (λ v trace answers.
+      same steps params (Local x ∷ without n stack) names ((x, v) ∷ env) (counted (CallHelper helper n) count)
+      (λ key at. k key (inr at)) (fresh_push (fresh_without n f)) (omega (arith, le)) trace answers
+      ∙ bound steps params (without n stack) x v env _ (without_is env n stack) (f.from_params x (inl refl))
+      ((fresh_without n f).from_stack x (inl refl)) trace answers))
   same (IndexFromBorrow ∷ steps) params stack [] env count k f le trace answers = absurd (omega (arith, le))
   same (IndexFromBorrow ∷ steps) params stack (x ∷ names) env count k f le trace answers =
       rw (
-        helper_is (codes "addBorrowedObject") (top Missing stack) env
+        helper_is (codes "addBorrowedObject") (top Missing stack ∷ []) env
             (k (codes "addBorrowedObject") (inl refl)) trace answers,
         top_is env stack,
       )
@@ -377,10 +394,10 @@ module _ (thing_of : List ℕ → Thing) where
       (λ key at. k key (inr (inr (inr at)))) (fresh_push (fresh_without 1 f)) (omega (arith, le)) trace answers
       ∙ bound steps params (below stack) x v env _ (below_is env stack) (f.from_params x (inl refl))
       ((fresh_without 1 f).from_stack x (inl refl)) trace answers)))
-  same (UnwrapResult ∷ steps) params stack names env count k f le trace answers =
+  same (UnwrapResult helper ∷ steps) params stack names env count k f le trace answers =
       rw (value_is (top Missing stack) env trace answers, top_is env stack)
-      (unwrapping (is_true (top Null (map (plain_value env) stack))) (top Missing (below stack)) env _
-      (top_is env (below stack) ∙ ap (top Null) (below_is env stack)) (k (codes "takeObject") (inl refl)) _ _
+      (unwrapping (is_true (top Null (map (plain_value env) stack))) helper (top Missing (below stack)) env _
+      (top_is env (below stack) ∙ ap (top Null) (below_is env stack)) (k helper (inl refl)) _ _
       (means steps (map (plain_value env) params))
       (λ trace answers. same steps params (below (below stack)) names env count (λ key at. k key (inr at))
       (fresh_without 2 f) le trace answers

@@ -5,7 +5,7 @@ use Rattle.std.proofs.lemmas.Bool.Decides.{nat_tests}
 use Rattle.std.proofs.lemmas.Bool.{and_parts}
 use Rattle.std.proofs.lemmas.List.{append-nil}
 use Rattle.std.proofs.lemmas.List.Splits.{length-slice_split}
-use Rattle.std.specs.Prelude.{Option, Some, None, ◌&&◌, ◌==◌, nat_lt, codes}
+use Rattle.std.specs.Prelude.{Option, Some, None, ◌&&◌, ◌==◌, not, nat_lt, codes}
 use Rattle.std.specs.List.{list_all, flat_map, slice_split}
 use Rattle.glue_words.specs.declared.word.Word.{Word}
 use Rattle.glue_words.specs.declared.word.Word.TheVariants as w
@@ -14,7 +14,7 @@ use Rattle.glue_words.specs.Ident.{is_ident}
 use Rattle.glue_words.specs.Limits.{is_computed}
 use Rattle.glue_words.specs.Names.{wasm_in}
 use Rattle.glue_words.specs.Tables.{punct_text}
-use Rattle.glue_words.specs.Spacing.{joins, first_word, each_next, begins_apart}
+use Rattle.glue_words.specs.Spacing.{joins, is_wasm, first_word, each_next, begins_apart}
 use Rattle.glue_words.specs.Functions.{parenthesised}
 use Rattle.glue_words.specs.Words.{space, line_feed}
 use Rattle.glue_words.proofs.Idents.{ascii_ident, ident_prop}
@@ -28,8 +28,8 @@ use Rattle.glue_imports.specs.declared.part.Part.{Part}
 use Rattle.glue_imports.specs.declared.part.Part.TheVariants as part
 use Rattle.glue_imports.specs.declared.part.Expression.{Expression}
 use Rattle.glue_steps.specs.declared.step.Step.{Step}
-use Rattle.glue_steps.specs.declared.step.Step.TheVariants.{CallImport}
-use Rattle.glue_binding.specs.Spelling.{Plain, Missing, Local, Unsigned, path_words, shift_words, plain_words, guarded_words, argument_words, arguments_words, without_dot, chained_words, part_words, parts_words, import_line_words}
+use Rattle.glue_steps.specs.declared.step.Step.TheVariants.{CallImport, CallHelper, UnwrapResult}
+use Rattle.glue_binding.specs.Spelling.{Plain, Missing, Local, Unsigned, NotZero, path_words, shift_words, unequal_words, is_comparison, word_if, plain_words, guarded_words, argument_words, arguments_words, without_dot, chained_words, part_words, parts_words, import_line_words}
 use Rattle.glue_binding.proofs.Each.{Each, each_there, each_item, each_below}
 use Rattle.glue_binding.proofs.Parts.{bound_places}
 use Rattle.glue_binding.proofs.Paths.{MayFollow, StandsBetween, path_stands, property_stands, property_tells}
@@ -80,7 +80,7 @@ first_words (part.Note text) = w.Note Slash text ∷ []
 first_words (part.Binding n) = w.LocalBind [] ∷ []
 first_words (part.Local n) = w.Local [] ∷ []
 first_words (part.Operand n) = w.Key 27 ∷ w.Local [] ∷ open_paren ∷ []
-first_words (part.Whole n) = w.Key 27 ∷ w.Local [] ∷ []
+first_words (part.Whole n) = w.Key 27 ∷ w.Local [] ∷ open_paren ∷ []
 first_words (part.Arguments spread) = open_paren ∷ []
 first_words (part.OtherArguments spread) = open_paren ∷ []
 
@@ -167,6 +167,8 @@ expression_fits e =
 -- the parts that a step brings along may stand beside one another
 abbrev pub step_fit : Step → Bool
 step_fit (CallImport adapter n has_result e) = expression_fits e
+step_fit (CallHelper helper n) = is_ident helper && not (is_wasm helper)
+step_fit (UnwrapResult helper) = is_ident helper && not (is_wasm helper)
 step_fit other = true
 
 -- what the test says of an expression
@@ -298,9 +300,10 @@ abbrev pub IsNamed : Plain → Type 0
 IsNamed Missing = Unit {0}
 IsNamed (Local name) = is_ident name ≡ true
 IsNamed (Unsigned p) = IsNamed p
+IsNamed (NotZero p) = IsNamed p
 
 abbrev operand_firsts : List Word
-operand_firsts = w.Key 27 ∷ w.Local [] ∷ []
+operand_firsts = w.Key 27 ∷ w.Local [] ∷ open_paren ∷ []
 
 abbrev operand_lasts : List Word
 operand_lasts = w.Key 27 ∷ w.Local [] ∷ w.Num (pos 0) ∷ []
@@ -312,11 +315,46 @@ module _ (word : Word) where
   local_front : (name : List ℕ) → before_all word operand_firsts ≡ true → spaced word (Some (w.Local name)) ≡ true
   local_front name h =
       local_behind word name
-      ∙ (and_parts (spaced word (Some (w.Local []))) true (and_parts (spaced word (Some (w.Key 27))) _ h).1).0
+      ∙ (and_parts (spaced word (Some (w.Local []))) _ (and_parts (spaced word (Some (w.Key 27))) _ h).1).0
 
--- an operand behind which a space may stand
-before_space : (next : Option Word) → all_before operand_lasts next ≡ true → all_before operand_lasts (Some space) ≡ true
-before_space next h = refl
+  paren_front : before_all word operand_firsts ≡ true → spaced word (Some open_paren) ≡ true
+  paren_front h = (and_parts (spaced word (Some open_paren)) true
+      (and_parts (spaced word (Some (w.Local []))) _ (and_parts (spaced word (Some (w.Key 27))) _ h).1).1).0
+
+-- `(` before an operand
+paren_operand : before_all open_paren operand_firsts ≡ true
+unfolding joins punct_text
+paren_operand = refl
+
+-- what stands behind the number that an operand may end with
+last_number : (next : Option Word) → all_before operand_lasts next ≡ true → spaced (w.Num (pos 0)) next ≡ true
+last_number next b =
+    (and_parts (spaced (w.Num (pos 0)) next) true
+    (and_parts (spaced (w.Local []) next) _ (and_parts (spaced (w.Key 27) next) _ b).1).1).0
+
+-- ` >>> 0` and ` !== 0` before what may stand behind a number
+shift_back : (next : Option Word) → spaced (w.Num (pos 0)) next ≡ true → each_next spaced shift_words next ≡ true
+shift_back next h = and_true _ _ h refl
+
+unequal_back : (next : Option Word) → spaced (w.Num (pos 0)) next ≡ true → each_next spaced unequal_words next ≡ true
+unequal_back next h = and_true _ _ h refl
+
+-- an operand, in parentheses or not, and a shift behind it
+shifted_stands : (b : Bool) (words : List Word) → Stands operand_firsts operand_lasts words
+    → Stands operand_firsts operand_lasts (word_if b open_paren ++ (words ++ (word_if b close_paren ++ shift_words)))
+shifted_stands false words s = record {
+  good = all_both is_good words shift_words s.good refl;
+  front = λ word rest next f. subst (λ (ws : List Word). spaced word (first_word ws next) ≡ true)
+      (sym (append_assoc words shift_words rest)) (s.front word (shift_words ++ rest) next f);
+  back = λ next b. each_next_both spaced words shift_words next (s.back (Some space) refl) (shift_back next (last_number next b));
+}
+shifted_stands true words s = record {
+  good = and_true _ _ refl (all_both is_good words (close_paren ∷ shift_words) s.good refl);
+  front = λ word rest next f. paren_front word f;
+  back = λ next b. and_true _ _ (s.front open_paren (close_paren ∷ shift_words) next paren_operand)
+      (each_next_both spaced words (close_paren ∷ shift_words) next (s.back (Some close_paren) refl)
+      (and_true _ _ refl (shift_back next (last_number next b))));
+}
 
 operand_stands : (p : Plain) → IsNamed p → Stands operand_firsts operand_lasts (plain_words p)
 operand_stands Missing h = record {
@@ -330,22 +368,15 @@ operand_stands (Local name) h = record {
   back = λ next b. and_true _ _
       (local_before name next ∙ (and_parts (spaced (w.Local []) next) _ (and_parts (spaced (w.Key 27) next) _ b).1).0) refl;
 }
-operand_stands (Unsigned p) h =
+operand_stands (Unsigned p) h = shifted_stands (is_comparison p) (plain_words p) (operand_stands p h)
+operand_stands (NotZero p) h =
     let inner = operand_stands p h in record {
-      good = all_both is_good (plain_words p) shift_words inner.good refl;
+      good = all_both is_good (plain_words p) unequal_words inner.good refl;
       front = λ word rest next f. subst (λ (words : List Word). spaced word (first_word words next) ≡ true)
-          (sym (append_assoc (plain_words p) shift_words rest)) (inner.front word (shift_words ++ rest) next f);
-      back = λ next b. each_next_both spaced (plain_words p) shift_words next (inner.back (Some space) refl)
-          (shift_back next (last_number next b));
+          (sym (append_assoc (plain_words p) unequal_words rest)) (inner.front word (unequal_words ++ rest) next f);
+      back = λ next b. each_next_both spaced (plain_words p) unequal_words next (inner.back (Some space) refl)
+          (unequal_back next (last_number next b));
     }
-  where
-    last_number : (next : Option Word) → all_before operand_lasts next ≡ true → spaced (w.Num (pos 0)) next ≡ true
-    last_number next b =
-        (and_parts (spaced (w.Num (pos 0)) next) true
-        (and_parts (spaced (w.Local []) next) _ (and_parts (spaced (w.Key 27) next) _ b).1).1).0
-
-    shift_back : (next : Option Word) → spaced (w.Num (pos 0)) next ≡ true → each_next spaced shift_words next ≡ true
-    shift_back next h = and_true _ _ h refl
 
 -- words in parentheses, where those inside may stand behind `(` and before `)`
 parens_stand : (firsts lasts words : List Word) → Stands firsts lasts words → before_all open_paren firsts ≡ true
@@ -357,6 +388,18 @@ parens_stand firsts lasts words s f l = record {
       (each_next_both spaced words (close_paren ∷ []) next (s.back (Some close_paren) l)
       (and_true _ _ (and_parts (spaced close_paren next) true h).0 refl));
 }
+
+-- an operand in parentheses, beside what may stand beside any operand
+enclosed_stands : (words : List Word) → Stands operand_firsts operand_lasts words
+    → Stands (w.Key 27 ∷ w.Local [] ∷ open_paren ∷ []) (w.Key 27 ∷ w.Local [] ∷ close_paren ∷ []) (parenthesised words)
+enclosed_stands words inner =
+    let s : Stands (open_paren ∷ []) (close_paren ∷ []) (parenthesised words) =
+    parens_stand operand_firsts operand_lasts words inner paren_operand refl in record {
+      good = s.good;
+      front = λ word rest next f. paren_front word f;
+      back = λ next b. s.back next
+          (and_parts (spaced (w.Local []) next) _ (and_parts (spaced (w.Key 27) next) _ b).1).1;
+    }
 
 -- an operand in parentheses where it holds an operator
 guarded_stands : (p : Plain) → IsNamed p
@@ -373,16 +416,8 @@ guarded_stands (Local name) h = record {
   back = λ next b. and_true _ _
       (local_before name next ∙ (and_parts (spaced (w.Local []) next) _ (and_parts (spaced (w.Key 27) next) _ b).1).0) refl;
 }
-guarded_stands (Unsigned p) h =
-    let whole = plain_words (Unsigned p) in
-    let s : Stands (open_paren ∷ []) (close_paren ∷ []) (parenthesised whole) =
-    parens_stand operand_firsts operand_lasts whole (operand_stands (Unsigned p) h) refl refl in record {
-      good = s.good;
-      front = λ word rest next f. (and_parts (spaced word (Some open_paren)) true
-          (and_parts (spaced word (Some (w.Local []))) _ (and_parts (spaced word (Some (w.Key 27))) _ f).1).1).0;
-      back = λ next b. s.back next
-          (and_parts (spaced (w.Local []) next) _ (and_parts (spaced (w.Key 27) next) _ b).1).1;
-    }
+guarded_stands (Unsigned p) h = enclosed_stands (plain_words (Unsigned p)) (operand_stands (Unsigned p) h)
+guarded_stands (NotZero p) h = enclosed_stands (plain_words (NotZero p)) (operand_stands (NotZero p) h)
 
 -- ---- arguments
 
@@ -399,7 +434,7 @@ spread_paren = refl
 argument_stands : (spread : Bool) (p : Plain) → IsNamed p → Stands argument_firsts argument_lasts (argument_words spread p)
 argument_stands true p h =
     let s : Stands (open_paren ∷ []) (close_paren ∷ []) (parenthesised (plain_words p)) =
-    parens_stand operand_firsts operand_lasts (plain_words p) (operand_stands p h) refl refl in record {
+    parens_stand operand_firsts operand_lasts (plain_words p) (operand_stands p h) paren_operand refl in record {
       good = and_true _ _ refl s.good;
       front = λ word rest next f. (and_parts (spaced word (Some (w.Punct 12))) _ f).0;
       back = λ next b. and_true _ _ spread_paren (s.back next (and_true _ _ (and_parts (spaced close_paren next) _ b).0 refl));
@@ -741,16 +776,25 @@ both_apart : (words more : List Word) → begins_apart words ≡ true → begins
 both_apart [] more h k = k
 both_apart (word ∷ words) more h k = h
 
+mark_apart : (b : Bool) (place : ℕ) → begins_apart (word_if b (w.Punct place)) ≡ true
+mark_apart true place = refl
+mark_apart false place = refl
+
 -- an operand is no access of an export
 operand_apart : (p : Plain) → begins_apart (plain_words p) ≡ true
 operand_apart Missing = refl
 operand_apart (Local name) = refl
-operand_apart (Unsigned p) = both_apart (plain_words p) shift_words (operand_apart p) refl
+operand_apart (Unsigned p) =
+    let closed = word_if (is_comparison p) (w.Punct 3) in
+    both_apart (word_if (is_comparison p) (w.Punct 2)) (plain_words p ++ (closed ++ shift_words)) (mark_apart (is_comparison p) 2)
+    (both_apart (plain_words p) (closed ++ shift_words) (operand_apart p) (both_apart closed shift_words (mark_apart (is_comparison p) 3) refl))
+operand_apart (NotZero p) = both_apart (plain_words p) unequal_words (operand_apart p) refl
 
 guarded_apart : (p : Plain) → begins_apart (guarded_words p) ≡ true
 guarded_apart Missing = refl
 guarded_apart (Local name) = refl
 guarded_apart (Unsigned p) = refl
+guarded_apart (NotZero p) = refl
 
 -- nor does a part begin with one
 part_apart : (locals : List (List ℕ)) (args : List Plain) (p : Part) → begins_apart (part_words locals args p) ≡ true

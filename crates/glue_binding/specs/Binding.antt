@@ -20,7 +20,7 @@ use Rattle.glue_binding.specs.Outer.{outer_names}
 abbrev pub outer_scope : List Step → TextSet
 outer_scope steps = with_texts set.empty (outer_names steps)
 
--- each helper that the steps take is what its name stands for; the name of a helper is its key
+-- each helper that the steps take is what its name stands for
 abbrev pub KnowsHelpers : List Step → (List ℕ → Thing) → Type 0
 KnowsHelpers steps thing_of = (key : List ℕ) → IsIn key (flat_map helpers_of steps) → thing_of key ≡ Helper key
 

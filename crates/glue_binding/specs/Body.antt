@@ -17,6 +17,7 @@ abbrev pub operand_step : Operand-F s.Plain → s.Plain
 operand_step Operand-F.Missing = s.Missing
 operand_step (Operand-F.Local name) = s.Local name
 operand_step (Operand-F.Unsigned inner) = s.Unsigned inner
+operand_step (Operand-F.NotZero inner) = s.NotZero inner
 
 -- an operand without pointers
 abbrev pub plain_operand : Operand → s.Plain

@@ -13,18 +13,18 @@ use Rattle.glue_imports.specs.declared.part.Part.{Part}
 use Rattle.glue_imports.specs.declared.part.Part.TheVariants as part
 use Rattle.glue_imports.specs.declared.part.Expression.{Expression}
 use Rattle.glue_scope.specs.Properties.{property_parts}
-use Rattle.values.specs.Value.{Value, Null, unsigned}
+use Rattle.values.specs.Value.{Value, Null, unsigned, is_not_zero}
 use Rattle.glue_tree.specs.TreeMeaning.{Locals, value_in}
 use Rattle.glue_tree.specs.declared.tree.Constant.TheVariants as constant
 use Rattle.glue_tree.specs.declared.tree.UnaryOperator.TheVariants as unary
 use Rattle.glue_tree.specs.declared.tree.BinaryOperator.TheVariants as binary
-use Rattle.glue_tree.specs.Term.{Term, Lit, Const, Var, Name, Outside, Export, Index, Apply, One, Two, Terms, Line, Bind, Put, Run, When, Always, Fail, Leave, Inner, Lines, NoLines, AndLine}
+use Rattle.glue_tree.specs.Term.{Term, Lit, Const, Var, Name, Outside, Export, Field, Index, Apply, One, Two, Terms, AndTerm, Line, Bind, Put, Run, When, Always, Fail, Leave, Inner, Lines, NoLines, AndLine}
 use Rattle.glue_tree.specs.Plainly.{terms_of}
 use Rattle.glue_tree.specs.Spelling.{const_start, comma_unless, is_none}
 use Rattle.glue_tree.specs.FixedWords.{semicolon}
 use Rattle.glue_steps.specs.Stack.{top, below, item_at, operands, without}
 use Rattle.glue_steps.specs.declared.step.Step.{Step}
-use Rattle.glue_steps.specs.declared.step.Step.TheVariants.{Parameter, Unchanged, CallExport, CallImport, ToUnsigned, TakeIndex, IndexFromBorrow, UnwrapResult}
+use Rattle.glue_steps.specs.declared.step.Step.TheVariants.{Parameter, Unchanged, CallExport, CallImport, ToUnsigned, IsNotZero, ToUnsigned64, CallHelper, IndexFromBorrow, UnwrapResult}
 
 -- ---- operands
 
@@ -33,18 +33,21 @@ pub data Plain : Type 0 where
   Missing : Plain
   Local : (name : List ℕ) → Plain
   Unsigned : Plain → Plain
+  NotZero : Plain → Plain
 
--- an operand as an expression: `null`, a local, `x >>> 0`
+-- an operand as an expression: `null`, a local, `x >>> 0`, `x !== 0`
 abbrev pub term_of : Plain → Term
 term_of Missing = Const constant.Null
 term_of (Local name) = Var name
 term_of (Unsigned p) = Two binary.ShiftUnsigned (term_of p) (Lit (pos 0))
+term_of (NotZero p) = Two binary.StrictUnequal (term_of p) (Lit (pos 0))
 
 -- the value of an operand
 abbrev pub plain_value : Locals → Plain → Value
 plain_value locals Missing = Null
 plain_value locals (Local name) = value_in locals name
 plain_value locals (Unsigned p) = unsigned (plain_value locals p)
+plain_value locals (NotZero p) = is_not_zero (plain_value locals p)
 
 -- operands as expressions
 abbrev pub terms : List Plain → Terms
@@ -69,9 +72,17 @@ next_names (suc n) names = first names ∷ next_names n (later names)
 abbrev pub export_call : (name : List ℕ) → (args : List Plain) → Term
 export_call name args = Apply (Export name) (terms args)
 
--- `helper(p)`
-abbrev pub helper_call : (key : List ℕ) → Plain → Term
-helper_call key p = Apply (Name key) (terms (p ∷ []))
+-- `helper(args)`
+abbrev pub helper_call : (key : List ℕ) → (args : List Plain) → Term
+helper_call key args = Apply (Name key) (terms args)
+
+-- `BigInt.asUintN`
+abbrev pub as_unsigned : Term
+as_unsigned = Field (Outside (codes "BigInt")) (codes "asUintN")
+
+-- `BigInt.asUintN(64, p)`
+abbrev pub unsigned_64_call : Plain → Term
+unsigned_64_call p = Apply as_unsigned (AndTerm (Lit (pos 64)) (terms (p ∷ [])))
 
 -- the accesses of properties, one after the other
 abbrev pub path_words : (fields : List (List ℕ)) → List Word
@@ -95,15 +106,32 @@ chained_words name = w.Punct punct.OPTIONAL ∷ without_dot (property_parts name
 abbrev pub shift_words : List Word
 shift_words = space ∷ w.Punct punct.SHIFT_RIGHT_UNSIGNED ∷ space ∷ w.Num (pos 0) ∷ []
 
--- the words of an operand: `null`, a local, `x >>> 0`
+-- ` !== 0`
+abbrev pub unequal_words : List Word
+unequal_words = space ∷ w.Punct punct.UNEQUAL ∷ space ∷ w.Num (pos 0) ∷ []
+
+-- an operand that is a comparison, which stands in parentheses before a shift
+abbrev pub is_comparison : Plain → Bool
+is_comparison (NotZero p) = true
+is_comparison other = false
+
+-- a word, where it stands
+abbrev pub word_if : Bool → Word → List Word
+word_if true word = word ∷ []
+word_if false word = []
+
+-- the words of an operand: `null`, a local, `x >>> 0`, `x !== 0`
 abbrev pub plain_words : Plain → List Word
 plain_words Missing = w.Key key.NULL ∷ []
 plain_words (Local name) = w.Local name ∷ []
-plain_words (Unsigned p) = plain_words p ++ shift_words
+plain_words (Unsigned p) =
+    word_if (is_comparison p) (w.Punct punct.OPEN_PAREN) ++ (plain_words p ++ (word_if (is_comparison p) (w.Punct punct.CLOSE_PAREN) ++ shift_words))
+plain_words (NotZero p) = plain_words p ++ unequal_words
 
 -- the same, in parentheses where it holds an operator
 abbrev pub guarded_words : Plain → List Word
 guarded_words (Unsigned p) = parenthesised (plain_words (Unsigned p))
+guarded_words (NotZero p) = parenthesised (plain_words (NotZero p))
 guarded_words other = plain_words other
 
 -- `a`, or `...(a)`
@@ -181,9 +209,9 @@ import_call adapter bound e locals args = Inner adapter (terms args) bound (impo
 abbrev pub gives_back_line : Line
 gives_back_line = Put (Index (Name (codes "heap")) (One unary.Increment (Name (codes "stack_pointer")))) (Outside (codes "undefined"))
 
--- `if (flag) { throw takeObject(handle); }`
-abbrev pub throw_line : (flag handle : Plain) → Line
-throw_line flag handle = When (term_of flag) (AndLine (Fail (helper_call (codes "takeObject") handle)) NoLines)
+-- `if (flag) { throw helper(handle); }`
+abbrev pub throw_line : (helper : List ℕ) → (flag handle : Plain) → Line
+throw_line helper flag handle = When (term_of flag) (AndLine (Fail (helper_call helper (handle ∷ []))) NoLines)
 
 -- ---- the table of steps
 
@@ -223,15 +251,19 @@ row (CallExport name n false) params stack names =
 row (CallImport adapter n has_result e) params stack names =
     import_row adapter n has_result e (next_names (length e.locals) names) stack (without (length e.locals) names)
 row ToUnsigned params stack names = made [] (Unsigned (top Missing stack) ∷ below stack) names
-row TakeIndex params stack names =
-    made (Ahead (Bind (first names) (helper_call (codes "takeObject") (top Missing stack))) ∷ [])
+row IsNotZero params stack names = made [] (NotZero (top Missing stack) ∷ below stack) names
+row ToUnsigned64 params stack names =
+    made (Ahead (Bind (first names) (unsigned_64_call (top Missing stack))) ∷ [])
     (Local (first names) ∷ below stack) (later names)
+row (CallHelper helper n) params stack names =
+    made (Ahead (Bind (first names) (helper_call helper (operands Missing n stack []))) ∷ [])
+    (Local (first names) ∷ without n stack) (later names)
 row IndexFromBorrow params stack names =
-    made (Ahead (Bind (first names) (helper_call (codes "addBorrowedObject") (top Missing stack)))
+    made (Ahead (Bind (first names) (helper_call (codes "addBorrowedObject") (top Missing stack ∷ [])))
     ∷ Cleanup gives_back_line ∷ [])
     (Local (first names) ∷ below stack) (later names)
-row UnwrapResult params stack names =
-    made (Ahead (throw_line (top Missing stack) (top Missing (below stack))) ∷ []) (below (below stack)) names
+row (UnwrapResult helper) params stack names =
+    made (Ahead (throw_line helper (top Missing stack) (top Missing (below stack))) ∷ []) (below (below stack)) names
 
 -- at the end the newest operand is returned, where there is one
 abbrev pub ending : List Plain → List Piece
@@ -271,13 +303,15 @@ result_of false = []
 abbrev pub wanted_by : Step → (count : ℕ) → List (List ℕ)
 wanted_by (CallExport name n has_result) count = result_of has_result
 wanted_by (CallImport adapter n has_result e) count = e.locals ++ result_of has_result
-wanted_by TakeIndex count = numbered (codes "v") count ∷ []
+wanted_by ToUnsigned64 count = numbered (codes "v") count ∷ []
+wanted_by (CallHelper helper n) count = numbered (codes "v") count ∷ []
 wanted_by IndexFromBorrow count = numbered (codes "v") count ∷ []
 wanted_by other count = []
 
 -- how many have one after the step
 abbrev pub counted : Step → (count : ℕ) → ℕ
-counted TakeIndex count = count + 1
+counted ToUnsigned64 count = count + 1
+counted (CallHelper helper n) count = count + 1
 counted IndexFromBorrow count = count + 1
 counted other count = count
 

@@ -2,6 +2,7 @@
 ghost use Rattle.std.specs.Prelude.{◌≡◌, ◌++◌, ◌∷◌, [], ◌+◌, ◌<◌, ◌==◌, ◌&&◌, map, true, OnOk};
 ghost use Rattle.glue_words.specs.Functions.{parenthesised};
 ghost use Rattle.glue_words.specs.Words.{space};
+ghost use Rattle.glue_words.specs.declared.word.Word.TheVariants as w;
 ghost use Rattle.glue_tree.specs.Spelling.{comma_unless};
 ghost use Rattle.glue_steps.specs.Stack.{item_at};
 ghost use Rattle.glue_binding.specs.Body.{plain_operand};
@@ -31,6 +32,34 @@ fn push_shift(alloc: Global, words: &mut Seq<Word>) -> Result<(), AllocError>
     Ok(())
 }
 
+// ` !== 0`
+fn push_unequal(alloc: Global, words: &mut Seq<Word>) -> Result<(), AllocError>
+    ensures words { OnOk result (words.new ≡ words.old ++ s.unequal_words) }
+{
+    push_space(alloc, words)?;
+    words.push(Word::Punct(punct::UNEQUAL))?;
+    push_space(alloc, words)?;
+    words.push(Word::Num(0))?;
+    Ok(())
+}
+
+// Whether an operand is a comparison, which stands in parentheses before a shift.
+fn is_comparison(operand: &Operand) -> bool
+    ensures test { result ≡ s.is_comparison (plain_operand operand.now) }
+{
+    matches!(operand, Operand::NotZero(_))
+}
+
+// A mark of punctuation, where it stands.
+fn push_if(stands: bool, place: u8, words: &mut Seq<Word>) -> Result<(), AllocError>
+    ensures words { OnOk result (words.new ≡ words.old ++ s.word_if stands (w.Punct place)) }
+{
+    if stands {
+        words.push(Word::Punct(place))?;
+    }
+    Ok(())
+}
+
 /// Appends the words of an operand.
 pub fn push_whole(alloc: Global, operand: &Operand, words: &mut Seq<Word>) -> Result<(), AllocError>
     ensures words { OnOk result (words.new ≡ words.old ++ s.plain_words (plain_operand operand.now)) }
@@ -45,8 +74,15 @@ pub fn push_whole(alloc: Global, operand: &Operand, words: &mut Seq<Word>) -> Re
             Ok(())
         }
         Operand::Unsigned(inner) => {
+            let wrapped = is_comparison(inner.get());
+            push_if(wrapped, punct::OPEN_PAREN, words)?;
             push_whole(alloc, inner.get(), words)?;
+            push_if(wrapped, punct::CLOSE_PAREN, words)?;
             push_shift(alloc, words)
+        }
+        Operand::NotZero(inner) => {
+            push_whole(alloc, inner.get(), words)?;
+            push_unequal(alloc, words)
         }
     }
 }
@@ -74,7 +110,7 @@ pub fn push_guarded(
     ensures words { OnOk result (words.new ≡ words.old ++ s.guarded_words (plain_operand operand.now)) }
 {
     match operand {
-        Operand::Unsigned(_) => push_parenthesised(alloc, operand, words),
+        Operand::Unsigned(_) | Operand::NotZero(_) => push_parenthesised(alloc, operand, words),
         _ => push_whole(alloc, operand, words),
     }
 }

@@ -5,17 +5,17 @@ ghost use Rattle.glue_tree.specs.Term as t;
 ghost use Rattle.glue_binding.specs.Body.{IsAfter, plain_operand, plain_pieces, stack_of, newest_first, row_of};
 ghost use Rattle.glue_binding.specs.Spelling as s;
 ghost use Rattle.glue_steps.specs.Stack.{item_at};
-ghost use Rattle.glue_steps.specs.declared.step.Step.TheVariants.{ToUnsigned};
 
 use crate::calls::{call_export, call_import};
-use crate::objects::{borrow_index, take_index, unwrap_result};
+use crate::numbers::{is_not_zero, to_unsigned, to_unsigned_64};
+use crate::objects::{borrow_index, call_helper, unwrap_result};
 use crate::operand::{Operand, to_expr};
 use crate::piece::{Piece, join};
 use crate::stack::{next_name, pop, push};
 use glue_steps::Step;
 use glue_tree::{Expr, Stmt};
 use std::alloc::{AllocError, Global};
-use values::{Boxed, Duplicate, Seq, Text};
+use values::{Duplicate, Seq, Text};
 
 /// A body while it is spelled.
 #[derive(Drop)]
@@ -66,14 +66,6 @@ fn param(alloc: Global, params: &[Text], place: u32) -> Result<Operand, AllocErr
         Some(name) => Ok(Operand::Local(name.copy(alloc)?)),
         None => Ok(Operand::Missing),
     }
-}
-
-// The row of a number that is read as unsigned.
-fn to_unsigned(alloc: Global, body: &mut Body) -> Result<(), AllocError>
-    ensures after { OnOk result (IsAfter (row_of ToUnsigned [] body.old) body.old body.new) }
-{
-    let operand = Boxed::new(alloc, pop(&mut body.stack))?;
-    push(&mut body.stack, Operand::Unsigned(operand))
 }
 
 impl Body {
@@ -164,9 +156,11 @@ impl Body {
                 expression,
             } => call_import(alloc, self, *adapter, *params, *has_result, expression),
             Step::ToUnsigned => to_unsigned(alloc, self),
-            Step::TakeIndex => take_index(alloc, self),
+            Step::IsNotZero => is_not_zero(alloc, self),
+            Step::ToUnsigned64 => to_unsigned_64(alloc, self),
+            Step::CallHelper { helper, params } => call_helper(alloc, self, helper, *params),
             Step::IndexFromBorrow => borrow_index(alloc, self),
-            Step::UnwrapResult => unwrap_result(alloc, self),
+            Step::UnwrapResult { helper } => unwrap_result(alloc, self, helper),
         }
     }
 

@@ -85,12 +85,14 @@ fn push_wanted(
             expression,
             ..
         } => push_called(alloc, expression, *has_result, wanted),
-        Step::TakeIndex => push_numbered(alloc, count, wanted),
+        Step::ToUnsigned64 => push_numbered(alloc, count, wanted),
+        Step::CallHelper { .. } => push_numbered(alloc, count, wanted),
         Step::IndexFromBorrow => push_numbered(alloc, count, wanted),
         Step::Parameter(_) => Ok(()),
         Step::Unchanged => Ok(()),
         Step::ToUnsigned => Ok(()),
-        Step::UnwrapResult => Ok(()),
+        Step::IsNotZero => Ok(()),
+        Step::UnwrapResult { .. } => Ok(()),
     }
 }
 
@@ -101,7 +103,8 @@ fn counted(step: &Step, count: usize) -> usize
     ensures next { result ≤ count + 1 }
 {
     match step {
-        Step::TakeIndex => count + 1,
+        Step::ToUnsigned64 => count + 1,
+        Step::CallHelper { .. } => count + 1,
         Step::IndexFromBorrow => count + 1,
         _ => count,
     }

@@ -1,15 +1,15 @@
-//! Rows of the object table.
-ghost use Rattle.std.specs.Prelude.{◌≡◌, [], IfOk, OnOk, codes};
+//! Rows of helpers that are called, and of handles.
+ghost use Rattle.std.specs.Prelude.{◌≡◌, ◌∷◌, [], IfOk, OnOk, codes, map};
 ghost use Rattle.glue_tree.specs.Plainly.{plain_expr, plain_stmt};
 ghost use Rattle.glue_tree.specs.Term as t;
 ghost use Rattle.glue_binding.specs.Body.{IsAfter, plain_operand, row_of};
 ghost use Rattle.glue_binding.specs.Spelling as s;
-ghost use Rattle.glue_steps.specs.declared.step.Step.TheVariants.{TakeIndex, IndexFromBorrow, UnwrapResult};
+ghost use Rattle.glue_steps.specs.declared.step.Step.TheVariants.{CallHelper, IndexFromBorrow, UnwrapResult};
 
 use crate::body::Body;
-use crate::operand::{Operand, to_expr};
+use crate::operand::{Operand, to_expr, to_exprs};
 use crate::piece::one;
-use crate::stack::pop;
+use crate::stack::{pop, pop_operands};
 use glue_tree::{Expr, Stmt, UnaryOperator};
 use std::alloc::{AllocError, Global};
 use values::{Boxed, Seq, Text};
@@ -23,11 +23,20 @@ fn helper(alloc: Global, key: &str) -> Result<Expr, AllocError>
 
 // `helper(operand)`
 fn helper_call(alloc: Global, key: &str, operand: &Operand) -> Result<Expr, AllocError>
-    ensures { IfOk result (λ e. plain_expr e ≡ s.helper_call key.now (plain_operand operand.now)) }
+    ensures { IfOk result (λ e. plain_expr e ≡ s.helper_call key.now (plain_operand operand.now ∷ [])) }
 {
     let f = Boxed::new(alloc, helper(alloc, key)?)?;
     let mut args = Seq::new(alloc);
     args.push(to_expr(alloc, operand)?)?;
+    Ok(Expr::Call(f, args))
+}
+
+// `helper(operands)`
+fn helper_with(alloc: Global, key: &Text, operands: &[Operand]) -> Result<Expr, AllocError>
+    ensures { IfOk result (λ e. plain_expr e ≡ s.helper_call key.now (map plain_operand operands.now)) }
+{
+    let f = Boxed::new(alloc, helper(alloc, key.as_str())?)?;
+    let args = to_exprs(alloc, operands)?;
     Ok(Expr::Call(f, args))
 }
 
@@ -42,22 +51,32 @@ fn given_back(alloc: Global) -> Result<Stmt, AllocError>
     Ok(Stmt::Set(Expr::At(heap, place), undefined))
 }
 
-// `if (flag) { throw takeObject(handle); }`
-fn throwing(alloc: Global, flag: &Operand, handle: &Operand) -> Result<Stmt, AllocError>
-    ensures { IfOk result (λ line. plain_stmt line ≡ s.throw_line (plain_operand flag.now) (plain_operand handle.now)) }
+// `if (flag) { throw helper(handle); }`
+fn throwing(
+    alloc: Global,
+    helper: &Text,
+    flag: &Operand,
+    handle: &Operand,
+) -> Result<Stmt, AllocError>
+    ensures { IfOk result (λ line. plain_stmt line ≡ s.throw_line helper.now (plain_operand flag.now) (plain_operand handle.now)) }
 {
-    let thrown = Stmt::Throw(helper_call(alloc, "takeObject", handle)?);
+    let thrown = Stmt::Throw(helper_call(alloc, helper.as_str(), handle)?);
     let body = one(alloc, thrown)?;
     Ok(Stmt::If(to_expr(alloc, flag)?, body))
 }
 
-/// The row of an object that is taken.
-pub fn take_index(alloc: Global, body: &mut Body) -> Result<(), AllocError>
-    ensures after { OnOk result (IsAfter (row_of TakeIndex [] body.old) body.old body.new) }
+/// The row of a helper that is called with operands.
+pub fn call_helper(
+    alloc: Global,
+    body: &mut Body,
+    helper: &Text,
+    params: usize,
+) -> Result<(), AllocError>
+    ensures after { OnOk result (IsAfter (row_of (CallHelper helper.now params) [] body.old) body.old body.new) }
 {
-    let handle = pop(&mut body.stack);
-    let object = helper_call(alloc, "takeObject", &handle)?;
-    body.bind_value(alloc, object)?;
+    let operands = pop_operands(alloc, &mut body.stack, params)?;
+    let call = helper_with(alloc, helper, &operands)?;
+    body.bind_value(alloc, call)?;
     Ok(())
 }
 
@@ -73,11 +92,11 @@ pub fn borrow_index(alloc: Global, body: &mut Body) -> Result<(), AllocError>
 }
 
 /// The row of a result that may be a throw.
-pub fn unwrap_result(alloc: Global, body: &mut Body) -> Result<(), AllocError>
-    ensures after { OnOk result (IsAfter (row_of UnwrapResult [] body.old) body.old body.new) }
+pub fn unwrap_result(alloc: Global, body: &mut Body, helper: &Text) -> Result<(), AllocError>
+    ensures after { OnOk result (IsAfter (row_of (UnwrapResult helper.now) [] body.old) body.old body.new) }
 {
     let flag = pop(&mut body.stack);
     let handle = pop(&mut body.stack);
-    let line = throwing(alloc, &flag, &handle)?;
+    let line = throwing(alloc, helper, &flag, &handle)?;
     body.ahead(line)
 }

@@ -2,7 +2,6 @@
 ghost use Rattle.std.specs.Prelude.{◌≡◌, ◌++◌, ◌∷◌, [], IfOk, OnOk, map, pos};
 ghost use Rattle.glue_tree.specs.Plainly.{plain_expr, plain_exprs};
 ghost use Rattle.glue_tree.specs.Term as t;
-ghost use Rattle.glue_tree.specs.declared.tree.BinaryOperator.TheVariants.{ShiftUnsigned};
 ghost use Rattle.glue_binding.specs.Body.{plain_operand};
 ghost use Rattle.glue_binding.specs.Spelling.{term_of, terms};
 
@@ -19,15 +18,17 @@ pub enum Operand {
     Local(Text),
     /// An operand as an unsigned number of 32 bits.
     Unsigned(Boxed<Operand>),
+    /// Whether an operand isn't 0.
+    NotZero(Boxed<Operand>),
 }
 
-// `e >>> 0`
-fn unsigned(alloc: Global, e: Expr) -> Result<Expr, AllocError>
-    ensures { IfOk result (λ v. plain_expr v ≡ t.Two ShiftUnsigned (plain_expr e) (t.Lit (pos 0))) }
+// `e operator 0`
+fn with_zero(alloc: Global, operator: BinaryOperator, e: Expr) -> Result<Expr, AllocError>
+    ensures { IfOk result (λ v. plain_expr v ≡ t.Two operator (plain_expr e) (t.Lit (pos 0))) }
 {
     let e = Boxed::new(alloc, e)?;
     let zero = Boxed::new(alloc, Expr::Num(0))?;
-    Ok(Expr::Binary(BinaryOperator::ShiftUnsigned, e, zero))
+    Ok(Expr::Binary(operator, e, zero))
 }
 
 /// The expression of an operand.
@@ -37,7 +38,14 @@ pub fn to_expr(alloc: Global, operand: &Operand) -> Result<Expr, AllocError>
     match operand {
         Operand::Missing => Ok(Expr::Constant(Constant::Null)),
         Operand::Local(name) => Ok(Expr::Local(name.copy(alloc)?)),
-        Operand::Unsigned(inner) => unsigned(alloc, to_expr(alloc, inner.get())?),
+        Operand::Unsigned(inner) => {
+            let e = to_expr(alloc, inner.get())?;
+            with_zero(alloc, BinaryOperator::ShiftUnsigned, e)
+        }
+        Operand::NotZero(inner) => {
+            let e = to_expr(alloc, inner.get())?;
+            with_zero(alloc, BinaryOperator::StrictUnequal, e)
+        }
     }
 }
 

@@ -64,6 +64,8 @@ module _ (s : Settings) (m n : NameMap) (l : Lowered) where
   any_step (instr.CallAdapter id) = any_import id
   any_step (instr.WasmToInt32 true) = refl
   any_step (instr.WasmToInt32 false) = refl
+  any_step (instr.WasmToInt64 true) = refl
+  any_step (instr.WasmToInt64 false) = refl
   any_step other = refl
 
   any_steps : (code : List Instruction) → is_some (steps_of s m l code) ≡ is_some (steps_of s n l code)

@@ -1,9 +1,9 @@
 -- What an adapter does: its steps run over a stack of operands.
-use Rattle.std.specs.Prelude.{ℕ, zero, suc, Bool, true, false, List, [], ◌∷◌, ◌++◌, Option, Some, None, codes}
-use Rattle.values.specs.Value.{Helper, OfExport, Value, Undefined, Null, Reads, WritesAt, Calls, CallsAdapter, Answer, Ran, Went, Threw, Ended, Act, goes_on, step, and_then_cleans, is_true, unsigned, bump}
+use Rattle.std.specs.Prelude.{ℕ, zero, suc, pos, Bool, true, false, List, [], ◌∷◌, ◌++◌, Option, Some, None, codes}
+use Rattle.values.specs.Value.{Helper, OfExport, OfHost, Value, Undefined, Null, Number, Itself, Reads, WritesAt, Calls, CallsOn, CallsAdapter, Answer, Ran, Went, Threw, Ended, Act, goes_on, step, and_then_cleans, is_true, unsigned, is_not_zero, bump}
 use Rattle.glue_steps.specs.Stack.{top, below, item_at, operands, without}
 use Rattle.glue_steps.specs.declared.step.Step.{Step}
-use Rattle.glue_steps.specs.declared.step.Step.TheVariants.{Parameter, Unchanged, CallExport, CallImport, ToUnsigned, TakeIndex, IndexFromBorrow, UnwrapResult}
+use Rattle.glue_steps.specs.declared.step.Step.TheVariants.{Parameter, Unchanged, CallExport, CallImport, ToUnsigned, IsNotZero, ToUnsigned64, CallHelper, IndexFromBorrow, UnwrapResult}
 
 -- ---- steps. Where an operand or a parameter is lacking, `null` stands for it; a checked adapter never comes there
 
@@ -27,11 +27,15 @@ gives_back trace answers =
     goes_on (bump (Helper (codes "stack_pointer")) trace answers) (λ place.
     step (WritesAt heap place Undefined)))
 
--- where a flag is true, the object with a handle is taken out of the object table and thrown
-abbrev pub throws_if : Bool → Value → List Value → Act Left
-throws_if false handle stack trace answers = pushes stack trace answers
-throws_if true handle stack trace answers =
-    goes_on (step (Calls (Helper (codes "takeObject")) (handle ∷ [])) trace answers) Threw
+-- where a flag is true, a helper takes the object with a handle out of its table, and the object is thrown
+abbrev pub throws_if : Bool → (helper : List ℕ) → Value → List Value → Act Left
+throws_if false helper handle stack trace answers = pushes stack trace answers
+throws_if true helper handle stack trace answers =
+    goes_on (step (Calls (Helper helper) (handle ∷ [])) trace answers) Threw
+
+-- `BigInt.asUintN(64, v)`
+abbrev pub unsigned_64 : Value → Act Value
+unsigned_64 v = step (CallsOn (Itself (OfHost (codes "BigInt"))) (codes "asUintN") (Number (pos 64) ∷ v ∷ []))
 
 -- what a step does
 abbrev pub act : Step → List Value → List Value → Act Left
@@ -44,20 +48,24 @@ act (CallImport adapter n has_result expression) args stack trace answers =
     goes_on (step (CallsAdapter adapter (operands Null n stack [])) trace answers) (λ v.
     pushes (after_call has_result v (without n stack)))
 act ToUnsigned args stack trace answers = pushes (unsigned (top Null stack) ∷ below stack) trace answers
-act TakeIndex args stack trace answers =
-    goes_on (step (Calls (Helper (codes "takeObject")) (top Null stack ∷ [])) trace answers) (λ v.
+act IsNotZero args stack trace answers = pushes (is_not_zero (top Null stack) ∷ below stack) trace answers
+act ToUnsigned64 args stack trace answers =
+    goes_on (unsigned_64 (top Null stack) trace answers) (λ v.
     pushes (v ∷ below stack))
+act (CallHelper helper n) args stack trace answers =
+    goes_on (step (Calls (Helper helper) (operands Null n stack [])) trace answers) (λ v.
+    pushes (v ∷ without n stack))
 act IndexFromBorrow args stack trace answers =
     goes_on (step (Calls (Helper (codes "addBorrowedObject")) (top Null stack ∷ [])) trace answers) (λ v.
     Went (v ∷ below stack, gives_back ∷ []))
-act UnwrapResult args stack trace answers =
-    throws_if (is_true (top Null stack)) (top Null (below stack)) (below (below stack)) trace answers
+act (UnwrapResult helper) args stack trace answers =
+    throws_if (is_true (top Null stack)) helper (top Null (below stack)) (below (below stack)) trace answers
 
--- the helpers that a step calls, reads or writes, by their keys
+-- the helpers that a step calls, reads or writes, by their names
 abbrev pub helpers_of : Step → List (List ℕ)
-helpers_of TakeIndex = codes "takeObject" ∷ []
+helpers_of (CallHelper helper n) = helper ∷ []
 helpers_of IndexFromBorrow = codes "addBorrowedObject" ∷ codes "heap" ∷ codes "stack_pointer" ∷ []
-helpers_of UnwrapResult = codes "takeObject" ∷ []
+helpers_of (UnwrapResult helper) = helper ∷ []
 helpers_of other = []
 
 -- ---- adapters

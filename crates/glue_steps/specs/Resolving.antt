@@ -1,5 +1,6 @@
 -- The steps of an adapter: its instructions, with what their ids name in the module and the description.
-use Rattle.std.specs.Prelude.{ℕ, ◌==◌, Bool, true, false, List, [], ◌∷◌, length, Option, Some, None, option_map, option_and_then, slice_get, find}
+use Rattle.std.specs.Prelude.{ℕ, ◌==◌, Bool, true, false, if◌then◌else◌, List, [], ◌∷◌, ◌++◌, length, codes, Option, Some, None, option_map, option_and_then, slice_get, find}
+use Rattle.std.specs.Fmt.{decimal}
 use Rattle.std.specs.Ordering.{nat_cmp}
 use Rattle.std.specs.declared.cmp.Ordering.{Ordering}
 use Rattle.values.specs.Map.{look_up}
@@ -8,6 +9,7 @@ use Rattle.wasm_core.specs.entries.Export.{Export}
 use Rattle.wasm_core.specs.entries.ExportItem.{ExportItem}
 use Rattle.wasm_core.specs.entries.ExportItem.TheVariants as items
 use Rattle.wasm_core.specs.Contents.{Contents}
+use Rattle.wasm_core.specs.ids.TableId.{TableId}
 use Rattle.wasm_file.specs.contracts.entries.ExportItemOrd.TheImpl as by_kind
 use Rattle.glue_shared.specs.declared.adapter.Adapter.{Adapter}
 use Rattle.glue_shared.specs.declared.adapter.AdapterKind.{AdapterKind}
@@ -99,6 +101,34 @@ called_import s names l id a (kinds.Local code) = None
 abbrev pub import_step : Settings → NameMap → Lowered → ℕ → Option Step
 import_step s names l id = option_and_then (λ (a : Adapter). called_import s names l id a a.kind) (look_up nat_cmp l.wit.adapters id)
 
+-- the helper that takes or gives handles: one of the object table; where references stand in a table of the module, the other one, with the place
+-- of that table
+abbrev pub handle_helper : Settings → Lowered → (of_objects of_references : List ℕ) → Option (List ℕ)
+handle_helper s l of_objects of_references =
+    if s.externref then option_map (λ (table : TableId). of_references ++ decimal table.0) l.aux.externref_table else Some of_objects
+
+-- its call, with a handle or an object
+abbrev pub handle_call : Settings → Lowered → (of_objects of_references : List ℕ) → Option Step
+handle_call s l of_objects of_references =
+    option_map (λ (helper : List ℕ). steps.CallHelper helper 1) (handle_helper s l of_objects of_references)
+
+-- an object is lent to the object table alone
+abbrev pub borrowing : Settings → Option Step
+borrowing s = if s.externref then None else Some steps.IndexFromBorrow
+
+-- the test of a result, and the throw of what its handle stands for
+abbrev pub unwrapping : Settings → Lowered → Option Step
+unwrapping s l = option_map steps.UnwrapResult (handle_helper s l (codes "takeObject") (codes "takeFromExternrefTable"))
+
+-- the step that an instruction of handles is
+abbrev pub handle_step : Settings → Lowered → Instruction → Option Step
+handle_step s l instr.IndexFromOwned = handle_call s l (codes "addHeapObject") (codes "addToExternrefTable")
+handle_step s l instr.IndexFromBorrow = borrowing s
+handle_step s l instr.TakeIndex = handle_call s l (codes "takeObject") (codes "takeFromExternrefTable")
+handle_step s l instr.GetIndex = handle_call s l (codes "getObject") (codes "getFromExternrefTable")
+handle_step s l instr.UnwrapResult = unwrapping s l
+handle_step s l other = None
+
 -- the step that an instruction is, where it is built
 abbrev pub step_of : Settings → NameMap → Lowered → Instruction → Option Step
 step_of s names l (instr.ArgGet n) = Some (steps.Parameter n)
@@ -107,10 +137,12 @@ step_of s names l (instr.WasmToInt32 false) = Some steps.Unchanged
 step_of s names l (instr.WasmToInt32 true) = Some steps.ToUnsigned
 step_of s names l (instr.CallExport id) = export_step l.module id.0
 step_of s names l (instr.CallAdapter id) = import_step s names l id
-step_of s names l instr.TakeIndex = Some steps.TakeIndex
-step_of s names l instr.IndexFromBorrow = Some steps.IndexFromBorrow
-step_of s names l instr.UnwrapResult = Some steps.UnwrapResult
-step_of s names l other = None
+step_of s names l instr.Int64ToWasm = Some steps.Unchanged
+step_of s names l instr.I32FromBool = Some steps.Unchanged
+step_of s names l (instr.WasmToInt64 false) = Some steps.Unchanged
+step_of s names l (instr.WasmToInt64 true) = Some steps.ToUnsigned64
+step_of s names l instr.BoolFromI32 = Some steps.IsNotZero
+step_of s names l other = handle_step s l other
 
 abbrev pub with_step : Option Step → Option (List Step) → Option (List Step)
 with_step None rest = None

@@ -7,7 +7,8 @@ use crate::indexed::Indexed;
 use crate::step::Step;
 use glue_imports::{Basis, Expression, Given, expression, given_item};
 use glue_shared::{
-    Adapter, AdapterId, AdapterJsImportKind, AdapterKind, AuxImport, Instruction, NameMap,
+    Adapter, AdapterId, AdapterJsImportKind, AdapterKind, AuxImport, Instruction, Lowered, NameMap,
+    Settings,
 };
 use std::alloc::{AllocError, Global};
 use values::{Duplicate, Seq, Text};
@@ -149,6 +150,119 @@ fn import_step(
     }
 }
 
+// The helper that takes or gives handles: one of the object table; where references stand in a table of the module, the other
+// one, with the place of that table.
+fn handle_helper(
+    alloc: Global,
+    settings: &Settings,
+    lowered: &Lowered,
+    of_objects: &str,
+    of_references: &str,
+) -> Result<Option<Text>, AllocError>
+    ensures helper { IfOk result (λ helper. helper ≡ spec.handle_helper settings.now lowered.now of_objects.now of_references.now) }
+{
+    if !settings.externref {
+        return Ok(Some(Text::from_str(alloc, of_objects)?));
+    }
+    match lowered.aux.externref_table {
+        None => Ok(None),
+        Some(table) => {
+            let place = table.0;
+            Ok(Some(Text::new(format!(in alloc; "{of_references}{place}")?)))
+        }
+    }
+}
+
+// Its call, with a handle or an object.
+fn handle_call(
+    alloc: Global,
+    settings: &Settings,
+    lowered: &Lowered,
+    of_objects: &str,
+    of_references: &str,
+) -> Result<Option<Step>, AllocError>
+    ensures step { IfOk result (λ step. step ≡ spec.handle_call settings.now lowered.now of_objects.now of_references.now) }
+{
+    match handle_helper(alloc, settings, lowered, of_objects, of_references)? {
+        None => Ok(None),
+        Some(helper) => Ok(Some(Step::CallHelper { helper, params: 1 })),
+    }
+}
+
+// The test of a result, and the throw of what its handle stands for.
+fn unwrapping(
+    alloc: Global,
+    settings: &Settings,
+    lowered: &Lowered,
+) -> Result<Option<Step>, AllocError>
+    ensures step { IfOk result (λ step. step ≡ spec.unwrapping settings.now lowered.now) }
+{
+    match handle_helper(
+        alloc,
+        settings,
+        lowered,
+        "takeObject",
+        "takeFromExternrefTable",
+    )? {
+        None => Ok(None),
+        Some(helper) => Ok(Some(Step::UnwrapResult { helper })),
+    }
+}
+
+// An object is lent to the object table alone.
+fn borrowing(settings: &Settings) -> Option<Step>
+    ensures step { result ≡ spec.borrowing settings.now }
+{
+    if settings.externref {
+        None
+    } else {
+        Some(Step::IndexFromBorrow)
+    }
+}
+
+// The step that an instruction of handles is.
+fn handle_step(
+    alloc: Global,
+    settings: &Settings,
+    lowered: &Lowered,
+    instruction: &Instruction,
+) -> Result<Option<Step>, AllocError>
+    ensures step { IfOk result (λ step. step ≡ spec.handle_step settings.now lowered.now instruction.now) }
+{
+    match instruction {
+        Instruction::IndexFromOwned => {
+            handle_call(
+                alloc,
+                settings,
+                lowered,
+                "addHeapObject",
+                "addToExternrefTable",
+            )
+        }
+        Instruction::IndexFromBorrow => Ok(borrowing(settings)),
+        Instruction::TakeIndex => {
+            handle_call(
+                alloc,
+                settings,
+                lowered,
+                "takeObject",
+                "takeFromExternrefTable",
+            )
+        }
+        Instruction::GetIndex => {
+            handle_call(
+                alloc,
+                settings,
+                lowered,
+                "getObject",
+                "getFromExternrefTable",
+            )
+        }
+        Instruction::UnwrapResult => unwrapping(alloc, settings, lowered),
+        _ => Ok(None),
+    }
+}
+
 // The step that an instruction is, where it is built.
 fn step_of(
     alloc: Global,
@@ -164,10 +278,12 @@ fn step_of(
         Instruction::WasmToInt32(true) => Ok(Some(Step::ToUnsigned)),
         Instruction::CallExport(id) => export_step(alloc, &indexed.lowered().module, *id),
         Instruction::CallAdapter(id) => import_step(alloc, basis, indexed, *id),
-        Instruction::TakeIndex => Ok(Some(Step::TakeIndex)),
-        Instruction::IndexFromBorrow => Ok(Some(Step::IndexFromBorrow)),
-        Instruction::UnwrapResult => Ok(Some(Step::UnwrapResult)),
-        _ => Ok(None),
+        Instruction::Int64ToWasm | Instruction::I32FromBool | Instruction::WasmToInt64(false) => {
+            Ok(Some(Step::Unchanged))
+        }
+        Instruction::WasmToInt64(true) => Ok(Some(Step::ToUnsigned64)),
+        Instruction::BoolFromI32 => Ok(Some(Step::IsNotZero)),
+        other => handle_step(alloc, basis.settings, indexed.lowered(), other),
     }
 }
 

@@ -7,7 +7,7 @@ use values::Text;
 pub enum Step {
     /// Pushes the parameter at this place, counted from 0.
     Parameter(u32),
-    /// Leaves the newest operand as it is: a 32-bit signed integer between WebAssembly and JavaScript.
+    /// Leaves the newest operand as it is: a signed integer, or a truth, that the engine passes by itself.
     Unchanged,
     /// Calls a WebAssembly export with its operands.
     CallExport {
@@ -31,11 +31,23 @@ pub enum Step {
     },
     /// Reads the newest operand, a 32-bit integer from WebAssembly, as unsigned.
     ToUnsigned,
-    /// Takes the object with the newest operand as its handle out of the object table, and pushes it.
-    TakeIndex,
+    /// Whether the newest operand, a 32-bit integer from WebAssembly, isn't 0.
+    IsNotZero,
+    /// Reads the newest operand, a 64-bit integer from WebAssembly, as unsigned.
+    ToUnsigned64,
+    /// Calls a helper with its operands, and pushes its answer.
+    CallHelper {
+        /// The helper's name.
+        helper: Text,
+        /// How many operands it takes.
+        params: usize,
+    },
     /// Lends the newest operand to the object table until the adapter ends, and pushes its handle.
     IndexFromBorrow,
-    /// Pops a flag and a handle. Where the flag is true, the object with that handle is taken out of the object table
-    /// and thrown.
-    UnwrapResult,
+    /// Pops a flag and a handle. Where the flag is true, a helper takes the object with that handle out of the table that
+    /// it stands in, and the object is thrown.
+    UnwrapResult {
+        /// The helper's name.
+        helper: Text,
+    },
 }

@@ -249,6 +249,14 @@ fn asking(alloc: Global, name: &str, params: usize) -> Result<Step, AllocError> 
     })
 }
 
+/// The call of a helper.
+fn helping(alloc: Global, helper: &str, params: usize) -> Result<Step, AllocError> {
+    Ok(Step::CallHelper {
+        helper: Text::from_str(alloc, helper)?,
+        params,
+    })
+}
+
 /// Two objects are lent to an export, and the object that it gives is taken.
 fn lending(alloc: Global) -> Result<String, AllocError> {
     let mut steps = Vec::new(alloc);
@@ -257,7 +265,7 @@ fn lending(alloc: Global) -> Result<String, AllocError> {
         steps.push(Step::IndexFromBorrow)?;
     }
     steps.push(asking(alloc, "f", 2)?)?;
-    steps.push(Step::TakeIndex)?;
+    steps.push(helping(alloc, "takeObject", 1)?)?;
     bound(alloc, &steps, &["v0", "heap"])
 }
 
@@ -266,7 +274,9 @@ fn throwing(alloc: Global) -> Result<String, AllocError> {
     let mut steps = Vec::new(alloc);
     steps.push(Step::Parameter(0))?;
     steps.push(Step::Parameter(1))?;
-    steps.push(Step::UnwrapResult)?;
+    steps.push(Step::UnwrapResult {
+        helper: Text::from_str(alloc, "takeObject")?,
+    })?;
     steps.push(asking(alloc, "g", 0)?)?;
     steps.push(Step::ToUnsigned)?;
     bound(alloc, &steps, &["a", "takeObject"])
@@ -286,4 +296,53 @@ fn objects(rt: HostRuntime) -> Result<(), AllocError> {
         thrown,
         "(a, takeObject2) {\nif (takeObject2) {\nthrow takeObject(a);\n}\nconst ret = wasm.g();\nreturn ret >>> 0;\n}",
     )
+}
+
+/// A helper is given two operands, and its answer is an operand of the next call.
+fn helped(alloc: Global) -> Result<String, AllocError> {
+    let mut steps = Vec::new(alloc);
+    push_parameters(&mut steps, 2)?;
+    steps.push(helping(alloc, "addHeapObject", 2)?)?;
+    steps.push(helping(alloc, "getObject", 1)?)?;
+    bound(alloc, &steps, &["v0", "getObject"])
+}
+
+/// Numbers of 64 bits are read as unsigned, and compared by an export.
+fn wide(alloc: Global) -> Result<String, AllocError> {
+    let mut steps = Vec::new(alloc);
+    for place in 0..2u32 {
+        steps.push(Step::Parameter(place))?;
+        steps.push(Step::ToUnsigned64)?;
+    }
+    steps.push(asking(alloc, "less", 2)?)?;
+    steps.push(Step::IsNotZero)?;
+    bound(alloc, &steps, &["a", "BigInt"])
+}
+
+/// A comparison is read as an unsigned number, which is compared again.
+fn compared(alloc: Global) -> Result<String, AllocError> {
+    let mut steps = Vec::new(alloc);
+    steps.push(Step::Parameter(0))?;
+    steps.push(Step::IsNotZero)?;
+    steps.push(Step::ToUnsigned)?;
+    steps.push(Step::IsNotZero)?;
+    bound(alloc, &steps, &["x"])
+}
+
+#[test]
+fn numbers_truths_and_helpers(rt: HostRuntime) -> Result<(), AllocError> {
+    let helped = helped(rt.alloc());
+    assert_told(
+        &rt,
+        helped,
+        "(v0, getObject2) {\nconst v02 = addHeapObject(v0, getObject2);\nconst v1 = getObject(v02);\nreturn v1;\n}",
+    )?;
+    let wide = wide(rt.alloc());
+    assert_told(
+        &rt,
+        wide,
+        "(a, BigInt2) {\nconst v0 = BigInt.asUintN(64, a);\nconst v1 = BigInt.asUintN(64, BigInt2);\nconst ret = wasm.less(v0, v1);\nreturn ret !== 0;\n}",
+    )?;
+    let compared = compared(rt.alloc());
+    assert_told(&rt, compared, "(x) {\nreturn (x !== 0) >>> 0 !== 0;\n}")
 }

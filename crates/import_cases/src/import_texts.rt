@@ -22,12 +22,22 @@ const PARTS: &str = r#","parts":{"function_table":0,"externref_table":1}"#;
 
 const SLOTS: &str = r#","static_slots":["a",null,"b\"c"]"#;
 
-/// Appends `["ArgGet",n],["WasmToInt32",..],` for each operand.
+/// What makes an operand of a 32-bit integer.
+fn made_by(letter: char) -> &'static str {
+    match letter {
+        'u' => r#"["WasmToInt32",true]"#,
+        'b' => r#"["BoolFromI32"]"#,
+        'n' => r#"["BoolFromI32"],["I32FromBool"],["WasmToInt32",true]"#,
+        _ => r#"["WasmToInt32",false]"#,
+    }
+}
+
+/// Appends `["ArgGet",n],` for each operand, and what makes it.
 fn push_operands(alloc: Global, code: &mut String, operands: &str) -> Result<(), AllocError> {
     let mut place = 0u32;
     for letter in operands.chars() {
-        let unsigned = letter == 'u';
-        let text = format!(in alloc; "[\"ArgGet\",{place}],[\"WasmToInt32\",{unsigned}],")?;
+        let made = made_by(letter);
+        let text = format!(in alloc; "[\"ArgGet\",{place}],{made},")?;
         code.push_str(text.as_str())?;
         place = place.wrapping_add(1);
     }

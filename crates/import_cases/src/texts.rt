@@ -3,7 +3,7 @@
 /// The JSON of what is described; how it is called, with `spread` where the last argument is spread, `bound` where there is a result,
 /// `split` where linked modules are split off, `web` where the file is made for browsers, `references` where references are kept in a table of
 /// the module and `slots` where texts stand in it; a letter for each operand, `i` for a
-/// parameter and `u` for one that is read as unsigned; and the statements.
+/// parameter, `u` for one that is read as unsigned, `b` for a truth and `n` for a truth that is read as an unsigned number; and the statements.
 pub type Case<'a> = (&'a str, &'a str, &'a str, &'a str);
 
 /// The name of an operation, its operands, and the expression that is returned.
@@ -16,6 +16,20 @@ pub const VALUES: &[Case] = &[
         "normal bound",
         "uu",
         r#"const ret = Thing(arg0 >>> 0, arg1 >>> 0);
+return ret;"#,
+    ),
+    (
+        r#"["Bare",{"global":"Thing"}]"#,
+        "normal bound",
+        "bn",
+        r#"const ret = Thing(arg0 !== 0, (arg1 !== 0) >>> 0);
+return ret;"#,
+    ),
+    (
+        r#"["Bare",{"global":"Thing"}]"#,
+        "normal spread bound",
+        "ub",
+        r#"const ret = Thing(arg0 >>> 0, ...(arg1 !== 0));
 return ret;"#,
     ),
     (
@@ -176,6 +190,13 @@ return ret;"#,
     (
         r#"["StructuralGetter","do-it"]"#,
         "normal bound",
+        "n",
+        r#"const ret = ((arg0 !== 0) >>> 0)["do-it"];
+return ret;"#,
+    ),
+    (
+        r#"["StructuralGetter","do-it"]"#,
+        "normal bound",
         "u",
         r#"const ret = (arg0 >>> 0)["do-it"];
 return ret;"#,
@@ -326,6 +347,10 @@ pub const OPERATIONS: &[Operation] = &[
     ("Typeof", "u", "typeof (arg0 >>> 0)"),
     ("In", "uu", "(arg0 >>> 0) in (arg1 >>> 0)"),
     ("IsFalsy", "u", "!(arg0 >>> 0)"),
+    ("IsUndefined", "b", "(arg0 !== 0) === undefined"),
+    ("Typeof", "b", "typeof (arg0 !== 0)"),
+    ("IsSymbol", "b", r#"typeof(arg0 !== 0) === "symbol""#),
+    ("Add", "nb", "((arg0 !== 0) >>> 0) + (arg1 !== 0)"),
     ("Neg", "u", "-(arg0 >>> 0)"),
     ("BitAnd", "uu", "(arg0 >>> 0) & (arg1 >>> 0)"),
     ("BitOr", "uu", "(arg0 >>> 0) | (arg1 >>> 0)"),

@@ -9,8 +9,8 @@ use Rattle.glue_binding.proofs.objects.borrow_index.Goals as goal
 pub returns : goal.returns
 returns c =
     let body = c.args.body.now in
-    let value = c.in_ok-handle.ensures ∙ ap (helper_call
-    (codes "addBorrowedObject")) c.pop-object.ensures.top in record {
+    let value = c.in_ok-handle.ensures ∙ ap (λ p. helper_call
+    (codes "addBorrowedObject") (p ∷ [])) c.pop-object.ensures.top in record {
       after = record {
         pieces = two_pieces _ _ _ _ _
             (c.in_ok-bind_value.ensures.pieces ∙ ap (λ e. plain_pieces body.pieces
