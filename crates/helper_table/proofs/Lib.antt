@@ -1,4 +1,10 @@
 pub mod Own
 pub mod Steps
 pub mod Entries
+pub mod HeldItems
 pub mod Held
+pub mod Supplies
+pub mod SuppliedTexts
+pub mod SuppliedNames
+pub mod ListedNames
+pub mod Supplied

@@ -230,6 +230,11 @@ unfolding HasRole
 own_case None own key words there role is same = absurd (true≢false (sym there))
 own_case (Some item) own key words there role is same = ap Some (item_is item key words (role ∙ ap Helper (sym is)) same)
 
+-- the entry of a helper that is there is its item
+pub entry_item : (parts : HelperParts) (i : ℕ) (key : List ℕ) (words : List Word) → is_there (helper_item parts i) ≡ true → key ≡ helper_key i
+    → words ≡ helper_words parts i → helper_item parts i ≡ Some (held_item (key, words))
+entry_item parts i key words there is same = own_case (helper_item parts i) (helper_key i) key words there (own_role parts i) is same
+
 -- each entry is the item of a helper that is there
 pub owned : (parts : HelperParts) (needed : List ℕ) (entries : List (List ℕ × List Word))
     → AreHelpers helper_key (helper_words parts) (binder parts) needed entries → ArePresent parts needed → (key : List ℕ) (words : List Word)
@@ -237,4 +242,4 @@ pub owned : (parts : HelperParts) (needed : List ℕ) (entries : List (List ℕ 
 owned parts needed entries helpers present key words e =
     let found = helpers.entries_are.only key words e in
     let there = held_there parts needed entries helpers present found.0 found.1.0 in
-    (found.0, own_case (helper_item parts found.0) (helper_key found.0) key words there (own_role parts found.0) found.1.1 found.1.2)
+    (found.0, entry_item parts found.0 key words there found.1.1 found.1.2)

@@ -1,6 +1,6 @@
 -- Steps of loops over texts, words and names.
 use Rattle.std.proofs.Common.{◌≡◌, ℕ, ◌+◌, ◌<◌, ◌^◌, List, [], ◌∷◌, ◌++◌, length, take, get_or, map, refl, sym, ap, subst, ◌∙◌, arith, zero, suc, Bool, true, false, cond, fold}
-use Rattle.std.proofs.Common.{Result, Ok, Err, IfOk, inl, inr}
+use Rattle.std.proofs.Common.{Result, Ok, Err, IfOk, inl, inr, All}
 use Rattle.std.specs.Prelude.{Option, Some, None, MatchOption}
 use Rattle.std.specs.List.{cons_option}
 use Rattle.std.specs.Fmt.{decimal}
@@ -97,30 +97,41 @@ all_needed parts keys =
 
 -- ---- helpers that names ask for
 
-with_present : (parts : HelperParts) (nodes : List ℕ) (o : Option ℕ) → ((i : ℕ) → o ≡ Some i → (i < count parts) × (is_there (helper_item parts i) ≡ true))
-    → ArePresent parts nodes → ArePresent parts (with_helper nodes o)
-with_present parts nodes None there h = h
-with_present parts nodes (Some i) there h = by (is_one nodes i)
-  where
-    by : (b : Bool) → ArePresent parts (cond b nodes (nodes ++ i ∷ []))
-    by true = h
-    by false = All-push (λ j. (j < count parts) × (is_there (helper_item parts j) ≡ true)) nodes i h (there i refl)
+module _ (parts : HelperParts) (P : ℕ → Type 0) where
+  with_all : (nodes : List ℕ) (o : Option ℕ) → ((i : ℕ) → o ≡ Some i → P i) → All P nodes → All P (with_helper nodes o)
+  with_all nodes None there h = h
+  with_all nodes (Some i) there h = by (is_one nodes i)
+    where
+      by : (b : Bool) → All P (cond b nodes (nodes ++ i ∷ []))
+      by true = h
+      by false = All-push P nodes i h (there i refl)
 
-names_present : (parts : HelperParts) (names : List (List ℕ)) (nodes : List ℕ) → ArePresent parts nodes → ArePresent parts (fold (with_binder parts) nodes names)
-names_present parts [] nodes h = h
-names_present parts (name ∷ names) nodes h =
-    names_present parts names (with_binder parts nodes name) (with_present parts nodes (binder parts name)
-    (λ i e. let b = binds_law parts name i e in (b.0, bound_there parts i name b.1)) h)
+  names_all : (names : List (List ℕ)) (nodes : List ℕ) → ((name : List ℕ) (i : ℕ) → IsIn name names → binder parts name ≡ Some i → P i) → All P nodes
+      → All P (fold (with_binder parts) nodes names)
+  names_all [] nodes give h = h
+  names_all (name ∷ names) nodes give h =
+      names_all names (with_binder parts nodes name) (λ n i at. give n i (inr at))
+      (with_all nodes (binder parts name) (λ i. give name i (inl refl)) h)
 
-items_present : (parts : HelperParts) (items : List Item) (nodes : List ℕ) → ArePresent parts nodes
-    → ArePresent parts (fold (λ nodes (item : Item). with_words parts nodes item.words) nodes items)
-items_present parts [] nodes h = h
-items_present parts (item ∷ items) nodes h =
-    items_present parts items (with_words parts nodes item.words) (names_present parts (used_in item.words) nodes h)
+  items_all : (items : List Item) (nodes : List ℕ)
+      → ((item : Item) (name : List ℕ) (i : ℕ) → IsIn item items → IsIn name (used_in item.words) → binder parts name ≡ Some i → P i) → All P nodes
+      → All P (fold (λ nodes (item : Item). with_words parts nodes item.words) nodes items)
+  items_all [] nodes give h = h
+  items_all (item ∷ items) nodes give h =
+      items_all items (with_words parts nodes item.words) (λ x name i at. give x name i (inr at))
+      (names_all (used_in item.words) nodes (λ name i. give item name i (inl refl)) h)
+
+  -- what holds of each helper to which words of items refer holds of all that they ask for
+  pub asked_all : (items : List Item)
+      → ((item : Item) (name : List ℕ) (i : ℕ) → IsIn item items → IsIn name (used_in item.words) → binder parts name ≡ Some i → P i)
+      → All P (asked_helpers parts items)
+  asked_all items give = items_all items [] give (All-nil P)
 
 -- the helpers that items ask for are there
 pub all_asked : (parts : HelperParts) (items : List Item) → ArePresent parts (asked_helpers parts items)
-all_asked parts items = items_present parts items [] (All-nil _)
+all_asked parts items =
+    asked_all parts (λ node. (node < count parts) × (is_there (helper_item parts node) ≡ true)) items
+    (λ item name i at used e. let b = binds_law parts name i e in (b.0, bound_there parts i name b.1))
 
 -- a helper that is there is added no second time
 pub asked_again : (parts : HelperParts) (nodes : List ℕ) (name : List ℕ) (node : ℕ) → IsBinder name (Some node) → is_one nodes node ≡ true

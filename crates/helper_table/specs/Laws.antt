@@ -278,7 +278,7 @@ unkeyed parts key away = first_never (has_key parts key) (count parts) (λ j lt 
 abbrev pub IsSingleAway : List ℕ → Type 0
 IsSingleAway name = IsNoText SINGLE_BINDS single_names name
 
-place_small : (i : ℕ) → IsNode i → place_of i < 2 ^ 32
+pub place_small : (i : ℕ) → IsNode i → place_of i < 2 ^ 32
 place_small i near = omega (arith, near, div-add-mod (i - SINGLES) FAMILIES)
 
 none_by : (b : Bool) (name : List ℕ) (i : ℕ) → IsSingleAway name → IsUnplaced name → IsNode i → IsBound b i name → ⊥
@@ -303,7 +303,7 @@ pub single_binder : (name : List ℕ) (p : ℕ) → p < SINGLE_BINDS → name �
 single_binder name p lt is =
     (owner_case (nat_lt p SINGLES) p refl, λ parts j near h. single_by (nat_lt j SINGLES) name p j lt is refl near (told parts j name h))
 
-owner_below : (b : Bool) (p : ℕ) → nat_lt p FAMILIES ≡ b → p < FAMILY_BINDS → cond b p (p - FAMILIES) < FAMILIES
+pub owner_below : (b : Bool) (p : ℕ) → nat_lt p FAMILIES ≡ b → p < FAMILY_BINDS → cond b p (p - FAMILIES) < FAMILIES
 owner_below true p e lt = ltb-true p FAMILIES e
 owner_below false p e lt = omega (arith, lt, ltb-false p FAMILIES e)
 
@@ -311,10 +311,10 @@ owner_below false p e lt = omega (arith, lt, ltb-false p FAMILIES e)
 abbrev pub node_at : ℕ → ℕ → ℕ
 node_at q n = SINGLES + FAMILIES * n + q
 
-node_family : (q n : ℕ) → q < FAMILIES → family_of (node_at q n) ≡ q
+pub node_family : (q n : ℕ) → q < FAMILIES → family_of (node_at q n) ≡ q
 node_family q n lt = let at : node_at q n - SINGLES ≡ n * FAMILIES + q = omega arith in ap (λ (m : ℕ). m % FAMILIES) at ∙ mod-mul-add n FAMILIES q lt
 
-node_place : (q n : ℕ) → q < FAMILIES → place_of (node_at q n) ≡ n
+pub node_place : (q n : ℕ) → q < FAMILIES → place_of (node_at q n) ≡ n
 node_place q n lt = let at : node_at q n - SINGLES ≡ n * FAMILIES + q = omega arith in ap (λ (m : ℕ). m / FAMILIES) at ∙ div-mul-add n FAMILIES q lt
 
 family_by : (c : Bool) (name : List ℕ) (p n j : ℕ) → p < FAMILY_BINDS → n < 2 ^ 32 → name ≡ family_name p n
