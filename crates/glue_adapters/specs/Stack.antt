@@ -108,9 +108,18 @@ adapter_effect a = effect_of (map argument_kind a.args) (answer_kinds a.results)
 unfoldable pub effect : Lowered → List Kind → Instruction → Option Effect
 effect l params (instr.ArgGet n) = option_map (λ k. effect_of [] (k ∷ [])) (slice_get params n)
 effect l params instr.Int32ToWasm = Some (effect_of (kind.Js ∷ []) (kind.I32 ∷ []))
+effect l params instr.Int64ToWasm = Some (effect_of (kind.Js ∷ []) (kind.I64 ∷ []))
+effect l params instr.I32FromBool = Some (effect_of (kind.Js ∷ []) (kind.I32 ∷ []))
 effect l params (instr.WasmToInt32 unsigned) = Some (effect_of (kind.I32 ∷ []) (kind.Js ∷ []))
+effect l params (instr.WasmToInt64 unsigned) = Some (effect_of (kind.I64 ∷ []) (kind.Js ∷ []))
+effect l params instr.BoolFromI32 = Some (effect_of (kind.I32 ∷ []) (kind.Js ∷ []))
 effect l params (instr.CallExport id) = option_and_then call_effect (export_type l.«module» id.0)
 effect l params (instr.CallAdapter id) = option_map adapter_effect (look_up nat_cmp l.wit.adapters id)
+effect l params instr.IndexFromOwned = Some (effect_of (kind.Js ∷ []) (kind.I32 ∷ []))
+effect l params instr.IndexFromBorrow = Some (effect_of (kind.Js ∷ []) (kind.I32 ∷ []))
+effect l params instr.TakeIndex = Some (effect_of (kind.I32 ∷ []) (kind.Js ∷ []))
+effect l params instr.GetIndex = Some (effect_of (kind.I32 ∷ []) (kind.Js ∷ []))
+effect l params instr.UnwrapResult = Some (effect_of (kind.I32 ∷ kind.I32 ∷ []) [])
 effect l params other = None
 
 -- ---- the whole code

@@ -131,8 +131,17 @@ fn instruction_effect(
 {
     match instruction {
         Instruction::ArgGet(n) => parameter_effect(alloc, params.get(*n as usize)),
-        Instruction::Int32ToWasm => effect_of(alloc, &[Kind::Js], &[Kind::I32]),
-        Instruction::WasmToInt32(_) => effect_of(alloc, &[Kind::I32], &[Kind::Js]),
+        Instruction::Int32ToWasm
+        | Instruction::I32FromBool
+        | Instruction::IndexFromOwned
+        | Instruction::IndexFromBorrow => effect_of(alloc, &[Kind::Js], &[Kind::I32]),
+        Instruction::WasmToInt32(_)
+        | Instruction::BoolFromI32
+        | Instruction::TakeIndex
+        | Instruction::GetIndex => effect_of(alloc, &[Kind::I32], &[Kind::Js]),
+        Instruction::Int64ToWasm => effect_of(alloc, &[Kind::Js], &[Kind::I64]),
+        Instruction::WasmToInt64(_) => effect_of(alloc, &[Kind::I64], &[Kind::Js]),
+        Instruction::UnwrapResult => effect_of(alloc, &[Kind::I32, Kind::I32], &[]),
         Instruction::CallExport(id) => export_effect(alloc, export_type(&lowered.module, *id)),
         Instruction::CallAdapter(id) => adapter_effect(alloc, lowered.wit.adapters.get(id)),
         _ => Ok(None),

@@ -3,7 +3,9 @@ use Rattle.std.proofs.Common.{◌≡◌, ℕ, List, Bool, true, false, cond, Opt
 use Rattle.std.specs.Prelude.{◌||◌, codes, is_some}
 use Rattle.std.proofs.lemmas.Bool.{and_parts}
 use Rattle.std.specs.List.{list_any}
+use Rattle.std.specs.Option.{option_or}
 use Rattle.values.specs.Lists.{IsIn}
+use Rattle.glue_shared.specs.declared.adapter.Adapter.{Adapter}
 use Rattle.glue_shared.specs.declared.import.AuxImport.{AuxImport}
 use Rattle.glue_shared.specs.declared.import.AuxImport.TheVariants as what
 use Rattle.glue_shared.specs.declared.import.Intrinsic.{Intrinsic}
@@ -13,12 +15,13 @@ use Rattle.glue_shared.specs.declared.settings.Settings.{Settings}
 use Rattle.glue_faults.specs.declared.fault.Fault.TheVariants as faults
 use Rattle.glue_faults.specs.First.{first_of}
 use Rattle.glue_faults.proofs.First.{first_of-none, list_any-none, option_map-none, where_true-none}
+use Rattle.glue_adapters.specs.Adapters.{code_of}
 use Rattle.glue_imports.specs.Expressions.{has_expression}
 use Rattle.glue_imports.specs.Given.{given_item, gives_item, is_giving}
 use Rattle.glue_check.specs.declared.verdict.Condition.TheVariants as conditions
 use Rattle.glue_check.specs.Answers.{answer}
 use Rattle.glue_check.specs.Links.{unembedded}
-use Rattle.glue_check.specs.Missing.{entry_lacks, excludes, has_sole_memory, is_excluded, lacked_part, lacked_unless, lacking, memory_there}
+use Rattle.glue_check.specs.Missing.{adapter_lacks, entry_lacks, excludes, instruction_lacks, has_sole_memory, is_excluded, lacked_part, lacked_unless, lacking, memory_there}
 use Rattle.glue_check.specs.TargetValues.{is_absent}
 use Rattle.glue_check.specs.Unbuilt.{is_told}
 use Rattle.glue_check.specs.Verdict.{verdict}
@@ -43,13 +46,28 @@ present s l h e i =
     (none_of conditions.IntrinsicTarget s l (search rules) h) in
     list_any-none (is_absent s.target) l.aux.imports e none i
 
--- none lacks a part
-complete : (s : Settings) (l : Lowered) → verdict s l ≡ None → (e : ℕ × AuxImport) → IsIn e l.aux.imports → lacking s l e.1 ≡ None
+-- of two answers where the first that is one is none
+pub or_none : {A : Type 0} (a b : Option A) → option_or a b ≡ None → (a ≡ None) × (b ≡ None)
+or_none None b h = (refl, h)
+or_none (Some x) b h = cc
+
+-- no adapter lacks a part, and no import
+none_missing : (s : Settings) (l : Lowered) → verdict s l ≡ None
+    → (first_of (adapter_lacks s) l.wit.adapters ≡ None) × (first_of (entry_lacks s l) l.aux.imports ≡ None)
 unfolding answer
-complete s l h e i =
-    let none = option_map-none faults.MissingPart (first_of (entry_lacks s l) l.aux.imports)
-    (none_of conditions.MissingPart s l (search rules) h) in
-    first_of-none (entry_lacks s l) l.aux.imports e none i
+none_missing s l h =
+    let adapters = first_of (adapter_lacks s) l.wit.adapters in
+    let imports = first_of (entry_lacks s l) l.aux.imports in
+    or_none adapters imports (option_map-none faults.MissingPart (option_or adapters imports) (none_of conditions.MissingPart s l (search rules) h))
+
+-- no instruction of an adapter lacks one
+pub code_complete : (s : Settings) (l : Lowered) → verdict s l ≡ None → (e : ℕ × Adapter) → IsIn e l.wit.adapters
+    → first_of (instruction_lacks s.externref) (code_of e.1.kind) ≡ None
+code_complete s l h e i = first_of-none (adapter_lacks s) l.wit.adapters e (none_missing s l h).0 i
+
+-- none of the imports lacks a part
+complete : (s : Settings) (l : Lowered) → verdict s l ≡ None → (e : ℕ × AuxImport) → IsIn e l.aux.imports → lacking s l e.1 ≡ None
+complete s l h e i = first_of-none (entry_lacks s l) l.aux.imports e (none_missing s l h).1 i
 
 -- a part that isn't lacked is there
 there_if : (there : Bool) (part : List ℕ) → lacked_unless there part ≡ None → there ≡ true

@@ -58,7 +58,7 @@ first ▸ rest = (first, rest)
 unbuilt_kind : (files : FileFlags) (s : Settings) (l : Lowered) → IsOfCheck (unbuilt files s l)
 unfolding unbuilt
 unbuilt_kind files s l = first_some-kind
-    (unbuilt_target s ∷ unbuilt_imports s l ∷ unbuilt_instructions l ∷ unbuilt_classes l ∷ unbuilt_settings s ∷ unbuilt_lifecycle l ∷ unbuilt_files files l ∷ [])
+    (unbuilt_target s ∷ unbuilt_imports s l ∷ unbuilt_instructions s l ∷ unbuilt_classes l ∷ unbuilt_settings s ∷ unbuilt_lifecycle l ∷ unbuilt_files files l ∷ [])
     (where_true-kind _ _ refl ▸ where_true-kind _ _ refl ▸ where_true-kind _ _ refl ▸ where_true-kind _ _ refl
     ▸ where_true-kind _ _ refl ▸ where_true-kind _ _ refl ▸ where_true-kind _ _ refl ▸ tt)
 

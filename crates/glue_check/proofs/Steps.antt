@@ -1,7 +1,7 @@
 -- Each adapter that becomes a function has steps, and what each step names is there: where the places of instructions on the stack are
 -- checked and all is built.
 use Rattle.std.proofs.Common.{◌≡◌, ℕ, zero, suc, ◌==◌, List, [], ◌∷◌, map, arith, true, false, Option, Some, None, true≢false, refl, sym, ap, ◌∙◌, subst, Bool, inl, inr}
-use Rattle.std.specs.Prelude.{◌||◌, cond, option_and_then, option_map, IsSomeAnd}
+use Rattle.std.specs.Prelude.{◌||◌, codes, cond, option_and_then, option_map, IsSomeAnd}
 use Rattle.std.specs.List.{AllByRecursion, list_any, list_all, filter_map, find}
 use Rattle.std.specs.Option.{is_some}
 use Rattle.std.proofs.lemmas.Bool.{and_parts, eqb-true}
@@ -20,7 +20,7 @@ use Rattle.glue_shared.specs.declared.settings.Settings.{Settings}
 use Rattle.glue_shared.specs.Names.{entry_of, has_number, own_imports}
 use Rattle.glue_shared.specs.Names as described_names
 use Rattle.glue_adapters.specs.step.Step.{Step}
-use Rattle.glue_adapters.specs.step.Step.TheVariants.{CallExport, CallImport, TakeIndex, IndexFromBorrow, UnwrapResult}
+use Rattle.glue_adapters.specs.step.Step.TheVariants.{CallExport, CallImport, CallHelper, UnwrapResult}
 use Rattle.glue_adapters.specs.Resolving.{entry_at, is_some_item, export_step, given_of, is_spread, import_step_of, import_step, step_of, steps_of, adapter_steps}
 use Rattle.glue_adapters.specs.Exported.{export_name, export_names}
 use Rattle.glue_adapters.specs.declared.kind.Kind.{Kind}
@@ -32,13 +32,15 @@ use Rattle.glue_imports.specs.declared.part.Expression.{Expression}
 use Rattle.glue_imports.specs.Expressions.{expression}
 use Rattle.glue_imports.specs.Given.{given_item, gives_item}
 use Rattle.glue_imports.proofs.Any.{any_call}
+use Rattle.glue_faults.specs.First.{first_of}
 use Rattle.glue_check.specs.Handed.{own_callees}
+use Rattle.glue_check.specs.Missing.{instruction_lacks}
 use Rattle.glue_check.specs.Unbuilt.{is_unbuilt_instruction}
 use Rattle.glue_check.specs.Verdict.{unbuilt, verdict}
 use Rattle.glue_check.proofs.BuiltForm.{AreBuiltImports, imports_built, adapters_built}
 use Rattle.glue_check.proofs.Called.{called_own}
 use Rattle.glue_check.proofs.Globals.{some_of}
-use Rattle.glue_check.proofs.Embedded.{expression_there, given_there}
+use Rattle.glue_check.proofs.Embedded.{code_complete, expression_there, given_there, or_none}
 use Rattle.glue_check.proofs.Passed.{exports_fit, pairs_fit, looked_up}
 
 -- the expression of a described import that an adapter of an own import calls, where these names are drawn; the item of the module that it
@@ -54,13 +56,16 @@ pub record IsDescribed (s : Settings) (l : Lowered) (names : NameMap) (text : Ex
   pub is : expression s names (given_of names l entry.1) call spread bound entry.1 ≡ Some text
   pub given : gives_item entry.1 ≡ true → is_some (given_item l entry.1) ≡ true
 
--- what a step names is there: an export of the module, or the expression of a described import
+-- the helpers of handles, which are those of the object table: nothing of the module is needed for them
+abbrev pub handle_helpers : List (List ℕ)
+handle_helpers = codes "addHeapObject" ∷ codes "getObject" ∷ codes "takeObject" ∷ []
+
+-- what a step names is there: an export of the module, the expression of a described import, or a helper of handles
 abbrev pub IsThere : Settings → Lowered → NameMap → Step → Type 0
 IsThere s l names (CallExport name n has_result) = IsIn name (export_names l.«module»)
 IsThere s l names (CallImport adapter n has_result text) = IsDescribed s l names text
-IsThere s l names TakeIndex = ⊥
-IsThere s l names IndexFromBorrow = ⊥
-IsThere s l names UnwrapResult = ⊥
+IsThere s l names (CallHelper helper n) = IsIn helper handle_helpers
+IsThere s l names (UnwrapResult helper) = IsIn helper handle_helpers
 IsThere s l names other = Unit {0}
 
 -- an adapter has steps, whatever names are drawn, and what each of them names is there
@@ -135,21 +140,33 @@ module _ (s : Settings) (l : Lowered) (names : NameMap) where
       (λ e i same found. entry_step built passed id e i (subst (λ (n : ℕ). has_number n (own_callees s l) ≡ true) (sym same) own)
       (subst (λ (n : ℕ). entry_of n l.aux.imports ≡ Some e.1) (sym same) (ap (option_map (λ (x : ℕ × AuxImport). x.1)) found))) in grind arith
 
+  -- an object is lent where nothing is lacking, to the object table
+  lent : (externref : Bool) → instruction_lacks externref instr.IndexFromBorrow ≡ None → externref ≡ false
+  lent true k = cc
+  lent false k = refl
+
   -- an instruction that is built, with an effect and an import that is described, is a step
-  called : AreBuiltImports s l → verdict s l ≡ None → (params : List Kind) (i : Instruction)
-      → is_unbuilt_instruction i ≡ false → is_some (effect l params i) ≡ true → is_described_call l (described l) i ≡ true → is_own_call s l i ≡ true
+  called : AreBuiltImports s l → verdict s l ≡ None → (params : List Kind) (i : Instruction) → instruction_lacks s.externref i ≡ None
+      → is_unbuilt_instruction s.externref i ≡ false → is_some (effect l params i) ≡ true → is_described_call l (described l) i ≡ true → is_own_call s l i ≡ true
       → IsSomeAnd (step_of s names l i) (IsThere s l names)
   unfolding effect
-  called built passed params i u e d own = let adapter = called_adapter built passed in grind (arith, called_export)
+  called built passed params instr.IndexFromOwned k u e d own = rw u (inl refl)
+  called built passed params instr.IndexFromBorrow k u e d own = rw (lent s.externref k) tt
+  called built passed params instr.TakeIndex k u e d own = rw u (inr (inr (inl refl)))
+  called built passed params instr.GetIndex k u e d own = rw u (inr (inl refl))
+  called built passed params instr.UnwrapResult k u e d own = rw u (inr (inr (inl refl)))
+  called built passed params i k u e d own = let adapter = called_adapter built passed in grind (arith, called_export)
 
-  -- a code that is built and well stacked, each call of which is described, has steps
-  code_there : AreBuiltImports s l → verdict s l ≡ None → (params results stack : List Kind) (code : List Instruction) → list_any is_unbuilt_instruction code ≡ false
+  -- a code that is built and well stacked, of which nothing lacks a part and each call is described, has steps
+  code_there : AreBuiltImports s l → verdict s l ≡ None → (params results stack : List Kind) (code : List Instruction)
+      → first_of (instruction_lacks s.externref) code ≡ None → list_any (is_unbuilt_instruction s.externref) code ≡ false
       → list_all (is_described_call l (described l)) code ≡ true → list_all (is_own_call s l) code ≡ true → leaves results (stack_after (effect l params) stack code) ≡ true
       → IsSomeAnd (steps_of s names l code) (AllByRecursion (IsThere s l names))
-  code_there built passed params results stack [] u d own h = tt
-  code_there built passed params results stack (i ∷ code) u d own h =
-      let here = called built passed params i in
-      let rest = λ (next : List Kind). code_there built passed params results next code in grind arith
+  code_there built passed params results stack [] k u d own h = tt
+  code_there built passed params results stack (i ∷ code) k u d own h =
+      let parts = or_none (instruction_lacks s.externref i) (first_of (instruction_lacks s.externref) code) k in
+      let here = called built passed params i parts.0 in
+      let rest = λ (next : List Kind). code_there built passed params results next code parts.1 in grind arith
 
 module _ (s : Settings) (l : Lowered) where
   -- where no import is called, each that is called is described, and called by an adapter of an own import
@@ -185,8 +202,10 @@ module _ (f : FileFlags) (s : Settings) (l : Lowered) (built : unbuilt f s l ≡
       → list_all (is_described_call l (described l)) (code_of a.kind) ≡ true → list_all (is_own_call s l) (code_of a.kind) ≡ true
       → is_well_stacked l params results (code_of a.kind) ≡ true → IsSomeAnd (adapter_steps s names l id) (AllByRecursion (IsThere s l names))
   coded_steps names id a params results there coded calls own stacked =
-      let each = adapters_built f s l built (id, a) (looked_up l.wit.adapters id a there) in
-      let steps = code_there s l names (imports_built f s l built) passed params results [] (code_of a.kind) each calls own stacked in grind arith
+      let among = looked_up l.wit.adapters id a there in
+      let each = adapters_built f s l built (id, a) among in
+      let lacks = code_complete s l passed (id, a) among in
+      let steps = code_there s l names (imports_built f s l built) passed params results [] (code_of a.kind) lacks each calls own stacked in grind arith
 
   -- the adapter of an export
   pub export_steps : (e : AuxExport) → IsIn e l.aux.exports → HasSteps s l e.adapter

@@ -24,7 +24,7 @@ use Rattle.glue_check.specs.Verdict.{threads, package_json}
 unfoldable pub answer : FileFlags → Settings → Lowered → Condition → Option Fault
 answer files settings l conditions.UnbuiltTarget = unbuilt_target settings
 answer files settings l conditions.UnbuiltImports = unbuilt_imports settings l
-answer files settings l conditions.UnbuiltInstructions = unbuilt_instructions l
+answer files settings l conditions.UnbuiltInstructions = unbuilt_instructions settings l
 answer files settings l conditions.UnbuiltClasses = unbuilt_classes l
 answer files settings l conditions.UnbuiltSettings = unbuilt_settings settings
 answer files settings l conditions.UnbuiltLifecycle = unbuilt_lifecycle l

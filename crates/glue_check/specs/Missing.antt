@@ -1,7 +1,11 @@
--- Parts that imports need and that the module or its description lacks.
+-- Parts that instructions and imports need and that the module or its description lacks.
 use Rattle.std.specs.Prelude.{ℕ, Bool, true, false, not, ◌&&◌, is_some, List, [], ◌∷◌, codes, Option, Some, None, option_map, if◌then◌else◌}
 use Rattle.std.specs.List.{list_any}
+use Rattle.std.specs.Option.{option_or}
 use Rattle.wasm_core.specs.declared.types.Memory.{Memory}
+use Rattle.glue_shared.specs.declared.adapter.Adapter.{Adapter}
+use Rattle.glue_shared.specs.declared.adapter.Instruction.{Instruction}
+use Rattle.glue_shared.specs.declared.adapter.Instruction.TheVariants as instr
 use Rattle.glue_shared.specs.declared.import.AuxImport.{AuxImport}
 use Rattle.glue_shared.specs.declared.import.AuxImport.TheVariants as what
 use Rattle.glue_shared.specs.declared.import.Intrinsic.{Intrinsic}
@@ -9,6 +13,7 @@ use Rattle.glue_shared.specs.declared.import.Intrinsic.TheVariants as i
 use Rattle.glue_shared.specs.declared.description.Lowered.{Lowered}
 use Rattle.glue_shared.specs.declared.settings.Settings.{Settings}
 use Rattle.glue_imports.specs.Given.{given_item}
+use Rattle.glue_adapters.specs.Adapters.{code_of}
 use Rattle.glue_faults.specs.declared.fault.Fault.{Fault}
 use Rattle.glue_faults.specs.declared.fault.Fault.TheVariants as faults
 use Rattle.glue_faults.specs.First.{first_of}
@@ -54,6 +59,16 @@ lacking settings l other = None
 abbrev pub entry_lacks : Settings → Lowered → ℕ × AuxImport → Option (List ℕ)
 entry_lacks settings l entry = lacking settings l entry.1
 
--- a described import lacks a part
+-- what an instruction needs and lacks: `externref`, where an object is lent and references stand in a table of the module
+abbrev pub instruction_lacks : (externref : Bool) → Instruction → Option (List ℕ)
+instruction_lacks true instr.IndexFromBorrow = Some (codes "externref")
+instruction_lacks externref other = None
+
+-- the first part that an adapter lacks
+abbrev pub adapter_lacks : Settings → ℕ × Adapter → Option (List ℕ)
+adapter_lacks settings entry = first_of (instruction_lacks settings.externref) (code_of entry.1.kind)
+
+-- an adapter, or else a described import, lacks a part
 abbrev pub missing_part : Settings → Lowered → Option Fault
-missing_part settings l = option_map faults.MissingPart (first_of (entry_lacks settings l) l.aux.imports)
+missing_part settings l =
+    option_map faults.MissingPart (option_or (first_of (adapter_lacks settings) l.wit.adapters) (first_of (entry_lacks settings l) l.aux.imports))

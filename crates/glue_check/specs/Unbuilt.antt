@@ -102,26 +102,42 @@ unbuilt_imports settings l = where_true (
 
 -- ---- instructions
 
--- an instruction that passes another value than a number, or keeps something for later
-abbrev pub is_unbuilt_instruction : Instruction → Bool
-is_unbuilt_instruction (instr.ArgGet n) = false
-is_unbuilt_instruction instr.Int32ToWasm = false
-is_unbuilt_instruction (instr.WasmToInt32 unsigned) = false
-is_unbuilt_instruction (instr.CallExport id) = false
-is_unbuilt_instruction (instr.CallAdapter id) = false
-is_unbuilt_instruction (instr.Other name) = false
-is_unbuilt_instruction other = true
+-- An instruction that passes another value than a number, a truth or an object, or keeps something for later. Handles are built of the
+-- object table, and not where references stand in a table of the module; that an object can't be lent there is told by a condition.
+abbrev pub is_unbuilt_instruction : (externref : Bool) → Instruction → Bool
+is_unbuilt_instruction externref (instr.ArgGet n) = false
+is_unbuilt_instruction externref instr.Int32ToWasm = false
+is_unbuilt_instruction externref instr.Int64ToWasm = false
+is_unbuilt_instruction externref instr.I32FromBool = false
+is_unbuilt_instruction externref (instr.WasmToInt32 unsigned) = false
+is_unbuilt_instruction externref (instr.WasmToInt64 unsigned) = false
+is_unbuilt_instruction externref instr.BoolFromI32 = false
+is_unbuilt_instruction externref (instr.CallExport id) = false
+is_unbuilt_instruction externref (instr.CallAdapter id) = false
+is_unbuilt_instruction externref instr.IndexFromOwned = externref
+is_unbuilt_instruction externref instr.IndexFromBorrow = false
+is_unbuilt_instruction externref instr.TakeIndex = externref
+is_unbuilt_instruction externref instr.GetIndex = externref
+is_unbuilt_instruction externref instr.UnwrapResult = externref
+is_unbuilt_instruction externref (instr.Other name) = false
+is_unbuilt_instruction externref other = true
 
--- an integer of 32 bits
-abbrev pub is_number : AdapterType → Bool
-is_number types.I32 = true
-is_number types.S32 = true
-is_number types.U32 = true
-is_number other = false
+-- an integer, a truth, or any JavaScript value
+abbrev pub is_simple : AdapterType → Bool
+is_simple types.I32 = true
+is_simple types.S32 = true
+is_simple types.U32 = true
+is_simple types.I64 = true
+is_simple types.S64 = true
+is_simple types.U64 = true
+is_simple types.Bool = true
+is_simple types.Externref = true
+is_simple other = false
 
-unfoldable pub is_unbuilt_adapter : ℕ × Adapter → Bool
-is_unbuilt_adapter entry =
-    not (list_all is_number entry.1.args && list_all is_number entry.1.results) || list_any is_unbuilt_instruction (code_of entry.1.kind)
+unfoldable pub is_unbuilt_adapter : (externref : Bool) → ℕ × Adapter → Bool
+is_unbuilt_adapter externref entry =
+    not (list_all is_simple entry.1.args && list_all is_simple entry.1.results)
+    || list_any (is_unbuilt_instruction externref) (code_of entry.1.kind)
 
 abbrev pub takes_this : AuxExportKind → Bool
 takes_this export_kinds.FunctionThis = true
@@ -131,10 +147,10 @@ takes_this other = false
 abbrev pub is_special_export : AuxExport → Bool
 is_special_export e = takes_this e.kind || (e.variadic || e.jsdoc)
 
--- other values than numbers, closures, caught throws, and such exports
-abbrev pub unbuilt_instructions : Lowered → Option Fault
-unbuilt_instructions l = where_true (
-    (list_any is_unbuilt_adapter l.wit.adapters || is_some_item l.wit.exports)
+-- other values than these, closures, caught throws, and such exports
+abbrev pub unbuilt_instructions : Settings → Lowered → Option Fault
+unbuilt_instructions settings l = where_true (
+    (list_any (is_unbuilt_adapter settings.externref) l.wit.adapters || is_some_item l.wit.exports)
     || (is_some_item l.aux.imports_with_catch || list_any is_special_export l.aux.exports)
     ) (faults.NotBuilt (codes "instructions"))
 

@@ -62,7 +62,7 @@ unfoldable pub unbuilt : FileFlags → Settings → Lowered → Option Fault
 unbuilt files settings l = first_some (
     unbuilt_target settings
     ∷ unbuilt_imports settings l
-    ∷ unbuilt_instructions l
+    ∷ unbuilt_instructions settings l
     ∷ unbuilt_classes l
     ∷ unbuilt_settings settings
     ∷ unbuilt_lifecycle l

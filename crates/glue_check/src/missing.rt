@@ -1,14 +1,15 @@
-//! Parts that imports need and that the module or its description lacks.
+//! Parts that instructions and imports need and that the module or its description lacks.
 ghost use Rattle.std.specs.Prelude.{◌≡◌, is_some, IfOk};
 ghost use Rattle.std.specs.List.{list_any};
-ghost use Rattle.std.specs.Option.{option_copied};
+ghost use Rattle.std.specs.Option.{option_copied, option_or};
 ghost use Rattle.glue_shared.specs.Roots.{live_item};
 ghost use Rattle.glue_faults.specs.First.{first_of};
 ghost use Rattle.glue_check.specs.Missing as spec;
 
 use glue_faults::Fault;
 use glue_shared::{
-    AdapterId, AuxImport, Intrinsic, Lowered, Settings, first_memory, live_item, table_item,
+    Adapter, AdapterId, AdapterKind, AuxImport, Instruction, Intrinsic, Lowered, Settings,
+    first_memory, live_item, table_item,
 };
 use std::alloc::{AllocError, Global};
 use values::Text;
@@ -124,7 +125,63 @@ fn first_lacked(settings: &Settings, lowered: &Lowered) -> Option<&'static str>
     None
 }
 
-/// That a described import lacks a part that it needs: the one memory, `memory`, which has to have addresses of 32 bits; a table by the name
+// What an instruction needs and lacks: an object can be lent to an object table alone.
+fn instruction_lacks(externref: bool, instruction: &Instruction) -> Option<&'static str>
+    ensures part { option_copied result ≡ spec.instruction_lacks externref instruction.now }
+{
+    match instruction {
+        Instruction::IndexFromBorrow => { if externref { Some("externref") } else { None } }
+        _ => None,
+    }
+}
+
+// The first part that code lacks.
+fn code_lacks(externref: bool, code: &[Instruction]) -> Option<&'static str>
+    ensures first { option_copied result ≡ first_of (spec.instruction_lacks externref) code.now }
+{
+    for instruction in code {
+        let part = instruction_lacks(externref, instruction);
+        if part.is_some() {
+            return part;
+        }
+    }
+    None
+}
+
+// The first part that an adapter lacks.
+fn adapter_lacks(settings: &Settings, id: AdapterId, adapter: &Adapter) -> Option<&'static str>
+    ensures first { option_copied result ≡ spec.adapter_lacks settings.now (id, adapter.now) }
+{
+    match &adapter.kind {
+        AdapterKind::Local(code) => code_lacks(settings.externref, code.as_slice()),
+        AdapterKind::Import(_) => None,
+    }
+}
+
+// The first part that one of the adapters lacks.
+fn first_of_adapters(settings: &Settings, lowered: &Lowered) -> Option<&'static str>
+    ensures first { option_copied result ≡ first_of (spec.adapter_lacks settings.now) lowered.now.wit.adapters }
+{
+    for (id, adapter) in lowered.wit.adapters.iter() {
+        let part = adapter_lacks(settings, *id, adapter);
+        if part.is_some() {
+            return part;
+        }
+    }
+    None
+}
+
+// The first part that an adapter or else a described import lacks.
+fn first_missing(settings: &Settings, lowered: &Lowered) -> Option<&'static str>
+    ensures first { option_copied result ≡ option_or (first_of (spec.adapter_lacks settings.now) lowered.now.wit.adapters) (first_of (spec.entry_lacks settings.now lowered.now) lowered.now.aux.imports) }
+{
+    match first_of_adapters(settings, lowered) {
+        Some(part) => Some(part),
+        None => first_lacked(settings, lowered),
+    }
+}
+
+/// That an adapter or a described import lacks a part that it needs: the one memory, `memory`, which has to have addresses of 32 bits; a table by the name
 /// that it has in the description; or `externref`, where references would have to be kept in the other way. Want of memory is the only error.
 pub(crate) fn missing_part(
     alloc: Global,
@@ -133,7 +190,7 @@ pub(crate) fn missing_part(
 ) -> Result<Option<Fault>, AllocError>
     ensures fault { IfOk result (λ fault. fault ≡ spec.missing_part settings.now lowered.now) }
 {
-    match first_lacked(settings, lowered) {
+    match first_missing(settings, lowered) {
         None => Ok(None),
         Some(part) => Ok(Some(Fault::MissingPart {
             part: Text::from_str(alloc, part)?,

@@ -165,60 +165,80 @@ pub(crate) fn unbuilt_imports(
     not_built(alloc, asked, "imports")
 }
 
-// Whether an instruction passes another value than a number, or keeps something for later.
-fn is_unbuilt_instruction(instruction: &Instruction) -> bool
-    ensures test { result ≡ spec.is_unbuilt_instruction instruction.now }
+// Whether an instruction passes another value than a number, a truth or an object, or keeps something for later. Handles
+// are built of the object table alone.
+fn is_unbuilt_instruction(externref: bool, instruction: &Instruction) -> bool
+    ensures test { result ≡ spec.is_unbuilt_instruction externref instruction.now }
 {
     match instruction {
         Instruction::ArgGet(_)
         | Instruction::Int32ToWasm
+        | Instruction::Int64ToWasm
+        | Instruction::I32FromBool
         | Instruction::WasmToInt32(_)
+        | Instruction::WasmToInt64(_)
+        | Instruction::BoolFromI32
         | Instruction::CallExport(_)
         | Instruction::CallAdapter(_)
+        | Instruction::IndexFromBorrow
         | Instruction::Other(_) => false,
+        Instruction::IndexFromOwned
+        | Instruction::TakeIndex
+        | Instruction::GetIndex
+        | Instruction::UnwrapResult => externref,
         _ => true,
     }
 }
 
-fn is_number(ty: &AdapterType) -> bool
-    ensures test { result ≡ spec.is_number ty.now }
+// Whether a type is an integer, a truth, or any JavaScript value.
+fn is_simple(ty: &AdapterType) -> bool
+    ensures test { result ≡ spec.is_simple ty.now }
 {
-    matches!(ty, AdapterType::I32 | AdapterType::S32 | AdapterType::U32)
+    matches!(
+        ty,
+        AdapterType::I32
+            | AdapterType::S32
+            | AdapterType::U32
+            | AdapterType::I64
+            | AdapterType::S64
+            | AdapterType::U64
+            | AdapterType::Bool
+            | AdapterType::Externref
+    )
 }
 
-// Whether each of the types is an integer of 32 bits.
-fn are_numbers(types: &[AdapterType]) -> bool
-    ensures test { result ≡ list_all spec.is_number types.now }
+fn are_simple(types: &[AdapterType]) -> bool
+    ensures test { result ≡ list_all spec.is_simple types.now }
 {
-    types.iter().all(|ty| is_number(ty))
+    types.iter().all(|ty| is_simple(ty))
 }
 
-fn has_unbuilt_instruction(kind: &AdapterKind) -> bool
-    ensures test { result ≡ list_any spec.is_unbuilt_instruction (adapters.code_of kind.now) }
+fn has_unbuilt_instruction(externref: bool, kind: &AdapterKind) -> bool
+    ensures test { result ≡ list_any (spec.is_unbuilt_instruction externref) (adapters.code_of kind.now) }
 {
     match kind {
-        AdapterKind::Local(code) => code
-            .as_slice()
-            .iter()
-            .any(|instruction| is_unbuilt_instruction(instruction)),
+        AdapterKind::Local(code) => code.as_slice().iter().any(|instruction| is_unbuilt_instruction(
+            externref,
+            instruction,
+        )),
         AdapterKind::Import(_) => false,
     }
 }
 
 #[tactic(auto, unfolding(crate::specs::Unbuilt::is_unbuilt_adapter))]
-fn is_unbuilt_adapter(id: AdapterId, adapter: &Adapter) -> bool
-    ensures test { result ≡ spec.is_unbuilt_adapter (id, adapter.now) }
+fn is_unbuilt_adapter(externref: bool, id: AdapterId, adapter: &Adapter) -> bool
+    ensures test { result ≡ spec.is_unbuilt_adapter externref (id, adapter.now) }
 {
-    !(are_numbers(adapter.args.as_slice()) && are_numbers(adapter.results.as_slice()))
-        || has_unbuilt_instruction(&adapter.kind)
+    !(are_simple(adapter.args.as_slice()) && are_simple(adapter.results.as_slice()))
+        || has_unbuilt_instruction(externref, &adapter.kind)
 }
 
-// Whether an adapter passes another value than a number.
-fn has_unbuilt_adapter(lowered: &Lowered) -> bool
-    ensures test { result ≡ list_any spec.is_unbuilt_adapter lowered.now.wit.adapters }
+// Whether an adapter is of a type or has an instruction that isn't built.
+fn has_unbuilt_adapter(externref: bool, lowered: &Lowered) -> bool
+    ensures test { result ≡ list_any (spec.is_unbuilt_adapter externref) lowered.now.wit.adapters }
 {
     for (id, adapter) in lowered.wit.adapters.iter() {
-        if is_unbuilt_adapter(*id, adapter) {
+        if is_unbuilt_adapter(externref, *id, adapter) {
             return true;
         }
     }
@@ -247,11 +267,12 @@ fn has_special_export(exports: &[AuxExport]) -> bool
 /// That adapters of this form aren't built. Want of memory is the only error.
 pub(crate) fn unbuilt_instructions(
     alloc: Global,
+    settings: &Settings,
     lowered: &Lowered,
 ) -> Result<Option<Fault>, AllocError>
-    ensures fault { IfOk result (λ fault. fault ≡ spec.unbuilt_instructions lowered.now) }
+    ensures fault { IfOk result (λ fault. fault ≡ spec.unbuilt_instructions settings.now lowered.now) }
 {
-    let asked = has_unbuilt_adapter(lowered)
+    let asked = has_unbuilt_adapter(settings.externref, lowered)
         || !lowered.wit.exports.is_empty()
         || !lowered.aux.imports_with_catch.is_empty()
         || has_special_export(lowered.aux.exports.as_slice());

@@ -131,7 +131,7 @@ fn answer(
     match condition {
         Condition::UnbuiltTarget => unbuilt_target(alloc, settings),
         Condition::UnbuiltImports => unbuilt_imports(alloc, settings, lowered),
-        Condition::UnbuiltInstructions => unbuilt_instructions(alloc, lowered),
+        Condition::UnbuiltInstructions => unbuilt_instructions(alloc, settings, lowered),
         Condition::UnbuiltClasses => unbuilt_classes(alloc, lowered),
         Condition::UnbuiltSettings => unbuilt_settings(alloc, settings),
         Condition::UnbuiltLifecycle => unbuilt_lifecycle(alloc, lowered),

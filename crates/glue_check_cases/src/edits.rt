@@ -13,10 +13,10 @@ pub const PROTO_NAME: Edit = (r#""name":"add""#, r#""name":"__proto__""#);
 /// One name for the two parameters.
 pub const ONE_NAME: Edit = (r#"["a","b"]"#, r#"["a"]"#);
 
-/// A truth in place of a number.
-pub const TRUTH: Edit = (
+/// A return pointer in place of a number.
+pub const RETURN_POINTER: Edit = (
     r#"["CallExport",0],["WasmToInt32",false]"#,
-    r#"["CallExport",0],["BoolFromI32"]"#,
+    r#"["CallExport",0],["Retptr",16]"#,
 );
 
 /// An instruction that nothing carries out.

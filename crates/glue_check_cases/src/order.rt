@@ -4,8 +4,8 @@ use crate::checking::{Asked, AskedCase, Case, assert_asked, assert_cases};
 use crate::described::Edit;
 use crate::edits::{
     ADD_IMPORT, ADDING, BARE_LINK, CALL_MORE, CALLING_NOTHING, GLOBAL_WASM, LOGGING, MODULE,
-    NO_CODE, NO_PAIR, ONE_NAME, PACKAGE, PROTO_NAME, REEXPORT, SAME_PAIR, SECOND_ADD, SECOND_LAST,
-    SECOND_PAIR, SUM, TRUTH, UNSUPPORTED,
+    NO_CODE, NO_PAIR, ONE_NAME, PACKAGE, PROTO_NAME, REEXPORT, RETURN_POINTER, SAME_PAIR,
+    SECOND_ADD, SECOND_LAST, SECOND_PAIR, SUM, UNSUPPORTED,
 };
 use crate::modules::{
     ADD, BOTH_TWICE, CROSSED_EXPORTS, CROSSED_IMPORTS, EXPORTED_TWICE, TWO_IMPORTS,
@@ -32,8 +32,14 @@ const REINIT: Edit = (r#""version":1"#, r#""version":1,"uses_reinit":true"#);
 /// Two kinds of what isn't built, or two conditions, each next to the other in the order.
 const PAIRS: &[AskedCase] = &[
     (&[Asked::Web], (WITH_TABLE_IMPORT, &[], "NotBuilt target")),
-    (&[], (WITH_TABLE_IMPORT, &[TRUTH], "NotBuilt imports")),
-    (&[], (ADD, &[TRUTH, CLASS], "NotBuilt instructions")),
+    (
+        &[],
+        (WITH_TABLE_IMPORT, &[RETURN_POINTER], "NotBuilt imports"),
+    ),
+    (
+        &[],
+        (ADD, &[RETURN_POINTER, CLASS], "NotBuilt instructions"),
+    ),
     (&[Asked::Debug], (ADD, &[CLASS], "NotBuilt classes")),
     (&[Asked::Debug], (ADD, &[REINIT], "NotBuilt settings")),
     (&[], (ADD, &[REINIT, SNIPPET], "NotBuilt lifecycle")),

@@ -1,4 +1,4 @@
-//! Parts that an import needs: each where it is there, and where it is absent, of the wrong kind, or one of several.
+//! Parts that an import or an instruction needs: each where it is there, and where it is absent, of the wrong kind, or one of several.
 use crate::checking::{Asked, AskedCase, assert_asked};
 use crate::described::Edit;
 use crate::edits::{BARE_LINK, CALL_MORE};
@@ -39,6 +39,12 @@ const FUNCTION_TABLE: Edit = (
 const EXTERNREF_TABLE: Edit = (
     r#""version":1"#,
     r#""version":1,"parts":{"externref_table":0},"static_slots":["a",null]"#,
+);
+
+/// The first argument of the export is lent.
+const LENDING: Edit = (
+    r#"["ArgGet",0],["Int32ToWasm"]"#,
+    r#"["ArgGet",0],["IndexFromBorrow"]"#,
 );
 
 /// References are kept in a table of the module.
@@ -99,6 +105,25 @@ const PARTS: &[AskedCase] = &[
         &[],
         (WITH_PARTS, &[CALL_MORE, FILLING], "MissingPart externref"),
     ),
+    // An object is lent to an object table alone, and adapters are told of before imports.
+    (&[], (ADD, &[LENDING], "")),
+    (REFERENCES, (ADD, &[LENDING], "MissingPart externref")),
+    (
+        REFERENCES,
+        (
+            ADD,
+            &[CALL_MORE, LENDING, FUNCTIONS],
+            "MissingPart externref",
+        ),
+    ),
+    (
+        &[],
+        (
+            ADD,
+            &[CALL_MORE, LENDING, FUNCTIONS],
+            "MissingPart function_table",
+        ),
+    ),
     // The first entry that lacks one is told of, and only behind a link that can't be embedded.
     (
         &[],
@@ -115,6 +140,6 @@ const PARTS: &[AskedCase] = &[
 ];
 
 #[test]
-fn each_part_that_an_import_lacks_is_named(rt: HostRuntime) -> Result<(), AllocError> {
+fn each_part_that_is_lacking_is_named(rt: HostRuntime) -> Result<(), AllocError> {
     assert_asked(&rt, rt.alloc(), PARTS)
 }

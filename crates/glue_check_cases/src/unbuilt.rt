@@ -152,19 +152,23 @@ const GROUPS: &[Group] = &[
         ADD,
         RESULTS,
         "",
-        &[r#"["i32"]"#, r#"["s32"]"#, r#"["u32"]"#],
+        &[
+            r#"["i32"]"#,
+            r#"["s32"]"#,
+            r#"["u32"]"#,
+            r#"["i64"]"#,
+            r#"["s64"]"#,
+            r#"["u64"]"#,
+            r#"["bool"]"#,
+            r#"["externref"]"#,
+        ],
     ),
     (
         ADD,
         RESULTS,
         "NotBuilt instructions",
         &[
-            r#"["i64"]"#,
-            r#"["s64"]"#,
-            r#"["u64"]"#,
-            r#"["bool"]"#,
             r#"["string"]"#,
-            r#"["externref"]"#,
             r#"[{"class":"C"}]"#,
             r#"[{"enum":"E"}]"#,
             r#"[{"string_enum":"E"}]"#,
@@ -173,18 +177,57 @@ const GROUPS: &[Group] = &[
             r#"[{"option":"s32"}]"#,
         ],
     ),
-    (ADD, ARGUMENTS, "", &[r#"["u32"]"#]),
-    (ADD, ARGUMENTS, "NotBuilt instructions", &[r#"["bool"]"#]),
-    (ADD, INSTRUCTION, "", &[r#"["WasmToInt32",true]"#]),
+    (
+        ADD,
+        ARGUMENTS,
+        "",
+        &[r#"["u32"]"#, r#"["bool"]"#, r#"["externref"]"#],
+    ),
+    (ADD, ARGUMENTS, "NotBuilt instructions", &[r#"["string"]"#]),
+    (
+        ADD,
+        INSTRUCTION,
+        "",
+        &[
+            r#"["WasmToInt32",true]"#,
+            r#"["BoolFromI32"]"#,
+            r#"["TakeIndex"]"#,
+            r#"["GetIndex"]"#,
+            // A value that has come to JavaScript and goes back.
+            r#"["BoolFromI32"],["I32FromBool"],["WasmToInt32",true]"#,
+            r#"["TakeIndex"],["IndexFromOwned"],["GetIndex"]"#,
+            r#"["GetIndex"],["IndexFromBorrow"],["GetIndex"]"#,
+            r#"["GetIndex"],["Int64ToWasm"],["WasmToInt64",true]"#,
+            r#"["GetIndex"],["Int64ToWasm"],["WasmToInt64",false]"#,
+        ],
+    ),
+    // What is popped has another kind, or is lacking.
+    (
+        ADD,
+        INSTRUCTION,
+        "BadAdapter 0",
+        &[
+            r#"["Int64ToWasm"]"#,
+            r#"["I32FromBool"]"#,
+            r#"["WasmToInt64",false]"#,
+            r#"["WasmToInt64",true]"#,
+            r#"["IndexFromOwned"]"#,
+            r#"["IndexFromBorrow"]"#,
+            r#"["UnwrapResult"]"#,
+            r#"["BoolFromI32"],["BoolFromI32"]"#,
+            r#"["TakeIndex"],["GetIndex"]"#,
+            r#"["GetIndex"],["Int64ToWasm"],["BoolFromI32"]"#,
+            r#"["GetIndex"],["Int64ToWasm"],["WasmToInt32",false]"#,
+            r#"["GetIndex"],["Int32ToWasm"],["WasmToInt64",false]"#,
+            // Two operands are left.
+            r#"["GetIndex"],["ArgGet",0]"#,
+        ],
+    ),
     (
         WITH_MEMORY,
         INSTRUCTION,
         "NotBuilt instructions",
         &[
-            r#"["Int64ToWasm"]"#,
-            r#"["I32FromBool"]"#,
-            r#"["WasmToInt64",false]"#,
-            r#"["BoolFromI32"]"#,
             r#"["StringToMemory",1,null,0]"#,
             r#"["OptionStringToMemory",1,1,0]"#,
             r#"["MemoryToString",0]"#,
@@ -192,10 +235,6 @@ const GROUPS: &[Group] = &[
             r#"["Retptr",16]"#,
             r#"["LoadRetptr",0,"i32",0]"#,
             r#"["StoreRetptr",0,"i64",0]"#,
-            r#"["IndexFromOwned"]"#,
-            r#"["IndexFromBorrow"]"#,
-            r#"["TakeIndex"]"#,
-            r#"["GetIndex"]"#,
             r#"["ClassIntoPtr","C"]"#,
             r#"["ClassPtr","C"]"#,
             r#"["ClassFromPtr","C"]"#,
@@ -204,7 +243,6 @@ const GROUPS: &[Group] = &[
             r#"["Closure",0,true]"#,
             r#"["VecFromWasm","U8",0]"#,
             r#"["VecToWasm","U8",1,0]"#,
-            r#"["UnwrapResult"]"#,
         ],
     ),
     // What is built of one argument without a result.
@@ -355,6 +393,49 @@ const ASKED: &[AskedCase] = &[
     (&[], (WITH_GLOBAL_IMPORT, &[], "NotBuilt imports")),
     (&[], (WITH_TAG_IMPORT, &[], "NotBuilt imports")),
 ];
+
+/// The result of the export is a handle, which is taken, or looked at.
+const TAKING: Edit = (
+    r#"["CallExport",0],["WasmToInt32",false]"#,
+    r#"["CallExport",0],["TakeIndex"]"#,
+);
+
+const LOOKING: Edit = (
+    r#"["CallExport",0],["WasmToInt32",false]"#,
+    r#"["CallExport",0],["GetIndex"]"#,
+);
+
+/// The first argument of the export is given.
+const GIVING: Edit = (
+    r#"["ArgGet",0],["Int32ToWasm"]"#,
+    r#"["ArgGet",0],["IndexFromOwned"]"#,
+);
+
+/// An argument is thrown where another one isn't 0.
+const UNWRAPPING: Edit = (
+    r#""code":[["ArgGet",0],["Int32ToWasm"]"#,
+    r#""code":[["ArgGet",0],["IndexFromOwned"],["ArgGet",1],["I32FromBool"],["UnwrapResult"],["ArgGet",0],["Int32ToWasm"]"#,
+);
+
+/// Handles, where values are kept in an object table, and in a table of the module.
+const HANDLES: &[AskedCase] = &[
+    (&[], (ADD, &[TAKING], "")),
+    (&[], (ADD, &[LOOKING], "")),
+    (&[], (ADD, &[GIVING], "")),
+    (&[], (ADD, &[UNWRAPPING], "")),
+    (&[Asked::Others], (ADD, &[TAKING], "NotBuilt instructions")),
+    (&[Asked::Others], (ADD, &[LOOKING], "NotBuilt instructions")),
+    (&[Asked::Others], (ADD, &[GIVING], "NotBuilt instructions")),
+    (
+        &[Asked::Others],
+        (ADD, &[UNWRAPPING], "NotBuilt instructions"),
+    ),
+];
+
+#[test]
+fn handles_are_built_of_the_object_table(rt: HostRuntime) -> Result<(), AllocError> {
+    assert_asked(&rt, rt.alloc(), HANDLES)
+}
 
 #[test]
 fn what_is_asked_for_beside_it_is_built_or_named(rt: HostRuntime) -> Result<(), AllocError> {
