@@ -40,10 +40,10 @@ use Rattle.helper_table.specs.Laws.{any_in}
 use Rattle.glue_context.specs.Keys.{import_properties}
 use Rattle.glue_context.proofs.Declared.{among_is}
 
--- names of the host that expressions use beside those that are described, and names of helpers
+-- names of the host that expressions and steps use beside those that are described, and names of helpers
 abbrev pub used_hosts : List (List ℕ)
 used_hosts =
-    codes "undefined" ∷ codes "Error" ∷ codes "Uint8Array" ∷ codes "RangeError" ∷ codes "URL" ∷ codes "encodeURIComponent" ∷ codes "Blob" ∷ []
+    codes "BigInt" ∷ codes "undefined" ∷ codes "Error" ∷ codes "Uint8Array" ∷ codes "RangeError" ∷ codes "URL" ∷ codes "encodeURIComponent" ∷ codes "Blob" ∷ []
 
 abbrev used_helpers : List (List ℕ)
 used_helpers = codes "GetOwnOrInheritedPropertyDescriptor" ∷ codes "debugString" ∷ codes "PanicError" ∷ codes "heap" ∷ codes "heap_next" ∷ codes "notDefined" ∷ codes "decodeText" ∷ []

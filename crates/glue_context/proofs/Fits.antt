@@ -1,7 +1,7 @@
 -- What the check of a description gives of the functions of adapters: they belong into the file, and what the items of exports declare and publish.
-use Rattle.glue_context.proofs.Common.{◌≡◌, ℕ, List, [], ◌∷◌, ◌++◌, Bool, true, false, true≢false, Some, refl, ◌∙◌, subst, arith, rules, AllByRecursion, codes, list_all, list_any, filter_map-append, AreAmong, IsIn, in_left, Item, bound_name, bound_in, used_in, hosted_in, wasm_in, spliced_in, is_export_key, Context, Belongs, IsFrame, is_exported, Step, AuxExport, AuxImport, Settings, NameMap, Lowered, host_names, export_names, js_import, names_of, declared_name, IsFunctionOf, declare_item, declaration_front, declaration_back, IsThere, IsDescribed, HasSteps, HOSTS, map, AreFunctionItems, declaration_words, inr}
+use Rattle.glue_context.proofs.Common.{◌≡◌, ℕ, List, [], ◌∷◌, ◌++◌, Bool, true, false, true≢false, Some, refl, ◌∙◌, subst, arith, rules, AllByRecursion, codes, list_all, list_any, filter_map-append, AreAmong, IsIn, in_left, Item, bound_name, bound_in, used_in, hosted_in, wasm_in, spliced_in, is_export_key, Context, Belongs, IsFrame, is_exported, Step, AuxExport, AuxImport, Settings, NameMap, Lowered, host_names, export_names, js_import, names_of, declared_name, IsFunctionOf, declare_item, declaration_front, declaration_back, IsThere, IsDescribed, HasSteps, HOSTS, map, AreFunctionItems, declaration_words, inl, inr}
 use Rattle.std.proofs.Common.{append_assoc, ap, sym}
-use Rattle.std.specs.Prelude.{filter}
+use Rattle.std.specs.Prelude.{filter, ◌&&◌, not}
 use Rattle.std.proofs.lemmas.{List.Folds.list_any-append, List.Folds.list_all-append}
 use Rattle.glue_words.specs.declared.word.Word.{Word}
 use Rattle.glue_words.specs.declared.word.Word.TheVariants as w
@@ -9,7 +9,9 @@ use Rattle.glue_words.specs.declared.key.TheConstants as key
 use Rattle.glue_words.specs.Words.{space}
 use Rattle.glue_words.specs.Ident.{is_ident}
 use Rattle.glue_words.specs.Limits.{is_computed}
-use Rattle.glue_words.proofs.Among.{apart_none, among_both, among_by, among_left}
+use Rattle.glue_words.specs.Spacing.{is_wasm}
+use Rattle.glue_words.proofs.Idents.{ascii_ident}
+use Rattle.glue_words.proofs.Among.{apart_none, among_both, among_by, among_in, among_left, among_trans}
 use Rattle.glue_tree.proofs.Fit.{is_inner}
 use Rattle.glue_targets.specs.RoleWords.{export_first}
 use Rattle.glue_exports.specs.Notes.{lines_of}
@@ -21,7 +23,7 @@ use Rattle.glue_targets.proofs.FixedTexts.{call_takes}
 use Rattle.glue_binding.specs.Spelling.{path_words, chained_words}
 use Rattle.glue_binding.proofs.Standing.{step_fit}
 use Rattle.glue_binding.proofs.Outside.{outside_words, outside_of}
-use Rattle.glue_steps.specs.declared.step.Step.TheVariants.{CallImport}
+use Rattle.glue_steps.specs.declared.step.Step.TheVariants.{CallImport, ToUnsigned64, CallHelper, IndexFromBorrow, UnwrapResult}
 use Rattle.glue_binding.proofs.Parts.{outer_parts, outer_expression, expression_none, parts_declare}
 use Rattle.glue_binding.proofs.Paths.{TellsKeys, path_tells, property_tells, chained_tells}
 use Rattle.glue_scope.specs.Properties.{property_parts}
@@ -38,8 +40,10 @@ use Rattle.glue_imports.specs.declared.part.Part.{Part}
 use Rattle.glue_imports.specs.declared.part.Part.TheVariants as part
 use Rattle.glue_imports.specs.declared.part.Expression.{Expression}
 use Rattle.glue_binding.proofs.Linked.{StandsBeside, bound_local, bound_resolved, bound_keyed, bound_alone, bound_exported, bound_inner, bound_binds}
+use Rattle.helper_table.specs.Laws.{any_in}
 use Rattle.helper_table.proofs.Held.{free_names}
 use Rattle.glue_check.specs.Handed.{own_callees}
+use Rattle.glue_check.proofs.Steps.{handle_helpers}
 use Rattle.glue_check.proofs.Globals.{in_flat}
 use Rattle.glue_context.specs.DefinedItems.{takes_memory}
 use Rattle.glue_context.specs.Edits.{has_start}
@@ -61,6 +65,23 @@ binds_none (step ∷ steps) =
     filter_map-append bound_name (outside_words step) (outside_of steps)
     ∙ ap (λ (ns : List (List ℕ)). ns ++ bound_in (outside_of steps)) (step_binds step)
     ∙ binds_none steps
+
+-- the helpers of handles, and those by which an object is lent, need nothing of the module
+handle_free : AreAmong handle_helpers free_names
+handle_free = (any_in _ free_names refl, (any_in _ free_names refl, (any_in _ free_names refl, tt)))
+
+abbrev lending_helpers : List (List ℕ)
+lending_helpers = codes "addBorrowedObject" ∷ codes "heap" ∷ codes "stack_pointer" ∷ []
+
+lending_free : AreAmong lending_helpers free_names
+lending_free = (any_in _ free_names refl, (any_in _ free_names refl, (any_in _ free_names refl, tt)))
+
+-- their names are identifiers
+handle_fit : (helper : List ℕ) → IsIn helper handle_helpers → (is_ident helper && not (is_wasm helper)) ≡ true
+handle_fit helper (inl same) = rw (same, ascii_ident (codes "addHeapObject") refl) refl
+handle_fit helper (inr (inl same)) = rw (same, ascii_ident (codes "getObject") refl) refl
+handle_fit helper (inr (inr (inl same))) = rw (same, ascii_ident (codes "takeObject") refl) refl
+handle_fit helper (inr (inr (inr none))) = absurd none
 
 -- a file has the names that words use
 abbrev pub HasNames : Context → List Word → Type 0
@@ -157,16 +178,24 @@ module _ (s : Settings) (l : Lowered) where
     named_well well e d n i = well d.entry.0 d.entry.1 d.own d.first n i
 
     -- the texts of steps are spaced
+    is_fit : AreWell → (step : Step) → IsThere s l m step → step_fit step ≡ true
+    is_fit well (CallImport adapter n has_result e) d =
+        expression_fit s m (given_of m l d.entry.1) d.call d.spread d.bound d.entry.1 e (named_well well e d) d.is
+    is_fit well (CallHelper helper n) d = handle_fit helper d
+    is_fit well (UnwrapResult helper) d = handle_fit helper d
+    is_fit well other d = refl
+
     are_fit : AreWell → (steps : List Step) → AreThere steps → list_all step_fit steps ≡ true
     are_fit well [] h = refl
-    are_fit well (step ∷ steps) h =
-        let rest = are_fit well steps h.1 in
-        let fit = λ (e : Expression) (d : IsDescribed s l m e).
-        expression_fit s m (given_of m l d.entry.1) d.call d.spread d.bound d.entry.1 e (named_well well e d) d.is in
-        grind arith
+    are_fit well (step ∷ steps) h = let here = is_fit well step h.0 in let rest = are_fit well steps h.1 in grind arith
 
     -- where what each step names is there, a file with these names has those of the steps
     module _ (declared : List (List ℕ)) (basis : HasBasis declared) where
+      -- the helpers of handles
+      handle_declared : (helper : List ℕ) → IsIn helper handle_helpers → IsIn helper declared
+      handle_declared helper at =
+          among_in helper free_names declared basis.helpers (among_in helper handle_helpers free_names handle_free at)
+
       -- the export that gives the item of a described import
       item_there : (e : Expression) (d : IsDescribed s l m e) → gives_item d.entry.1 ≡ true
           → IsIn (given_of m l d.entry.1).export (names_with declared).exports
@@ -193,6 +222,15 @@ module _ (s : Settings) (l : Lowered) where
 
       has_names : (steps : List Step) → AreThere steps → HasNames (names_with declared) (outside_of steps)
       has_names [] h = (tt, tt, tt, tt, refl)
+      has_names (ToUnsigned64 ∷ steps) h = let k = has_names steps h.1 in (k.0, (fixed_hosts.0, k.1), k.2, k.3, k.4)
+      has_names (CallHelper helper n ∷ steps) h =
+          let k = has_names steps h.1 in ((handle_declared helper h.0, k.0), k.1, k.2, k.3, k.4)
+      has_names (UnwrapResult helper ∷ steps) h =
+          let k = has_names steps h.1 in ((handle_declared helper h.0, k.0), k.1, k.2, k.3, k.4)
+      has_names (IndexFromBorrow ∷ steps) h =
+          let k = has_names steps h.1 in
+          let lent = among_trans lending_helpers free_names declared lending_free basis.helpers in
+          ((lent.0, (lent.1.0, (lent.1.1.0, k.0))), (fixed_hosts.1.0, k.1), k.2, k.3, k.4)
       has_names (step ∷ steps) h =
           let k = has_names steps h.1 in
           let wasm = basis.wasm in
