@@ -3,7 +3,7 @@ use Rattle.std.proofs.Common.{◌≡◌, ℕ, List, [], ◌∷◌, refl, ap, sym
 use Rattle.std.proofs.lemmas.Bool.{and_parts}
 use Rattle.std.proofs.lemmas.Bool.Decides.{nat_tests}
 use Rattle.std.specs.Prelude.{◌<◌, ◌^◌, ℤ, pos, negsuc, codes, ◌==◌, bit_and, bit_or, bit_xor}
-use Rattle.values.specs.Value.{Thing, Helper, OfExport, OfHost, Value, Undefined, Null, Truth, Number, BigInt, Letters, Itself, Object, WithFields, NoFields, is_same_text, is_same_number, is_same_truth, is_same_thing, is_same, is_like, is_less, is_at_most, is_true, type_of, sum_of, difference_of, complement_of, by_bits, shifted_left, shifted_right, unsigned}
+use Rattle.values.specs.Value.{Thing, Helper, OfExport, OfHost, Value, Undefined, Null, Truth, Number, BigInt, Letters, Itself, Object, WithFields, NoFields, is_same_text, is_same_number, is_same_truth, is_same_thing, is_same, is_like, is_less, is_at_most, is_true, type_of, sum_of, difference_of, complement_of, by_bits, shifted_left, shifted_right, shifted_unsigned, unsigned}
 
 -- ---- equality
 
@@ -100,6 +100,16 @@ some_text = refl
 -- `-1 >>> 0` is 4294967295, `~5` is -6, `1 << 31` is -2147483648, `-8 >> 1` is -4
 all_bits : unsigned (Number (negsuc 0)) ≡ Number (pos 4294967295)
 all_bits = refl
+
+-- `true >>> 0` is 1, `true >>> 1` and `false >>> 0` are 0
+truth_as_one : unsigned (Truth true) ≡ Number (pos 1)
+truth_as_one = refl
+
+truth_shifted : shifted_unsigned (Truth true) (Number (pos 1)) ≡ Number (pos 0)
+truth_shifted = refl
+
+untruth_as_zero : unsigned (Truth false) ≡ Number (pos 0)
+untruth_as_zero = refl
 
 complement : complement_of (Number (pos 5)) ≡ Number (negsuc 5)
 complement = refl

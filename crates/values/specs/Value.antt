@@ -4,8 +4,8 @@
 --     Entry     one outside step: what a run does to, or asks of, what isn't its own
 --     Ran       where a run has come to, with its steps so far and the answers that are left
 -- Operators are total functions. On the kinds of values that trees apply them to they are those of ECMAScript
--- (section 13); on other kinds (a sum with an object, say, which would call its `valueOf`) they have a fixed value,
--- `undefined` or false.
+-- (section 13): whole numbers, texts, and for `>>>` truths, which are read as 1 and 0 (section 7.1.4). On other kinds (a
+-- sum with an object, say, which would call its `valueOf`) they have a fixed value, `undefined` or false.
 use Rattle.std.specs.Prelude.{ℕ, ◌-◌, ◌/◌, ◌*◌, ℤ, pos, negsuc, ◌+ℤ◌, ◌-ℤ◌, ◌*ℤ◌, ◌%◌, ◌^◌, Bool, true, false, ◌==◌, ◌&&◌, ◌||◌, not, List, [], ◌∷◌, ◌++◌, codes, nat_eq, int_lt}
 use Rattle.std.specs.Cmp.Lexicographic.{pointwise}
 use Rattle.std.specs.Int.{w32, cast_signed, int_shr}
@@ -227,9 +227,11 @@ abbrev pub shifted_right : Value → Value → Value
 shifted_right (Number m) (Number n) = Number (int_shr (signed_32 (low_32 m)) (shift_of n))
 shifted_right v w = Undefined
 
--- `v >>> w`
+-- `v >>> w`, of a whole number, or of a truth, which is read as one
 abbrev pub shifted_unsigned : Value → Value → Value
 shifted_unsigned (Number m) (Number n) = Number (pos (low_32 m / 2 ^ shift_of n))
+shifted_unsigned (Truth true) (Number n) = Number (pos (1 / 2 ^ shift_of n))
+shifted_unsigned (Truth false) (Number n) = Number (pos 0)
 shifted_unsigned v w = Undefined
 
 -- `v >>> 0`
