@@ -1,14 +1,16 @@
 -- The tree of any steps is fit: names are identifiers, and its words are spaced.
-use Rattle.std.proofs.Common.{◌≡◌, ℕ, ◌≤◌, List, [], ◌∷◌, length, map, refl, ap, ◌∙◌, Bool, true}
+use Rattle.std.proofs.Common.{◌≡◌, ℕ, ◌≤◌, List, [], ◌∷◌, length, map, refl, ap, ◌∙◌, Bool, true, false}
 use Rattle.std.proofs.lemmas.Bool.{and_parts}
-use Rattle.std.specs.Prelude.{◌&&◌, codes}
+use Rattle.std.specs.Prelude.{◌&&◌, not, codes}
 use Rattle.std.specs.List.{list_all}
 use Rattle.glue_words.specs.Ident.{is_ident}
+use Rattle.glue_words.specs.Spacing.{is_wasm}
 use Rattle.glue_words.proofs.Idents.{ascii_ident, ascii_prop}
-use Rattle.glue_tree.specs.Term.{Lines, NoLines}
+use Rattle.glue_tree.specs.Term.{Export, Lines, NoLines}
+use Rattle.glue_tree.specs.Plainly.{terms_of}
 use Rattle.glue_tree.proofs.Fit.{fit, all_fit, line_fit, lines_fit}
 use Rattle.glue_steps.specs.declared.step.Step.{Step}
-use Rattle.glue_binding.specs.Spelling.{Plain, Missing, Local, Unsigned, NotZero, term_of, terms, Piece, Ahead, Cleanup, pieces_of, nested, tree_of, temporaries}
+use Rattle.glue_binding.specs.Spelling.{Plain, Missing, Local, Unsigned, NotZero, term_of, terms, write_call, address_term, Piece, Ahead, Cleanup, pieces_of, nested, tree_of, temporaries}
 use Rattle.glue_binding.proofs.Each.{Each}
 use Rattle.glue_binding.proofs.Standing.{IsNamed, step_fit, fitting, steps_each, run_stands, bound_stands}
 use Rattle.glue_binding.proofs.Rowwise.{IsRowwise, AllHave, pieces_have}
@@ -30,6 +32,21 @@ plain_fit (NotZero p) h = and_true _ _ (plain_fit p h) refl
 terms_fit : (ps : List Plain) → Each IsNamed ps → all_fit (terms ps) ≡ true
 terms_fit [] h = refl
 terms_fit (p ∷ ps) h = and_true _ _ (plain_fit p h.0) (terms_fit ps h.1)
+
+-- what is written to memory
+exports_fit : (names : List (List ℕ)) → all_fit (terms_of (map Export names)) ≡ true
+exports_fit [] = refl
+exports_fit (name ∷ names) = exports_fit names
+
+write_fit : (helper : List ℕ) (exports : List (List ℕ)) (p : Plain) → (is_ident helper && not (is_wasm helper)) ≡ true → IsNamed p
+    → fit (write_call helper exports p) ≡ true
+write_fit helper exports p f h = and_true _ _ f (and_true _ _ (plain_fit p h) (exports_fit exports))
+
+address_fit : (optional : Bool) (helper : List ℕ) (exports : List (List ℕ)) (p : Plain) → (is_ident helper && not (is_wasm helper)) ≡ true
+    → IsNamed p → fit (address_term optional helper exports p) ≡ true
+address_fit false helper exports p f h = write_fit helper exports p f h
+address_fit true helper exports p f h =
+    and_true _ _ (rw (ascii_ident (codes "isLikeNone") refl) (terms_fit (p ∷ []) (h, tt))) (write_fit helper exports p f h)
 
 fits : IsRowwise (λ l. line_fit l ≡ true) IsNamed IsName (λ s. step_fit s ≡ true)
 fits = record {
@@ -55,6 +72,11 @@ fits = record {
   ) refl;
   throws = λ helper f p q h k. and_true _ _ (plain_fit p h) (and_true _ _
       (and_true _ _ f (terms_fit (q ∷ []) (k, tt))) refl);
+  writes = λ helper exports optional f x d p h. and_true _ _ d (address_fit optional helper exports p f h);
+  lengths = λ helper exports optional f x d. and_true _ _ d (rw (ascii_ident (codes "WASM_VECTOR_LEN") refl) refl);
+  frees = λ free align f p q h k. terms_fit (p ∷ q ∷ []) (h, (k, tt));
+  copies = λ helper f x d args h. and_true _ _ d (and_true _ _ (and_true _ _ (and_true _ _ f (terms_fit args h))
+      (ascii_prop (codes "slice") refl)) refl);
 }
 
 nested_fit : (pieces : List Piece) (rest : Lines) → AllHave (λ l. line_fit l ≡ true) pieces → lines_fit rest ≡ true

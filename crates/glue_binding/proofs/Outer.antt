@@ -7,7 +7,8 @@ use Rattle.std.specs.List.{filter_map}
 use Rattle.glue_words.specs.declared.word.Word.{Word}
 use Rattle.glue_words.specs.declared.word.Word.TheVariants as w
 use Rattle.glue_words.specs.Names.{used_name, hosted_name, used_in, hosted_in}
-use Rattle.glue_tree.specs.Term.{Lines, NoLines}
+use Rattle.glue_tree.specs.Term.{Export, Lines, NoLines}
+use Rattle.glue_tree.specs.Plainly.{terms_of}
 use Rattle.glue_tree.specs.Spelling.{function_words}
 use Rattle.glue_words.specs.Words.{space}
 use Rattle.glue_tree.specs.Leaves.{leaves, leaves_of, line_leaves, lines_leaves, function_leaves}
@@ -18,8 +19,8 @@ use Rattle.glue_imports.specs.declared.part.Expression.{Expression}
 use Rattle.glue_binding.proofs.Parts.{parts_found}
 use Rattle.glue_steps.specs.Stack.{top, below, operands, without}
 use Rattle.glue_steps.specs.declared.step.Step.{Step}
-use Rattle.glue_steps.specs.declared.step.Step.TheVariants.{Parameter, Unchanged, CallExport, CallImport, ToUnsigned, IsNotZero, ToUnsigned64, CallHelper, IndexFromBorrow, UnwrapResult}
-use Rattle.glue_binding.specs.Spelling.{Plain, Missing, Local, Unsigned, NotZero, term_of, terms, first, next_names, parts_words, import_line_words, Piece, Ahead, Cleanup, ending, import_row, row, pieces_of, nested, tree_of}
+use Rattle.glue_steps.specs.declared.step.Step.TheVariants.{Parameter, Unchanged, CallExport, CallImport, ToUnsigned, IsNotZero, ToUnsigned64, CallHelper, IndexFromBorrow, UnwrapResult, PassToMemory, DeferFree, CopyOut}
+use Rattle.glue_binding.specs.Spelling.{Plain, Missing, Local, Unsigned, NotZero, term_of, terms, first, later, next_names, write_call, address_term, written_length, copy_call, parts_words, import_line_words, Piece, Ahead, Cleanup, ending, import_row, row, pieces_of, nested, tree_of}
 use Rattle.glue_binding.specs.Outer.{outer_in, seed_words}
 
 -- operands have no names of a kind that locals have none of
@@ -80,6 +81,9 @@ row_many ToUnsigned64 p t p' t' n n' h = below_many t t' h
 row_many (CallHelper helper i) p t p' t' n n' h = without_many i t t' h
 row_many IndexFromBorrow p t p' t' n n' h = below_many t t' h
 row_many (UnwrapResult helper) p t p' t' n n' h = without_many 2 t t' h
+row_many (PassToMemory helper exports optional) p t p' t' n n' h = below_many t t' h
+row_many (DeferFree free align) p t p' t' n n' h = h
+row_many (CopyOut helper) p t p' t' n n' h = without_many 2 t t' h
 
 module _ (kind : Word → Option (List ℕ)) (outer : IsOuter kind) where
   abbrev found : List Word → List (List ℕ)
@@ -131,6 +135,19 @@ module _ (kind : Word → Option (List ℕ)) (outer : IsOuter kind) where
   helper_same : (key : List ℕ) (ps qs : List Plain) → Alike (w.Refer key false ∷ leaves_of (terms ps)) (w.Refer key false ∷ leaves_of (terms qs))
   helper_same key ps qs = kept (w.Refer key false) (passed ps qs)
 
+  -- `helper(p, wasm.name, ..)`, and the address of what it writes
+  write_same : (helper : List ℕ) (exports : List (List ℕ)) (p q : Plain) → Alike (leaves (write_call helper exports p)) (leaves (write_call helper exports q))
+  write_same helper exports p q = kept (w.Refer helper false) (beside (operand p q) (equal (leaves_of (terms_of (map Export exports)))))
+
+  address_same : (optional : Bool) (helper : List ℕ) (exports : List (List ℕ)) (p q : Plain)
+      → Alike (leaves (address_term optional helper exports p)) (leaves (address_term optional helper exports q))
+  address_same false helper exports p q = write_same helper exports p q
+  address_same true helper exports p q = beside (helper_same (codes "isLikeNone") (p ∷ []) (q ∷ [])) (write_same helper exports p q)
+
+  -- `helper(args).slice()`
+  copy_same : (helper : List ℕ) (ps qs : List Plain) → Alike (leaves (copy_call helper ps)) (leaves (copy_call helper qs))
+  copy_same helper ps qs = beside (beside (helper_same helper ps qs) (equal (w.Prop (codes "slice") ∷ []))) (equal [])
+
   -- the same pieces, but for the locals
   abbrev AllAlike : List Piece → List Piece → Type 0
   AllAlike [] [] = Unit {0}
@@ -181,6 +198,19 @@ module _ (kind : Word → Option (List ℕ)) (outer : IsOuter kind) where
   row_same (UnwrapResult helper) p t p' t' n n' = (
     beside (operand (top Missing t) (top Missing t'))
         (beside (helper_same helper (top Missing (below t) ∷ []) (top Missing (below t') ∷ [])) (equal [])),
+    tt,
+  )
+  row_same (PassToMemory helper exports optional) p t p' t' n n' = (
+    bind (first n) (first n') (address_same optional helper exports (top Missing t) (top Missing t')),
+    (bind (first (later n)) (first (later n')) (equal (leaves written_length)), tt),
+  )
+  row_same (DeferFree free align) p t p' t' n n' = (
+    kept (w.Refer (codes "wasm") false) (kept (w.Wasm free)
+        (passed (operands Missing 2 t []) (operands Missing 2 t' []))),
+    tt,
+  )
+  row_same (CopyOut helper) p t p' t' n n' = (
+    bind (first n) (first n') (copy_same helper (operands Missing 2 t []) (operands Missing 2 t' [])),
     tt,
   )
 

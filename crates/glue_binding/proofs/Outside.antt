@@ -14,7 +14,8 @@ use Rattle.glue_words.specs.declared.word.Word.TheVariants as w
 use Rattle.glue_words.specs.Names.{local_bound_name, local_name, local_bound_in, local_in}
 use Rattle.glue_words.specs.Linking.{AreAmong}
 use Rattle.glue_words.proofs.Among.{among_both, among_parts, among_itself}
-use Rattle.glue_tree.specs.Term.{Lines, NoLines}
+use Rattle.glue_tree.specs.Term.{Export, Lines, NoLines}
+use Rattle.glue_tree.specs.Plainly.{terms_of}
 use Rattle.glue_tree.specs.Spelling.{comma_unless, is_none, const_start, function_words}
 use Rattle.glue_tree.specs.FixedWords.{semicolon, const_word}
 use Rattle.glue_words.specs.Functions.{parenthesised}
@@ -27,14 +28,22 @@ use Rattle.glue_tree.proofs.Names.{IsKind, Has, function_names}
 use Rattle.glue_tree.proofs.Functions.{local_kind, local_bound_kind}
 use Rattle.glue_steps.specs.Stack.{top, below, item_at, operands, without}
 use Rattle.glue_steps.specs.declared.step.Step.{Step}
-use Rattle.glue_steps.specs.declared.step.Step.TheVariants.{Parameter, Unchanged, CallExport, CallImport, ToUnsigned, IsNotZero, ToUnsigned64, CallHelper, IndexFromBorrow, UnwrapResult}
-use Rattle.glue_binding.specs.Spelling.{Plain, Missing, Local, Unsigned, NotZero, term_of, terms, is_comparison, word_if, plain_words, guarded_words, argument_words, arguments_words, next_names, part_words, parts_words, start_words, import_line_words, Piece, Ahead, Cleanup, ending, import_row, pieces_of, nested, tree_of, result_of, counted, wanted_from, temporaries}
+use Rattle.glue_steps.specs.declared.step.Step.TheVariants.{Parameter, Unchanged, CallExport, CallImport, ToUnsigned, IsNotZero, ToUnsigned64, CallHelper, IndexFromBorrow, UnwrapResult, PassToMemory, DeferFree, CopyOut}
+use Rattle.glue_binding.specs.Spelling.{Plain, Missing, Local, Unsigned, NotZero, term_of, terms, is_comparison, word_if, plain_words, guarded_words, argument_words, arguments_words, next_names, write_call, address_term, copy_call, part_words, parts_words, start_words, import_line_words, Piece, Ahead, Cleanup, ending, import_row, pieces_of, nested, tree_of, result_of, counted, wanted_from, temporaries}
 use Rattle.glue_binding.proofs.Each.{Each, each_by, each_there, each_item, each_below}
 use Rattle.glue_binding.proofs.Coming.{next_count, next_rest, first_enough, left_exact}
 use Rattle.glue_binding.proofs.Standing.{part_good, expression_fits, step_fit, fitting, fitting_good, steps_each, prelude_places, value_places}
 use Rattle.glue_binding.proofs.Rowwise.{IsRowwise, AllHave, pieces_have}
 use Rattle.glue_binding.proofs.Parts.{outer_part, outer_parts, outer_expression, expression_none, parts_use, parts_places}
 use Rattle.glue_binding.proofs.Outer.{IsOuter, plain_none, terms_none}
+
+-- the words of exports, and those of the test whether a value is absent, where there is one
+abbrev pub exports_words : List (List ℕ) → List Word
+exports_words names = leaves_of (terms_of (map Export names))
+
+abbrev pub absent_words : (optional : Bool) → List Word
+absent_words false = []
+absent_words true = w.Refer (codes "isLikeNone") false ∷ []
 
 -- the words from outside that the text of a step holds
 abbrev pub outside_words : Step → List Word
@@ -46,6 +55,10 @@ outside_words IndexFromBorrow =
     w.Refer (codes "addBorrowedObject") false ∷ w.Refer (codes "heap") false ∷ w.Refer (codes "stack_pointer") false
     ∷ w.Host (codes "undefined") false ∷ []
 outside_words (UnwrapResult helper) = w.Refer helper false ∷ []
+outside_words (PassToMemory helper exports optional) =
+    absent_words optional ++ (w.Refer helper false ∷ w.Refer (codes "WASM_VECTOR_LEN") false ∷ exports_words exports)
+outside_words (DeferFree free align) = w.Refer (codes "wasm") false ∷ w.Wasm free ∷ []
+outside_words (CopyOut helper) = w.Refer helper false ∷ w.Prop (codes "slice") ∷ []
 outside_words other = []
 
 -- those of steps, in order
@@ -237,6 +250,36 @@ module _ (kind : Word → Option (List ℕ)) (is : IsKind kind) where
         let both = split (outer_parts e.prelude) (outer_parts e.value) f in
         merge (parts_hold locals args h e.prelude o.above both.0) (merge k (merge (parts_hold locals args h e.value o.value both.1) (mark 8)))
 
+    -- the words of what writes a value to memory
+    record OfPassed (helper : List ℕ) (exports : List (List ℕ)) (optional : Bool) : Type 0 where
+      absent : Holds (absent_words optional)
+      named : Holds (w.Refer helper false ∷ [])
+      length : Holds (w.Refer (codes "WASM_VECTOR_LEN") false ∷ [])
+      taken : Holds (exports_words exports)
+
+    of_passed : (helper : List ℕ) (exports : List (List ℕ)) (optional : Bool) → Holds (outside_words (PassToMemory helper exports optional))
+        → OfPassed helper exports optional
+    of_passed helper exports optional f =
+        let length = w.Refer (codes "WASM_VECTOR_LEN") false ∷ [] in
+        let a = split (absent_words optional) (w.Refer helper false ∷ (length ++ exports_words exports)) f in
+        let b = split (w.Refer helper false ∷ []) (length ++ exports_words exports) a.1 in
+        let c = split length (exports_words exports) b.1 in
+        record { absent = a.0; named = b.0; length = c.0; taken = c.1 }
+
+    write_holds : (helper : List ℕ) (exports : List (List ℕ)) (optional : Bool) → OfPassed helper exports optional → (p : Plain) → OfPlain p
+        → Holds (leaves (write_call helper exports p))
+    write_holds helper exports optional o p h = merge o.named (merge (plain_holds p h) o.taken)
+
+    address_holds : (helper : List ℕ) (exports : List (List ℕ)) (optional : Bool) → OfPassed helper exports optional → (p : Plain) → OfPlain p
+        → Holds (leaves (address_term optional helper exports p))
+    address_holds helper exports false o p h = write_holds helper exports false o p h
+    address_holds helper exports true o p h = merge (merge o.absent (terms_hold (p ∷ []) (h, tt))) (write_holds helper exports true o p h)
+
+    copy_holds : (helper : List ℕ) → Holds (outside_words (CopyOut helper)) → (args : List Plain) → Each OfPlain args → Holds (leaves (copy_call helper args))
+    copy_holds helper f args h =
+        let both = split (w.Refer helper false ∷ []) (w.Prop (codes "slice") ∷ []) f in
+        merge (merge (merge both.0 (terms_hold args h)) both.1) none
+
     held : IsRowwise (λ l. Holds (line_leaves l)) OfPlain OfName (λ s. Holds (outside_words s) × Known s)
     held = record {
       missing = tt;
@@ -256,6 +299,10 @@ module _ (kind : Word → Option (List ℕ)) (is : IsKind kind) where
           (terms_hold (p ∷ []) (h, tt)));
       gives_back = λ f. (split (w.Refer (codes "addBorrowedObject") false ∷ []) _ f.0).1;
       throws = λ helper f p q h k. merge (plain_holds p h) (merge (merge f.0 (terms_hold (q ∷ []) (k, tt))) none);
+      writes = λ helper exports optional f x d p h. merge d.declared (address_holds helper exports optional (of_passed helper exports optional f.0) p h);
+      lengths = λ helper exports optional f x d. merge d.declared (of_passed helper exports optional f.0).length;
+      frees = λ free align f p q h k. merge f.0 (terms_hold (p ∷ q ∷ []) (h, (k, tt)));
+      copies = λ helper f x d args h. merge d.declared (copy_holds helper f.0 args h);
     }
 
     nested_holds : (pieces : List Piece) (rest : Lines) → AllHave (λ l. Holds (line_leaves l)) pieces
@@ -310,10 +357,25 @@ outside_among kind outer steps params temps le =
     (each_by (OfName kind outer.is ys) params (λ x at. name x))
     (each_by (OfName kind outer.is ys) temps (λ x at. name x))
 
+-- ---- names of which what writes a value to memory has none
+
+exports_none : (kind : Word → Option (List ℕ)) → ((name : List ℕ) → kind (w.Refer name false) ≡ None) → ((name : List ℕ) → kind (w.Wasm name) ≡ None)
+    → (names : List (List ℕ)) → filter_map kind (exports_words names) ≡ []
+exports_none kind h k [] = refl
+exports_none kind h k (name ∷ names) = rw (h (codes "wasm"), k name) (exports_none kind h k names)
+
+pub passed_none : (kind : Word → Option (List ℕ)) → ((name : List ℕ) → kind (w.Refer name false) ≡ None)
+    → ((name : List ℕ) → kind (w.Wasm name) ≡ None) → (helper : List ℕ) (exports : List (List ℕ)) (optional : Bool)
+    → filter_map kind (outside_words (PassToMemory helper exports optional)) ≡ []
+passed_none kind h k helper exports false = rw (h helper, h (codes "WASM_VECTOR_LEN")) (exports_none kind h k exports)
+passed_none kind h k helper exports true =
+    rw (h (codes "isLikeNone"), h helper, h (codes "WASM_VECTOR_LEN")) (exports_none kind h k exports)
+
 -- ---- locals
 
 outside_local : (s : Step) → local_in (outside_words s) ≡ []
 outside_local (CallImport adapter n has_result e) = expression_none local_name parts_use e
+outside_local (PassToMemory helper exports optional) = passed_none local_name (λ n. refl) (λ n. refl) helper exports optional
 outside_local other = refl
 
 steps_local : (steps : List Step) → local_in (outside_of steps) ≡ []
@@ -416,6 +478,22 @@ called_declares adapter n false e fit locals same stack names rest pieces c next
 after_none : (xs : List Word) (ns ms : List (List ℕ)) → local_bound_in xs ≡ [] → ns ≡ ms → local_bound_in xs ++ ns ≡ ms
 after_none xs ns ms h e = ap (λ (ks : List (List ℕ)). ks ++ ns) h ∙ e
 
+-- what is written to memory, and what is copied, declares nothing
+write_declares : (helper : List ℕ) (exports : List (List ℕ)) (p : Plain) → local_bound_in (leaves (write_call helper exports p)) ≡ []
+write_declares helper exports p = none_declared (leaves (term_of p)) (exports_words exports) (plain_none local_bound_name (λ n. refl) p)
+    (exports_none local_bound_name (λ n. refl) (λ n. refl) exports)
+
+address_declares : (optional : Bool) (helper : List ℕ) (exports : List (List ℕ)) (p : Plain)
+    → local_bound_in (leaves (address_term optional helper exports p)) ≡ []
+address_declares false helper exports p = write_declares helper exports p
+address_declares true helper exports p = none_declared (leaves_of (terms (p ∷ []))) (leaves (write_call helper exports p))
+    (terms_declare (p ∷ [])) (write_declares helper exports p)
+
+copy_declares : (helper : List ℕ) (args : List Plain) → local_bound_in (leaves (copy_call helper args)) ≡ []
+copy_declares helper args =
+    ap local_bound_in (append-nil (leaves_of (terms args) ++ w.Prop (codes "slice") ∷ []))
+    ∙ none_declared (leaves_of (terms args)) (w.Prop (codes "slice") ∷ []) (terms_declare args) refl
+
 ending_declares : (stack : List Plain) → declared_in (ending stack) ≡ []
 ending_declares [] = refl
 ending_declares (p ∷ stack) = after_none (leaves (term_of p)) [] [] (plain_none local_bound_name (λ n. refl) p) refl
@@ -469,6 +547,24 @@ pieces_declare (UnwrapResult helper ∷ steps) params stack names count g e =
     ∙ after_none flag _ [] (plain_none local_bound_name (λ n. refl) (top Missing stack))
     (ap local_bound_in (append-nil handle) ∙ terms_declare (top Missing (below stack) ∷ [])))
     (pieces_declare steps params _ names count g.1 e)
+pieces_declare (PassToMemory helper exports optional ∷ steps) params stack [] count g e = absurd (omega (arith, e))
+pieces_declare (PassToMemory helper exports optional ∷ steps) params stack (x ∷ []) count g e = absurd (omega (arith, e))
+pieces_declare (PassToMemory helper exports optional ∷ steps) params stack (x ∷ y ∷ names) count g e =
+    let address = address_term optional helper exports (top Missing stack) in
+    ap (λ (ns : List (List ℕ)). x ∷ ns) (after_none (leaves address) _ (y ∷ names)
+    (address_declares optional helper exports (top Missing stack))
+    (ap (λ (ns : List (List ℕ)). y ∷ ns) (pieces_declare steps params _ names (counted (PassToMemory helper exports optional) count) g.1
+    (omega (arith, e)))))
+pieces_declare (DeferFree free align ∷ steps) params stack names count g e =
+    let rest = declared_in (pieces_of steps params stack names) in
+    ap (λ (ns : List (List ℕ)). rest ++ ns) (terms_declare (operands Missing 2 stack []))
+    ∙ append-nil rest
+    ∙ pieces_declare steps params stack names count g.1 e
+pieces_declare (CopyOut helper ∷ steps) params stack [] count g e = absurd (omega (arith, e))
+pieces_declare (CopyOut helper ∷ steps) params stack (x ∷ names) count g e =
+    ap (λ (ns : List (List ℕ)). x ∷ ns) (after_none (leaves (copy_call helper (operands Missing 2 stack []))) _ names
+    (copy_declares helper (operands Missing 2 stack [])) (pieces_declare steps params _ names (counted (CopyOut helper) count) g.1
+    (omega (arith, e))))
 
 params_declare : (names : List (List ℕ)) → local_bound_in (map w.LocalBind names) ≡ names
 params_declare [] = refl

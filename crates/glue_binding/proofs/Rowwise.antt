@@ -5,8 +5,8 @@ use Rattle.glue_tree.specs.Term.{Line, Bind, Run, Leave}
 use Rattle.glue_imports.specs.declared.part.Expression.{Expression}
 use Rattle.glue_steps.specs.Stack.{top, below, operands, without}
 use Rattle.glue_steps.specs.declared.step.Step.{Step}
-use Rattle.glue_steps.specs.declared.step.Step.TheVariants.{Parameter, Unchanged, CallExport, CallImport, ToUnsigned, IsNotZero, ToUnsigned64, CallHelper, IndexFromBorrow, UnwrapResult}
-use Rattle.glue_binding.specs.Spelling.{Plain, Missing, Local, Unsigned, NotZero, term_of, export_call, helper_call, unsigned_64_call, import_call, gives_back_line, throw_line, next_names, Piece, Ahead, Cleanup, ending, import_row, row, pieces_of, result_of, wanted_by, counted, wanted_from}
+use Rattle.glue_steps.specs.declared.step.Step.TheVariants.{Parameter, Unchanged, CallExport, CallImport, ToUnsigned, IsNotZero, ToUnsigned64, CallHelper, IndexFromBorrow, UnwrapResult, PassToMemory, DeferFree, CopyOut}
+use Rattle.glue_binding.specs.Spelling.{Plain, Missing, Local, Unsigned, NotZero, term_of, export_call, helper_call, unsigned_64_call, import_call, gives_back_line, throw_line, address_term, written_length, free_line, copy_call, next_names, Piece, Ahead, Cleanup, ending, import_row, row, pieces_of, result_of, wanted_by, counted, wanted_from}
 use Rattle.glue_binding.proofs.Each.{Each, each_item, each_top, each_below, each_without, each_operands}
 use Rattle.glue_binding.proofs.Coming.{next_count, first_enough, left_enough, next_each, left_each}
 
@@ -33,6 +33,12 @@ pub record IsRowwise (D : Line → Type 0) (S : Plain → Type 0) (N : List ℕ 
       → D (Bind x (helper_call (codes "addBorrowedObject") (p ∷ [])))
   pub gives_back : F IndexFromBorrow → D gives_back_line
   pub throws : (helper : List ℕ) → F (UnwrapResult helper) → (p q : Plain) → S p → S q → D (throw_line helper p q)
+  pub writes : (helper : List ℕ) (exports : List (List ℕ)) (optional : Bool) → F (PassToMemory helper exports optional) → (x : List ℕ) → N x
+      → (p : Plain) → S p → D (Bind x (address_term optional helper exports p))
+  pub lengths : (helper : List ℕ) (exports : List (List ℕ)) (optional : Bool) → F (PassToMemory helper exports optional) → (x : List ℕ) → N x
+      → D (Bind x written_length)
+  pub frees : (free : List ℕ) (align : ℕ) → F (DeferFree free align) → (p q : Plain) → S p → S q → D (free_line free align (p ∷ q ∷ []))
+  pub copies : (helper : List ℕ) → F (CopyOut helper) → (x : List ℕ) → N x → (args : List Plain) → Each S args → D (Bind x (copy_call helper args))
 
 -- the statement of each piece has the property
 abbrev pub AllHave : (Line → Type 0) → List Piece → Type 0
@@ -73,6 +79,12 @@ row_enough (CallHelper helper n) params stack (x ∷ names) count rest le = omeg
 row_enough IndexFromBorrow params stack [] count rest le = absurd (omega (arith, le))
 row_enough IndexFromBorrow params stack (x ∷ names) count rest le = omega (arith, le)
 row_enough (UnwrapResult helper) params stack names count rest le = le
+row_enough (PassToMemory helper exports optional) params stack [] count rest le = absurd (omega (arith, le))
+row_enough (PassToMemory helper exports optional) params stack (x ∷ []) count rest le = absurd (omega (arith, le))
+row_enough (PassToMemory helper exports optional) params stack (x ∷ y ∷ names) count rest le = omega (arith, le)
+row_enough (DeferFree free align) params stack names count rest le = le
+row_enough (CopyOut helper) params stack [] count rest le = absurd (omega (arith, le))
+row_enough (CopyOut helper) params stack (x ∷ names) count rest le = omega (arith, le)
 
 module _ {D : Line → Type 0} {S : Plain → Type 0} {N : List ℕ → Type 0} {F : Step → Type 0}
     (is : IsRowwise D S N F) where
@@ -204,6 +216,36 @@ module _ {D : Line → Type 0} {S : Plain → Type 0} {N : List ℕ → Type 0} 
         stack_has = each_below S Missing is.missing (below stack) under;
         names_have = m;
       }
+  row_has (PassToMemory helper exports optional) params stack [] count rest f le p t m = absurd (omega (arith, le))
+  row_has (PassToMemory helper exports optional) params stack (x ∷ []) count rest f le p t m = absurd (omega (arith, le))
+  row_has (PassToMemory helper exports optional) params stack (x ∷ y ∷ names) count rest f le p t m = record {
+    pieces_have = (
+      is.writes helper exports optional f x m.0 (top Missing stack) (each_top S Missing is.missing stack t),
+      (is.lengths helper exports optional f y m.1.0, tt),
+    );
+    stack_has = (is.local y m.1.0, (is.local x m.0, each_below S Missing is.missing stack t));
+    names_have = m.1.1;
+  }
+  row_has (DeferFree free align) params stack names count rest f le p t m =
+      let under = each_below S Missing is.missing stack t in record {
+        pieces_have = (
+          is.frees free align f (top Missing (below stack)) (top Missing stack)
+              (each_top S Missing is.missing (below stack) under) (each_top S Missing is.missing stack t),
+          tt,
+        );
+        stack_has = t;
+        names_have = m;
+      }
+  row_has (CopyOut helper) params stack [] count rest f le p t m = absurd (omega (arith, le))
+  row_has (CopyOut helper) params stack (x ∷ names) count rest f le p t m = record {
+    pieces_have = (
+      is.copies helper f x m.0 (operands Missing 2 stack [])
+          (each_operands S Missing is.missing 2 stack [] t tt),
+      tt,
+    );
+    stack_has = (is.local x m.0, each_without S Missing is.missing 2 stack t);
+    names_have = m.1;
+  }
 
   -- ---- all rows: this part knows no step
 

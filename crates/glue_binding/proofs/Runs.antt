@@ -1,18 +1,21 @@
 -- The statements do what the steps do.
 use Rattle.std.proofs.Common.{◌≡◌, ℕ, zero, suc, ◌≤◌, List, [], ◌∷◌, ◌++◌, length, map, Option, Some, None, Bool, true, false, inl, inr, refl, sym, ap, ◌∙◌, subst, arith, append_assoc}
-use Rattle.std.specs.Prelude.{nat_eq, if◌then◌else◌, codes}
+use Rattle.std.specs.Prelude.{pos, nat_eq, if◌then◌else◌, codes}
 use Rattle.std.specs.Bool.{Decides}
+use Rattle.std.specs.List.{flat_map}
 use Rattle.std.specs.Cmp.Lexicographic.{pointwise}
 use Rattle.std.proofs.lemmas.Slice.Eq.{bytes_eq-Decides}
 use Rattle.values.specs.Lists.{IsIn, IsAway, AreDistinct}
-use Rattle.values.specs.Value.{Thing, Helper, OfExport, Value, Undefined, Null, Entry, Calls, CallsAdapter, Answer, Ran, Went, Threw, Ended, Act, goes_on, step, and_then_cleans, is_true, unsigned, is_not_zero}
-use Rattle.glue_tree.specs.Term.{Line, Fail, Lines, NoLines, AndLine}
+use Rattle.values.proofs.Members.{in_left, in_right}
+use Rattle.values.specs.Value.{Thing, Helper, OfExport, Value, Undefined, Null, Number, Entry, Reads, Calls, CallsOn, CallsAdapter, Answer, Ran, Went, Threw, Ended, Act, goes_on, step, and_then_cleans, is_true, unsigned, is_not_zero}
+use Rattle.glue_tree.specs.Term.{Export, Line, Fail, Lines, NoLines, AndLine}
+use Rattle.glue_tree.specs.Plainly.{terms_of}
 use Rattle.glue_tree.specs.TreeMeaning.{Locals, locals_of, value_in, if_true, value_of, values_of, unless_left, and_always, runs, tree_meaning}
 use Rattle.glue_steps.specs.Stack.{top, below, item_at, operands, without}
-use Rattle.glue_steps.specs.AdapterMeaning.{Left, gives_back, throws_if, unsigned_64, act, cleans, after_act, newest, means, seen, adapter_meaning}
+use Rattle.glue_steps.specs.AdapterMeaning.{Left, gives_back, throws_if, unsigned_64, exports_of, writes, unless_absent, address_of, frees, copies, helpers_of, act, cleans, after_act, newest, means, seen, adapter_meaning}
 use Rattle.glue_steps.specs.declared.step.Step.{Step}
-use Rattle.glue_steps.specs.declared.step.Step.TheVariants.{Parameter, Unchanged, CallExport, CallImport, ToUnsigned, IsNotZero, ToUnsigned64, CallHelper, IndexFromBorrow, UnwrapResult}
-use Rattle.glue_binding.specs.Spelling.{Plain, Missing, Local, Unsigned, NotZero, term_of, plain_value, terms, helper_call, unsigned_64_call, next_names, gives_back_line, import_row, pieces_of, cleaned_by, nested, tree_of, result_of, wanted_from, counted, temporaries}
+use Rattle.glue_steps.specs.declared.step.Step.TheVariants.{Parameter, Unchanged, CallExport, CallImport, ToUnsigned, IsNotZero, ToUnsigned64, CallHelper, IndexFromBorrow, UnwrapResult, PassToMemory, DeferFree, CopyOut}
+use Rattle.glue_binding.specs.Spelling.{Plain, Missing, Local, Unsigned, NotZero, term_of, plain_value, terms, helper_call, unsigned_64_call, next_names, gives_back_line, write_call, address_term, free_line, copy_call, import_row, pieces_of, cleaned_by, nested, tree_of, result_of, wanted_from, counted, temporaries}
 use Rattle.glue_binding.specs.Binding.{KnowsHelpers}
 use Rattle.glue_imports.specs.declared.part.Expression.{Expression}
 use Rattle.glue_binding.proofs.Each.{Each, each_item, each_top, each_below, each_without}
@@ -28,6 +31,20 @@ one_step : {A : Type 0} (ran : Ran A) (f : A → Act (Option Value)) (g : A → 
 one_step (Went a trace answers) f g next h = h a trace answers
 one_step (Threw v trace answers) f g next h = refl
 one_step (Ended trace) f g next h = refl
+
+-- the same goes on
+goes_alike : {A B : Type 0} (ran : Ran A) (f g : A → Act B)
+    → ((a : A) (trace : List Entry) (answers : List Answer) → f a trace answers ≡ g a trace answers) → goes_on ran f ≡ goes_on ran g
+goes_alike (Went a trace answers) f g h = h a trace answers
+goes_alike (Threw v trace answers) f g h = refl
+goes_alike (Ended trace) f g h = refl
+
+-- a value in front of others, and then a step with all of them
+gathered : (ran : Ran (List Value)) (v : Value) (next : List Value → Act Value)
+    → goes_on (goes_on ran (λ vs. Went (v ∷ vs))) next ≡ goes_on ran (λ vs. next (v ∷ vs))
+gathered (Went vs trace answers) v next = refl
+gathered (Threw u trace answers) v next = refl
+gathered (Ended trace) v next = refl
 
 nothing_after : (ran : Ran (Option Value)) → unless_left ran (Went None) ≡ ran
 nothing_after (Went None trace answers) = refl
@@ -234,6 +251,67 @@ module _ (thing_of : List ℕ → Thing) where
       → value_of thing_of (unsigned_64_call p) env trace answers ≡ unsigned_64 (plain_value env p) trace answers
   unsigned_64_is p env trace answers = rw (value_is p env trace answers) refl
 
+  -- the exports are read in order, and then a helper writes a value to memory
+  exports_are : (names : List (List ℕ)) (env : Locals) (trace : List Entry) (answers : List Answer)
+      → values_of thing_of (terms_of (map Export names)) env trace answers ≡ exports_of names trace answers
+  exports_are [] env trace answers = refl
+  exports_are (name ∷ names) env trace answers =
+      goes_alike (step (Reads (OfExport name)) trace answers) _ _ (λ v trace answers.
+      ap (λ r. goes_on r (λ vs. Went (v ∷ vs))) (exports_are names env trace answers))
+
+  write_is : (helper : List ℕ) (exports : List (List ℕ)) (p : Plain) (env : Locals) → thing_of helper ≡ Helper helper
+      → (trace : List Entry) (answers : List Answer) → value_of thing_of (write_call helper exports p) env trace answers
+      ≡ writes helper exports (plain_value env p) trace answers
+  write_is helper exports p env e trace answers =
+      rw (value_is p env trace answers, exports_are exports env trace answers, e)
+      (gathered (exports_of exports trace answers) (plain_value env p) (λ vs. step (Calls (Helper helper) vs)))
+
+  -- the helpers that a value is written to memory by are known
+  abbrev Knows : (optional : Bool) (helper : List ℕ) (exports : List (List ℕ)) → Type 0
+  Knows optional helper exports = (key : List ℕ) → IsIn key (helpers_of (PassToMemory helper exports optional)) → thing_of key ≡ Helper key
+
+  address_is : (optional : Bool) (helper : List ℕ) (exports : List (List ℕ)) (p : Plain) (env : Locals) → Knows optional helper exports
+      → (trace : List Entry) (answers : List Answer) → value_of thing_of (address_term optional helper exports p) env trace answers
+      ≡ address_of optional helper exports (plain_value env p) trace answers
+  address_is false helper exports p env k trace answers = write_is helper exports p env (k helper (inl refl)) trace answers
+  address_is true helper exports p env k trace answers =
+      rw (helper_is (codes "isLikeNone") (p ∷ []) env (k (codes "isLikeNone") (inl refl)) trace answers)
+      (goes_alike (step (Calls (Helper (codes "isLikeNone")) (plain_value env p ∷ [])) trace answers) _ _
+      (λ absent. written (is_true absent)))
+    where
+      written : (b : Bool) (trace : List Entry) (answers : List Answer)
+          → if_true b (Went (Number (pos 0)) trace answers) (value_of thing_of (write_call helper exports p) env trace answers)
+          ≡ unless_absent b (writes helper exports (plain_value env p)) trace answers
+      written true trace answers = refl
+      written false trace answers = write_is helper exports p env (k helper (inr (inl refl))) trace answers
+
+  length_known : (optional : Bool) (helper : List ℕ) (exports : List (List ℕ)) → Knows optional helper exports
+      → thing_of (codes "WASM_VECTOR_LEN") ≡ Helper (codes "WASM_VECTOR_LEN")
+  length_known false helper exports k = k (codes "WASM_VECTOR_LEN") (inr (inl refl))
+  length_known true helper exports k = k (codes "WASM_VECTOR_LEN") (inr (inr (inl refl)))
+
+  -- memory is freed by one step, in the locals of its own place
+  frees_is : (free : List ℕ) (align : ℕ) (stack : List Plain) (env : Locals) (trace : List Entry) (answers : List Answer)
+      → runs thing_of (AndLine (free_line free align (operands Missing 2 stack [])) NoLines) env trace answers
+      ≡ goes_on (frees free align (map (plain_value env) stack) trace answers) (λ v. Went None)
+  frees_is free align stack env trace answers =
+      rw (
+        value_is (top Missing (below stack)) env trace answers,
+        value_is (top Missing stack) env trace answers,
+        top_is env stack,
+        top_is env (below stack),
+        below_is env stack,
+      )
+
+  -- a view of memory is made by one step, and copied by another
+  copies_is : (helper : List ℕ) (stack : List Plain) (env : Locals) → thing_of helper ≡ Helper helper
+      → (trace : List Entry) (answers : List Answer) → value_of thing_of (copy_call helper (operands Missing 2 stack [])) env trace answers
+      ≡ copies helper (map (plain_value env) stack) trace answers
+  copies_is helper stack env e trace answers =
+      ap (λ r. goes_on r (λ view. step (CallsOn view (codes "slice") [])))
+      (helper_is helper (operands Missing 2 stack []) env e trace answers
+      ∙ ap (λ vs. step (Calls (Helper helper) vs) trace answers) (operands_are env 2 stack []))
+
   gives_back_is : (env : Locals) → thing_of (codes "heap") ≡ Helper (codes "heap")
       → thing_of (codes "stack_pointer") ≡ Helper (codes "stack_pointer") → (trace : List Entry) (answers : List Answer)
       → runs thing_of (AndLine gives_back_line NoLines) env trace answers
@@ -402,6 +480,38 @@ module _ (thing_of : List ℕ → Thing) where
       (λ trace answers. same steps params (below (below stack)) names env count (λ key at. k key (inr at))
       (fresh_without 2 f) le trace answers
       ∙ ap (λ s. means steps (map (plain_value env) params) s [] trace answers) (without_is env 2 stack)) trace answers)
+  same (PassToMemory helper exports optional ∷ steps) params stack [] env count k f le trace answers = absurd (omega (arith, le))
+  same (PassToMemory helper exports optional ∷ steps) params stack (x ∷ []) env count k f le trace answers = absurd (omega (arith, le))
+  same (PassToMemory helper exports optional ∷ steps) params stack (x ∷ y ∷ names) env count k f le trace answers =
+      let here = helpers_of (PassToMemory helper exports optional) in
+      let others = flat_map helpers_of steps in
+      let knows : Knows optional helper exports = λ key at. k key (in_left key here others at) in
+      let under = fresh_without 1 f in
+      let one = fresh_push under in
+      rw (address_is optional helper exports (top Missing stack) env knows trace answers, top_is env stack)
+      (one_step (address_of optional helper exports (top Null (map (plain_value env) stack)) trace answers) _ _ _ (λ v trace answers.
+      rw (length_known optional helper exports knows)
+      (one_step (step (Reads (Helper (codes "WASM_VECTOR_LEN"))) trace answers) _ _ _ (λ u trace answers.
+      same steps params (Local y ∷ Local x ∷ below stack) names ((y, u) ∷ (x, v) ∷ env)
+      (counted (PassToMemory helper exports optional) count) (λ key at. k key (in_right key here others at)) (fresh_push one)
+      (omega (arith, le)) trace answers
+      ∙ bound steps params (Local x ∷ below stack) y u ((x, v) ∷ env) _
+      (pushed (below stack) x v env (under.from_stack x (inl refl)) ∙ ap (λ vs. v ∷ vs) (below_is env stack))
+      (one.from_params y (inl refl)) (one.from_stack y (inl refl)) trace answers
+      ∙ ap (λ l. means steps l (u ∷ v ∷ below (map (plain_value env) stack)) [] trace answers)
+      (keep params x v env (f.from_params x (inl refl)))))))
+  same (DeferFree free align ∷ steps) params stack names env count k f le trace answers =
+      cleaned_is steps (free_line free align (operands Missing 2 stack [])) (nested (pieces_of steps params stack names) NoLines)
+      (frees free align (map (plain_value env) stack)) env _ _ (frees_is free align stack env) trace answers
+      (same steps params stack names env count k f le trace answers)
+  same (CopyOut helper ∷ steps) params stack [] env count k f le trace answers = absurd (omega (arith, le))
+  same (CopyOut helper ∷ steps) params stack (x ∷ names) env count k f le trace answers =
+      rw (copies_is helper stack env (k helper (inl refl)) trace answers)
+      (one_step (copies helper (map (plain_value env) stack) trace answers) _ _ _ (λ v trace answers.
+      same steps params (Local x ∷ without 2 stack) names ((x, v) ∷ env) (counted (CopyOut helper) count)
+      (λ key at. k key (inr at)) (fresh_push (fresh_without 2 f)) (omega (arith, le)) trace answers
+      ∙ bound steps params (without 2 stack) x v env _ (without_is env 2 stack) (f.from_params x (inl refl))
+      ((fresh_without 2 f).from_stack x (inl refl)) trace answers))
 
 -- ---- the whole function
 

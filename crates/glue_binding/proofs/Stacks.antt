@@ -1,7 +1,7 @@
 -- Stacks, pieces, and lists that loops go over.
 use Rattle.std.proofs.Common.{◌≡◌, ℕ, zero, suc, ◌+◌, ◌-◌, ◌<◌, ◌≤◌, List, [], ◌∷◌, ◌++◌, length, take, drop, get_or, map, reverse, refl, sym, ap, ◌∙◌, arith, append_assoc}
 use Rattle.std.specs.List.{flat_map}
-use Rattle.std.proofs.lemmas.List.{take_more, flat_map_more, reverse-append, map-append}
+use Rattle.std.proofs.lemmas.List.{take_more, flat_map_more, reverse-append, map-append, length-map, length-reverse, get_or-map, get_or-reverse, get_or_past}
 use Rattle.std.proofs.Math.Seq.{drop-cons}
 use Rattle.glue_tree.specs.Term.{Lines, AndLine}
 use Rattle.glue_tree.specs.Plainly.{plain_stmt, plain_stmts}
@@ -9,7 +9,7 @@ use Rattle.glue_tree.specs.declared.tree.Stmt.{Stmt}
 use Rattle.glue_steps.specs.Stack.{top, below, item_at, operands, without}
 use Rattle.glue_steps.specs.declared.step.Step.{Step}
 use Rattle.glue_binding.specs.Spelling.{Plain, Missing, Local, Piece, Ahead, Cleanup, row, pieces_of, cleaned_by, nested, wanted_by, counted, wanted_from}
-use Rattle.glue_binding.specs.Body.{newest_first, plain_operand, plain_piece, plain_pieces, behind}
+use Rattle.glue_binding.specs.Body.{newest_first, stack_of, plain_operand, plain_piece, plain_pieces, behind}
 use Rattle.glue_binding.specs.declared.operand.Operand.{Operand}
 use Rattle.glue_binding.specs.declared.piece.Piece as code
 
@@ -90,6 +90,32 @@ popped_operands k n stack stack' taken taken' x h s e t =
     (ap (λ l. map plain_operand (reverse l)) t ∙ ap (map plain_operand) (reverse_last taken x)
     ∙ ap (λ y. y ∷ map plain_operand (reverse taken)) e)
     ∙ operands_next Missing k n stack (map plain_operand (reverse taken)) h
+
+-- the operand that so many stand above
+top_under : {A : Type 0} (default : A) (n : ℕ) (stack : List A) → top default (without n stack) ≡ get_or stack n default
+top_under default zero [] = refl
+top_under default zero (x ∷ stack) = refl
+top_under default (suc n) [] = top_under default n []
+top_under default (suc n) (x ∷ stack) = top_under default n stack
+
+pub operand_under : (operands : List Operand) (n : ℕ) (x : Operand) → n < length operands
+    → x ≡ get_or operands (length operands - 1 - n) x → plain_operand x ≡ top Missing (without n (stack_of operands))
+unfolding stack_of
+operand_under operands n x lt is =
+    let plain = map plain_operand operands in
+    let count = length-map operands plain_operand in
+    ap plain_operand is
+    ∙ sym (get_or-map plain_operand operands (length operands - 1 - n) x Missing (omega (arith, lt)))
+    ∙ ap (λ k. get_or plain (k - 1 - n) Missing) (sym count)
+    ∙ sym (get_or-reverse plain n Missing (omega (arith, lt, count)))
+    ∙ sym (top_under Missing n (reverse plain))
+
+pub operand_absent : (operands : List Operand) (n : ℕ) → length operands ≤ n → Missing ≡ top Missing (without n (stack_of operands))
+unfolding stack_of
+operand_absent operands n le =
+    let plain = map plain_operand operands in
+    let count : length (reverse plain) ≡ length operands = length-reverse plain ∙ length-map operands plain_operand in
+    sym (get_or_past (reverse plain) n Missing (omega (arith, le, count))) ∙ sym (top_under Missing n (reverse plain))
 
 -- ---- pieces
 

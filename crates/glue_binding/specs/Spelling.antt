@@ -18,13 +18,13 @@ use Rattle.glue_tree.specs.TreeMeaning.{Locals, value_in}
 use Rattle.glue_tree.specs.declared.tree.Constant.TheVariants as constant
 use Rattle.glue_tree.specs.declared.tree.UnaryOperator.TheVariants as unary
 use Rattle.glue_tree.specs.declared.tree.BinaryOperator.TheVariants as binary
-use Rattle.glue_tree.specs.Term.{Term, Lit, Const, Var, Name, Outside, Export, Field, Index, Apply, One, Two, Terms, AndTerm, Line, Bind, Put, Run, When, Always, Fail, Leave, Inner, Lines, NoLines, AndLine}
+use Rattle.glue_tree.specs.Term.{Term, Lit, Const, Var, Name, Outside, Export, Field, Index, Apply, One, Two, Choose, Terms, NoTerms, AndTerm, Line, Bind, Put, Run, When, Always, Fail, Leave, Inner, Lines, NoLines, AndLine}
 use Rattle.glue_tree.specs.Plainly.{terms_of}
 use Rattle.glue_tree.specs.Spelling.{const_start, comma_unless, is_none}
 use Rattle.glue_tree.specs.FixedWords.{semicolon}
 use Rattle.glue_steps.specs.Stack.{top, below, item_at, operands, without}
 use Rattle.glue_steps.specs.declared.step.Step.{Step}
-use Rattle.glue_steps.specs.declared.step.Step.TheVariants.{Parameter, Unchanged, CallExport, CallImport, ToUnsigned, IsNotZero, ToUnsigned64, CallHelper, IndexFromBorrow, UnwrapResult}
+use Rattle.glue_steps.specs.declared.step.Step.TheVariants.{Parameter, Unchanged, CallExport, CallImport, ToUnsigned, IsNotZero, ToUnsigned64, CallHelper, IndexFromBorrow, UnwrapResult, PassToMemory, DeferFree, CopyOut}
 
 -- ---- operands
 
@@ -213,6 +213,27 @@ gives_back_line = Put (Index (Name (codes "heap")) (One unary.Increment (Name (c
 abbrev pub throw_line : (helper : List ℕ) → (flag handle : Plain) → Line
 throw_line helper flag handle = When (term_of flag) (AndLine (Fail (helper_call helper (handle ∷ []))) NoLines)
 
+-- `helper(p, wasm.name, ..)`
+abbrev pub write_call : (helper : List ℕ) → (exports : List (List ℕ)) → Plain → Term
+write_call helper exports p = Apply (Name helper) (AndTerm (term_of p) (terms_of (map Export exports)))
+
+-- the address of what is written: `isLikeNone(p) ? 0 : helper(p, wasm.name, ..)` where it may be absent
+abbrev pub address_term : (optional : Bool) → (helper : List ℕ) → (exports : List (List ℕ)) → Plain → Term
+address_term false helper exports p = write_call helper exports p
+address_term true helper exports p = Choose (helper_call (codes "isLikeNone") (p ∷ [])) (Lit (pos 0)) (write_call helper exports p)
+
+-- the length that was written
+abbrev pub written_length : Term
+written_length = Name (codes "WASM_VECTOR_LEN")
+
+-- `wasm.free(address, length, align);`
+abbrev pub free_line : (free : List ℕ) → (align : ℕ) → (args : List Plain) → Line
+free_line free align args = Run (Apply (Export free) (terms_of (map term_of args ++ Lit (pos align) ∷ [])))
+
+-- `helper(address, length).slice()`
+abbrev pub copy_call : (helper : List ℕ) → (args : List Plain) → Term
+copy_call helper args = Apply (Field (helper_call helper args) (codes "slice")) NoTerms
+
 -- ---- the table of steps
 
 -- what a step adds to the statements: a statement, or a cleanup of all that comes after
@@ -264,6 +285,14 @@ row IndexFromBorrow params stack names =
     (Local (first names) ∷ below stack) (later names)
 row (UnwrapResult helper) params stack names =
     made (Ahead (throw_line helper (top Missing stack) (top Missing (below stack))) ∷ []) (below (below stack)) names
+row (PassToMemory helper exports optional) params stack names =
+    made (Ahead (Bind (first names) (address_term optional helper exports (top Missing stack)))
+    ∷ Ahead (Bind (first (later names)) written_length) ∷ [])
+    (Local (first (later names)) ∷ Local (first names) ∷ below stack) (later (later names))
+row (DeferFree free align) params stack names = made (Cleanup (free_line free align (operands Missing 2 stack [])) ∷ []) stack names
+row (CopyOut helper) params stack names =
+    made (Ahead (Bind (first names) (copy_call helper (operands Missing 2 stack []))) ∷ [])
+    (Local (first names) ∷ without 2 stack) (later names)
 
 -- at the end the newest operand is returned, where there is one
 abbrev pub ending : List Plain → List Piece
@@ -298,14 +327,16 @@ abbrev pub result_of : Bool → List (List ℕ)
 result_of true = codes "ret" ∷ []
 result_of false = []
 
--- the temporaries that a step wants: the locals of the statements before it and `ret` for a call, else `v` and how many steps before it
--- have such a one
+-- the temporaries that a step wants: the locals of the statements before it and `ret` for a call, `ptr` and `len` for what is written to memory,
+-- else `v`, each with how many steps before it have such a one
 abbrev pub wanted_by : Step → (count : ℕ) → List (List ℕ)
 wanted_by (CallExport name n has_result) count = result_of has_result
 wanted_by (CallImport adapter n has_result e) count = e.locals ++ result_of has_result
 wanted_by ToUnsigned64 count = numbered (codes "v") count ∷ []
 wanted_by (CallHelper helper n) count = numbered (codes "v") count ∷ []
 wanted_by IndexFromBorrow count = numbered (codes "v") count ∷ []
+wanted_by (PassToMemory helper exports optional) count = numbered (codes "ptr") count ∷ numbered (codes "len") count ∷ []
+wanted_by (CopyOut helper) count = numbered (codes "v") count ∷ []
 wanted_by other count = []
 
 -- how many have one after the step
@@ -313,6 +344,8 @@ abbrev pub counted : Step → (count : ℕ) → ℕ
 counted ToUnsigned64 count = count + 1
 counted (CallHelper helper n) count = count + 1
 counted IndexFromBorrow count = count + 1
+counted (PassToMemory helper exports optional) count = count + 1
+counted (CopyOut helper) count = count + 1
 counted other count = count
 
 -- the temporaries that steps want, where so many before them have a numbered one

@@ -7,6 +7,7 @@ ghost use Rattle.glue_binding.specs.Spelling as s;
 ghost use Rattle.glue_steps.specs.Stack.{item_at};
 
 use crate::calls::{call_export, call_import};
+use crate::memory::{copy_out, defer_free, pass_to_memory};
 use crate::numbers::{is_not_zero, to_unsigned, to_unsigned_64};
 use crate::objects::{borrow_index, call_helper, unwrap_result};
 use crate::operand::{Operand, to_expr};
@@ -161,6 +162,13 @@ impl Body {
             Step::CallHelper { helper, params } => call_helper(alloc, self, helper, *params),
             Step::IndexFromBorrow => borrow_index(alloc, self),
             Step::UnwrapResult { helper } => unwrap_result(alloc, self, helper),
+            Step::PassToMemory {
+                helper,
+                exports,
+                optional,
+            } => pass_to_memory(alloc, self, helper, exports.as_slice(), *optional),
+            Step::DeferFree { free, align } => defer_free(alloc, self, free, *align),
+            Step::CopyOut { helper } => copy_out(alloc, self, helper),
         }
     }
 

@@ -69,6 +69,17 @@ fn push_numbered(alloc: Global, count: usize, wanted: &mut Seq<Text>) -> Result<
     Ok(())
 }
 
+// `ptr` and `len`, each with the number.
+fn push_pair(alloc: Global, count: usize, wanted: &mut Seq<Text>) -> Result<(), AllocError>
+    ensures wanted { OnOk result (wanted.new ≡ wanted.old ++ numbered (codes "ptr") count
+        ∷ numbered (codes "len") count
+        ∷ []) }
+{
+    wanted.push(Text::new(format!(in alloc; "ptr{count}")?))?;
+    wanted.push(Text::new(format!(in alloc; "len{count}")?))?;
+    Ok(())
+}
+
 // The temporaries that a step wants, where so many before it have a numbered one.
 fn push_wanted(
     alloc: Global,
@@ -88,11 +99,14 @@ fn push_wanted(
         Step::ToUnsigned64 => push_numbered(alloc, count, wanted),
         Step::CallHelper { .. } => push_numbered(alloc, count, wanted),
         Step::IndexFromBorrow => push_numbered(alloc, count, wanted),
+        Step::PassToMemory { .. } => push_pair(alloc, count, wanted),
+        Step::CopyOut { .. } => push_numbered(alloc, count, wanted),
         Step::Parameter(_) => Ok(()),
         Step::Unchanged => Ok(()),
         Step::ToUnsigned => Ok(()),
         Step::IsNotZero => Ok(()),
         Step::UnwrapResult { .. } => Ok(()),
+        Step::DeferFree { .. } => Ok(()),
     }
 }
 
@@ -106,6 +120,8 @@ fn counted(step: &Step, count: usize) -> usize
         Step::ToUnsigned64 => count + 1,
         Step::CallHelper { .. } => count + 1,
         Step::IndexFromBorrow => count + 1,
+        Step::PassToMemory { .. } => count + 1,
+        Step::CopyOut { .. } => count + 1,
         _ => count,
     }
 }

@@ -12,6 +12,7 @@ mod body;
 mod calls;
 mod draw;
 mod import;
+mod memory;
 mod numbers;
 mod objects;
 mod operand;

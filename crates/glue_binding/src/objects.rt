@@ -14,15 +14,15 @@ use glue_tree::{Expr, Stmt, UnaryOperator};
 use std::alloc::{AllocError, Global};
 use values::{Boxed, Seq, Text};
 
-// A helper by its name.
-fn helper(alloc: Global, key: &str) -> Result<Expr, AllocError>
+/// A helper by its name.
+pub fn helper(alloc: Global, key: &str) -> Result<Expr, AllocError>
     ensures { IfOk result (λ e. plain_expr e ≡ t.Name key.now) }
 {
     Ok(Expr::Module(Text::from_str(alloc, key)?))
 }
 
-// `helper(operand)`
-fn helper_call(alloc: Global, key: &str, operand: &Operand) -> Result<Expr, AllocError>
+/// `helper(operand)`
+pub fn helper_call(alloc: Global, key: &str, operand: &Operand) -> Result<Expr, AllocError>
     ensures { IfOk result (λ e. plain_expr e ≡ s.helper_call key.now (plain_operand operand.now ∷ [])) }
 {
     let f = Boxed::new(alloc, helper(alloc, key)?)?;
@@ -31,8 +31,8 @@ fn helper_call(alloc: Global, key: &str, operand: &Operand) -> Result<Expr, Allo
     Ok(Expr::Call(f, args))
 }
 
-// `helper(operands)`
-fn helper_with(alloc: Global, key: &Text, operands: &[Operand]) -> Result<Expr, AllocError>
+/// `helper(operands)`
+pub fn helper_with(alloc: Global, key: &Text, operands: &[Operand]) -> Result<Expr, AllocError>
     ensures { IfOk result (λ e. plain_expr e ≡ s.helper_call key.now (map plain_operand operands.now)) }
 {
     let f = Boxed::new(alloc, helper(alloc, key.as_str())?)?;

@@ -297,6 +297,10 @@ handed_part settings wit aux adapter = part_of (handed_name settings wit aux ada
 abbrev pub adapter_for : List (ImportId × ℕ) → ℕ → Option ℕ
 adapter_for pairs place = option_map (λ pair. pair.1) (find (λ pair. pair.0.0 == place) pairs)
 
+-- the places of the imports that adapters stand for
+abbrev pub implemented : NonstandardWitSection → List ℕ
+implemented wit = map (λ pair. pair.0.0) wit.implements
+
 -- an adapter defines the import at a place
 abbrev pub is_implemented : NonstandardWitSection → ℕ → Bool
 is_implemented wit place = list_any (λ pair. pair.0.0 == place) wit.implements

@@ -26,7 +26,8 @@ fn push_listed(out: &mut Vec<ExportItem>, item: Option<ExportItem>) -> Result<()
     }
 }
 
-fn func_item(id: Option<FuncId>) -> Option<ExportItem>
+/// A function as an item that may be exported.
+pub fn func_item(id: Option<FuncId>) -> Option<ExportItem>
     ensures item { result ≡ option_map items.Func id }
 {
     match id {
@@ -69,8 +70,11 @@ fn push_written(
     Ok(())
 }
 
-// Adds what an instruction names.
-fn push_instruction(out: &mut Vec<ExportItem>, instruction: &Instruction) -> Result<(), AllocError>
+/// Adds what the ids of an instruction name. Want of memory is the only error.
+pub fn push_instruction(
+    out: &mut Vec<ExportItem>,
+    instruction: &Instruction,
+) -> Result<(), AllocError>
     ensures pushed { OnOk result (out.new.items ≡ out.old.items ++ spec.instruction_items instruction.now) }
 {
     match instruction {
@@ -236,8 +240,8 @@ fn has_entry<T>(entries: &[Option<T>], place: u32) -> bool
     }
 }
 
-// Whether an item is there.
-fn is_live_item(module: &Module, item: ExportItem) -> bool
+/// Whether an item is there.
+pub fn is_live_item(module: &Module, item: ExportItem) -> bool
     ensures test { result ≡ spec.is_live_item «module».now item }
 {
     match item {
@@ -276,8 +280,8 @@ fn named(alloc: Global, lowered: &Lowered) -> Result<Vec<ExportItem>, AllocError
     Ok(found)
 }
 
-// Keeps the items that are there.
-fn keep_live(found: &mut Vec<ExportItem>, module: &Module)
+/// Keeps the items that are there.
+pub fn keep_live(found: &mut Vec<ExportItem>, module: &Module)
     ensures kept { found.new.items ≡ filter (spec.is_live_item «module».now) found.old.items }
 {
     found.retain(|item| is_live_item(module, *item));

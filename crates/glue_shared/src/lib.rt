@@ -35,7 +35,10 @@ pub use ids::IdSet;
 pub use implementers::Implementers;
 pub use import::{AuxImport, AuxValue, Intrinsic, JsImport, JsImportName};
 pub use indexed::{DescribedImports, IndexedAux};
-pub use kept::{first_memory, live_item, roots, table_item};
+pub use kept::{
+    first_memory, func_item, is_live_item, keep_live, live_item, push_instruction, roots,
+    table_item,
+};
 pub use name_map::NameMap;
 pub use name_tests::{is_fixed_name, is_host_name, js_import, live_count};
 pub use names::{EMSCRIPTEN_HOSTS, HELPER_NAMES, HOSTS, MEMORY_NAMES, TABLE_NAMES, TARGET_NAMES};

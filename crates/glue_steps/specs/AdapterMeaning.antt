@@ -3,7 +3,7 @@ use Rattle.std.specs.Prelude.{ℕ, zero, suc, pos, Bool, true, false, List, [], 
 use Rattle.values.specs.Value.{Helper, OfExport, OfHost, Value, Undefined, Null, Number, Itself, Reads, WritesAt, Calls, CallsOn, CallsAdapter, Answer, Ran, Went, Threw, Ended, Act, goes_on, step, and_then_cleans, is_true, unsigned, is_not_zero, bump}
 use Rattle.glue_steps.specs.Stack.{top, below, item_at, operands, without}
 use Rattle.glue_steps.specs.declared.step.Step.{Step}
-use Rattle.glue_steps.specs.declared.step.Step.TheVariants.{Parameter, Unchanged, CallExport, CallImport, ToUnsigned, IsNotZero, ToUnsigned64, CallHelper, IndexFromBorrow, UnwrapResult}
+use Rattle.glue_steps.specs.declared.step.Step.TheVariants.{Parameter, Unchanged, CallExport, CallImport, ToUnsigned, IsNotZero, ToUnsigned64, CallHelper, IndexFromBorrow, UnwrapResult, PassToMemory, DeferFree, CopyOut}
 
 -- ---- steps. Where an operand or a parameter is lacking, `null` stands for it; a checked adapter never comes there
 
@@ -37,6 +37,40 @@ throws_if true helper handle stack trace answers =
 abbrev pub unsigned_64 : Value → Act Value
 unsigned_64 v = step (CallsOn (Itself (OfHost (codes "BigInt"))) (codes "asUintN") (Number (pos 64) ∷ v ∷ []))
 
+-- the exports of these names, one after another
+abbrev pub exports_of : List (List ℕ) → Act (List Value)
+exports_of [] trace answers = Went [] trace answers
+exports_of (name ∷ names) trace answers =
+    goes_on (step (Reads (OfExport name)) trace answers) (λ v trace answers.
+    goes_on (exports_of names trace answers) (λ vs. Went (v ∷ vs)))
+
+-- `helper(v, wasm.name, ..)`
+abbrev pub writes : (helper : List ℕ) → (exports : List (List ℕ)) → Value → Act Value
+writes helper exports v trace answers =
+    goes_on (exports_of exports trace answers) (λ vs. step (Calls (Helper helper) (v ∷ vs)))
+
+-- 0 where a value is absent, and else what writes it
+abbrev pub unless_absent : Bool → Act Value → Act Value
+unless_absent true act trace answers = Went (Number (pos 0)) trace answers
+unless_absent false act trace answers = act trace answers
+
+-- the address of a value that is written: `isLikeNone(v) ? 0 : helper(v, ..)` where it may be absent
+abbrev pub address_of : (optional : Bool) → (helper : List ℕ) → (exports : List (List ℕ)) → Value → Act Value
+address_of false helper exports v trace answers = writes helper exports v trace answers
+address_of true helper exports v trace answers =
+    goes_on (step (Calls (Helper (codes "isLikeNone")) (v ∷ [])) trace answers) (λ absent.
+    unless_absent (is_true absent) (writes helper exports v))
+
+-- `wasm.free(address, length, align)`, of the two newest operands
+abbrev pub frees : (free : List ℕ) → (align : ℕ) → List Value → Act Value
+frees free align stack = step (Calls (OfExport free) (operands Null 2 stack (Number (pos align) ∷ [])))
+
+-- `helper(address, length).slice()`, of the two newest operands
+abbrev pub copies : (helper : List ℕ) → List Value → Act Value
+copies helper stack trace answers =
+    goes_on (step (Calls (Helper helper) (operands Null 2 stack [])) trace answers) (λ view.
+    step (CallsOn view (codes "slice") []))
+
 -- what a step does
 abbrev pub act : Step → List Value → List Value → Act Left
 act (Parameter n) args stack trace answers = pushes (item_at Null args n ∷ stack) trace answers
@@ -60,12 +94,23 @@ act IndexFromBorrow args stack trace answers =
     Went (v ∷ below stack, gives_back ∷ []))
 act (UnwrapResult helper) args stack trace answers =
     throws_if (is_true (top Null stack)) helper (top Null (below stack)) (below (below stack)) trace answers
+act (PassToMemory helper exports optional) args stack trace answers =
+    goes_on (address_of optional helper exports (top Null stack) trace answers) (λ address trace answers.
+    goes_on (step (Reads (Helper (codes "WASM_VECTOR_LEN"))) trace answers) (λ count.
+    pushes (count ∷ address ∷ below stack)))
+act (DeferFree free align) args stack trace answers = Went (stack, frees free align stack ∷ []) trace answers
+act (CopyOut helper) args stack trace answers =
+    goes_on (copies helper stack trace answers) (λ v.
+    pushes (v ∷ without 2 stack))
 
 -- the helpers that a step calls, reads or writes, by their names
 abbrev pub helpers_of : Step → List (List ℕ)
 helpers_of (CallHelper helper n) = helper ∷ []
 helpers_of IndexFromBorrow = codes "addBorrowedObject" ∷ codes "heap" ∷ codes "stack_pointer" ∷ []
 helpers_of (UnwrapResult helper) = helper ∷ []
+helpers_of (PassToMemory helper exports false) = helper ∷ codes "WASM_VECTOR_LEN" ∷ []
+helpers_of (PassToMemory helper exports true) = codes "isLikeNone" ∷ helper ∷ codes "WASM_VECTOR_LEN" ∷ []
+helpers_of (CopyOut helper) = helper ∷ []
 helpers_of other = []
 
 -- ---- adapters

@@ -1,5 +1,5 @@
 -- The steps of an adapter: its instructions, with what their ids name in the module and the description.
-use Rattle.std.specs.Prelude.{ℕ, ◌==◌, Bool, true, false, if◌then◌else◌, List, [], ◌∷◌, ◌++◌, length, codes, Option, Some, None, option_map, option_and_then, slice_get, find}
+use Rattle.std.specs.Prelude.{ℕ, ◌==◌, Bool, true, false, if◌then◌else◌, List, [], ◌∷◌, ◌++◌, length, map, codes, Option, Some, None, option_map, option_and_then, slice_get, find}
 use Rattle.std.specs.Fmt.{decimal}
 use Rattle.std.specs.Ordering.{nat_cmp}
 use Rattle.std.specs.declared.cmp.Ordering.{Ordering}
@@ -9,12 +9,16 @@ use Rattle.wasm_core.specs.entries.Export.{Export}
 use Rattle.wasm_core.specs.entries.ExportItem.{ExportItem}
 use Rattle.wasm_core.specs.entries.ExportItem.TheVariants as items
 use Rattle.wasm_core.specs.Contents.{Contents}
+use Rattle.wasm_core.specs.ids.FuncId.{FuncId}
+use Rattle.wasm_core.specs.ids.MemoryId.{MemoryId}
 use Rattle.wasm_core.specs.ids.TableId.{TableId}
 use Rattle.wasm_file.specs.contracts.entries.ExportItemOrd.TheImpl as by_kind
 use Rattle.glue_shared.specs.declared.adapter.Adapter.{Adapter}
 use Rattle.glue_shared.specs.declared.adapter.AdapterKind.{AdapterKind}
 use Rattle.glue_shared.specs.declared.adapter.AdapterKind.TheVariants as kinds
 use Rattle.glue_shared.specs.declared.adapter.AdapterJsImportKind.{AdapterJsImportKind}
+use Rattle.glue_shared.specs.declared.adapter.VectorKind.{VectorKind}
+use Rattle.glue_shared.specs.declared.adapter.VectorKind.TheVariants as vectors
 use Rattle.glue_shared.specs.declared.adapter.Instruction.{Instruction}
 use Rattle.glue_shared.specs.declared.adapter.Instruction.TheVariants as instr
 use Rattle.glue_shared.specs.declared.import.AuxImport.{AuxImport}
@@ -129,6 +133,61 @@ handle_step s l instr.GetIndex = handle_call s l (codes "getObject") (codes "get
 handle_step s l instr.UnwrapResult = unwrapping s l
 handle_step s l other = None
 
+-- what the names of helpers call the elements of vectors
+abbrev pub element_letters : VectorKind → List ℕ
+element_letters vectors.I8 = codes "I8"
+element_letters vectors.U8 = codes "U8"
+element_letters vectors.I16 = codes "I16"
+element_letters vectors.U16 = codes "U16"
+element_letters vectors.I32 = codes "I32"
+element_letters vectors.U32 = codes "U32"
+element_letters vectors.I64 = codes "I64"
+element_letters vectors.U64 = codes "U64"
+element_letters vectors.Value = codes "JsValue"
+
+-- and what they call them where a sign doesn't matter
+abbrev pub width_letters : VectorKind → List ℕ
+width_letters vectors.I8 = codes "8"
+width_letters vectors.U8 = codes "8"
+width_letters vectors.I16 = codes "16"
+width_letters vectors.U16 = codes "16"
+width_letters vectors.I32 = codes "32"
+width_letters vectors.U32 = codes "32"
+width_letters vectors.I64 = codes "64"
+width_letters vectors.U64 = codes "64"
+width_letters vectors.Value = codes "JsValue"
+
+-- the helper that gives a vector that stands in a memory, and the one that writes a vector there
+abbrev pub reading_helper : VectorKind → MemoryId → List ℕ
+reading_helper kind memory = codes "getArray" ++ (element_letters kind ++ (codes "FromWasm" ++ decimal memory.0))
+
+abbrev pub writing_helper : VectorKind → MemoryId → List ℕ
+writing_helper kind memory = codes "passArray" ++ (width_letters kind ++ (codes "ToWasm" ++ decimal memory.0))
+
+-- a vector is copied out of memory, and one of any values is made by the helper
+abbrev pub vector_read : VectorKind → MemoryId → Step
+vector_read vectors.Value memory = steps.CallHelper (reading_helper vectors.Value memory) 2
+vector_read kind memory = steps.CopyOut (reading_helper kind memory)
+
+-- the names of the exports that give functions
+abbrev pub functions_named : NameMap → List FuncId → List (List ℕ)
+functions_named names functions = map (λ (f : FuncId). export_named names (Some (items.Func f))) functions
+
+-- the id, if there is one
+abbrev pub listed_id : Option FuncId → List FuncId
+listed_id None = []
+listed_id (Some f) = f ∷ []
+
+-- a string is written to memory, by a helper that is handed the functions that allocate
+abbrev pub string_written : NameMap → (optional : Bool) → (malloc : FuncId) → Option FuncId → MemoryId → Step
+string_written names optional malloc realloc memory =
+    steps.PassToMemory (codes "passStringToWasm" ++ decimal memory.0) (functions_named names (malloc ∷ listed_id realloc)) optional
+
+-- a vector is written there
+abbrev pub vector_written : NameMap → VectorKind → (malloc : FuncId) → MemoryId → Step
+vector_written names kind malloc memory =
+    steps.PassToMemory (writing_helper kind memory) (functions_named names (malloc ∷ [])) false
+
 -- the step that an instruction is, where it is built
 abbrev pub step_of : Settings → NameMap → Lowered → Instruction → Option Step
 step_of s names l (instr.ArgGet n) = Some (steps.Parameter n)
@@ -142,6 +201,12 @@ step_of s names l instr.I32FromBool = Some steps.Unchanged
 step_of s names l (instr.WasmToInt64 false) = Some steps.Unchanged
 step_of s names l (instr.WasmToInt64 true) = Some steps.ToUnsigned64
 step_of s names l instr.BoolFromI32 = Some steps.IsNotZero
+step_of s names l (instr.StringToMemory malloc realloc memory) = Some (string_written names false malloc realloc memory)
+step_of s names l (instr.OptionStringToMemory malloc realloc memory) = Some (string_written names true malloc realloc memory)
+step_of s names l (instr.MemoryToString memory) = Some (steps.CallHelper (codes "getStringFromWasm" ++ decimal memory.0) 2)
+step_of s names l (instr.DeferFree free align) = Some (steps.DeferFree (export_named names (Some (items.Func free))) align)
+step_of s names l (instr.VecFromWasm kind memory) = Some (vector_read kind memory)
+step_of s names l (instr.VecToWasm kind malloc memory) = Some (vector_written names kind malloc memory)
 step_of s names l other = handle_step s l other
 
 abbrev pub with_step : Option Step → Option (List Step) → Option (List Step)
@@ -160,3 +225,18 @@ code_steps s names l (kinds.Import call) = None
 -- the steps of an adapter, where it has code, each of its instructions is built, and these names are drawn
 abbrev pub adapter_steps : Settings → NameMap → Lowered → ℕ → Option (List Step)
 adapter_steps s names l id = option_and_then (λ (a : Adapter). code_steps s names l a.kind) (look_up nat_cmp l.wit.adapters id)
+
+-- ---- helpers
+
+-- the helper that an instruction calls to pass a value
+abbrev pub helper_of : Settings → Lowered → Instruction → Option (List ℕ)
+helper_of s l instr.IndexFromOwned = handle_helper s l (codes "addHeapObject") (codes "addToExternrefTable")
+helper_of s l instr.TakeIndex = handle_helper s l (codes "takeObject") (codes "takeFromExternrefTable")
+helper_of s l instr.GetIndex = handle_helper s l (codes "getObject") (codes "getFromExternrefTable")
+helper_of s l instr.UnwrapResult = handle_helper s l (codes "takeObject") (codes "takeFromExternrefTable")
+helper_of s l (instr.StringToMemory malloc realloc memory) = Some (codes "passStringToWasm" ++ decimal memory.0)
+helper_of s l (instr.OptionStringToMemory malloc realloc memory) = Some (codes "passStringToWasm" ++ decimal memory.0)
+helper_of s l (instr.MemoryToString memory) = Some (codes "getStringFromWasm" ++ decimal memory.0)
+helper_of s l (instr.VecFromWasm kind memory) = Some (reading_helper kind memory)
+helper_of s l (instr.VecToWasm kind malloc memory) = Some (writing_helper kind memory)
+helper_of s l other = None

@@ -5,15 +5,19 @@
 //! exactly what `specs/Resolving.antt` says, and nothing but want of memory fails. Whether an adapter has steps doesn't depend on the names
 //! (`proofs/Named.antt`). `specs/AdapterMeaning.antt` says what steps mean: a run over a
 //! stack of operands, with a trace of all that it does to the outside. `specs/Exported.antt` has the names under which a module exports,
-//! of which a call names one.
+//! of which a call names one. `needed_items` tells which items of the module an instruction takes, by its ids and by the parts of the
+//! description that it goes by (`specs/Needed.antt`).
 //!
 //! Stands on `wasm_core`, `glue_shared`, `glue_imports` and `values`. It draws no names, and of an import's text it knows nothing.
 #![tactic(auto)]
 
 mod indexed;
+mod memory;
+mod needed;
 mod resolving;
 mod step;
 
 pub use indexed::Indexed;
+pub use needed::{REFERENCE_PARTS, ReferencePart, goes_by, needed_items, part_item};
 pub use resolving::{adapter_steps, function_type};
 pub use step::Step;

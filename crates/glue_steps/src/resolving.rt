@@ -4,6 +4,7 @@ ghost use Rattle.std.specs.Option.{option_copied};
 ghost use Rattle.glue_steps.specs.Resolving as spec;
 
 use crate::indexed::Indexed;
+use crate::memory::{freed, string_read, string_written, vector_read, vector_written};
 use crate::step::Step;
 use glue_imports::{Basis, Expression, Given, expression, given_item};
 use glue_shared::{
@@ -68,8 +69,8 @@ fn expression_step(id: AdapterId, adapter: &Adapter, expression: Expression) -> 
     }
 }
 
-// The name of the export that gives an item, or the empty one where there is no item, or none was drawn.
-fn export_named(names: &NameMap, item: Option<ExportItem>) -> &str
+/// The name of the export that gives an item, or the empty one where there is no item, or none was drawn.
+pub fn export_named(names: &NameMap, item: Option<ExportItem>) -> &str
     ensures name { result.now ≡ spec.export_named names.now item }
 {
     let Some(item) = item else {
@@ -283,6 +284,32 @@ fn step_of(
         }
         Instruction::WasmToInt64(true) => Ok(Some(Step::ToUnsigned64)),
         Instruction::BoolFromI32 => Ok(Some(Step::IsNotZero)),
+        Instruction::StringToMemory(malloc, realloc, memory) => Ok(Some(string_written(
+            alloc,
+            basis.names,
+            false,
+            *malloc,
+            *realloc,
+            *memory,
+        )?)),
+        Instruction::OptionStringToMemory(malloc, realloc, memory) => Ok(Some(string_written(
+            alloc,
+            basis.names,
+            true,
+            *malloc,
+            *realloc,
+            *memory,
+        )?)),
+        Instruction::MemoryToString(memory) => Ok(Some(string_read(alloc, *memory)?)),
+        Instruction::DeferFree(free, align) => Ok(Some(freed(alloc, basis.names, *free, *align)?)),
+        Instruction::VecFromWasm(kind, memory) => Ok(Some(vector_read(alloc, *kind, *memory)?)),
+        Instruction::VecToWasm(kind, malloc, memory) => Ok(Some(vector_written(
+            alloc,
+            basis.names,
+            *kind,
+            *malloc,
+            *memory,
+        )?)),
         other => handle_step(alloc, basis.settings, indexed.lowered(), other),
     }
 }

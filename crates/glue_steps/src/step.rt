@@ -1,6 +1,6 @@
 //! The steps of an adapter.
 use glue_imports::Expression;
-use values::Text;
+use values::{Seq, Text};
 
 /// A step of an adapter, with what its ids name.
 #[derive(Drop)]
@@ -47,6 +47,28 @@ pub enum Step {
     /// Pops a flag and a handle. Where the flag is true, a helper takes the object with that handle out of the table that
     /// it stands in, and the object is thrown.
     UnwrapResult {
+        /// The helper's name.
+        helper: Text,
+    },
+    /// Writes the newest operand to memory, by a helper that is handed exports too, and pushes the address that it answers and the length
+    /// that it leaves.
+    PassToMemory {
+        /// The helper's name.
+        helper: Text,
+        /// The names of the exports, functions that allocate.
+        exports: Seq<Text>,
+        /// Whether the operand may be `undefined` or `null`, of which nothing is written and the address is 0.
+        optional: bool,
+    },
+    /// Has an export free, when the adapter ends, what the two newest operands say, an address and a length. Both stay.
+    DeferFree {
+        /// The export's name.
+        free: Text,
+        /// The alignment, in bytes.
+        align: u32,
+    },
+    /// Pops an address and a length, of which a helper makes a view of memory, and pushes a copy of what the view shows.
+    CopyOut {
         /// The helper's name.
         helper: Text,
     },
