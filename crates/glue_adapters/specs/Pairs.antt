@@ -22,7 +22,7 @@ use Rattle.glue_shared.specs.declared.aux.AuxReceiverKind.TheVariants as receive
 use Rattle.glue_shared.specs.declared.import.AuxImport.{AuxImport}
 use Rattle.glue_shared.specs.declared.description.Lowered.{Lowered}
 use Rattle.glue_shared.specs.declared.settings.Settings.{Settings}
-use Rattle.glue_shared.specs.Names.{has_number, own_imports}
+use Rattle.glue_shared.specs.Names.{has_number, implemented, own_imports}
 use Rattle.glue_steps.specs.Resolving.{entry_at, type_of}
 use Rattle.glue_faults.specs.declared.fault.Fault.{Fault}
 use Rattle.glue_faults.specs.declared.fault.Fault.TheVariants as faults
@@ -185,10 +185,6 @@ bad_adapter l = option_map faults.BadAdapter (bad_id l)
 abbrev pub is_placeholder : Option Import → Bool
 is_placeholder None = false
 is_placeholder (Some i) = bytes_eq i.«module» (codes "__wbindgen_placeholder__")
-
--- the places of the imports that adapters stand for
-abbrev pub implemented : NonstandardWitSection → List ℕ
-implemented wit = map (λ pair. pair.0.0) wit.implements
 
 -- a part is the entry of this id
 abbrev pub is_id : ℕ → Option ℕ → Bool

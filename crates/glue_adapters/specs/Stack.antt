@@ -1,5 +1,6 @@
 -- The kinds of values that an adapter's code keeps on its stack.
 use Rattle.std.specs.Prelude.{ℕ, ◌-◌, nat_le, Bool, true, false, ◌&&◌, if◌then◌else◌, List, [], ◌∷◌, ◌++◌, length, map, take, drop, slice_get, Option, Some, None, option_map, option_and_then}
+use Rattle.std.specs.List.{list_all}
 use Rattle.std.specs.Ordering.{nat_cmp}
 use Rattle.values.specs.Map.{look_up}
 use Rattle.wasm_core.specs.types.FuncType.{FuncType}
@@ -15,6 +16,7 @@ use Rattle.glue_shared.specs.declared.adapter.AdapterType.TheVariants as adapter
 use Rattle.glue_shared.specs.declared.adapter.Instruction.{Instruction}
 use Rattle.glue_shared.specs.declared.adapter.Instruction.TheVariants as instr
 use Rattle.glue_shared.specs.declared.description.Lowered.{Lowered}
+use Rattle.glue_shared.specs.Roots.{instruction_items, is_live_item}
 use Rattle.glue_steps.specs.Resolving.{entry_at, type_of}
 use Rattle.glue_adapters.specs.declared.kind.Kind.{Kind}
 use Rattle.glue_adapters.specs.declared.kind.Kind.TheVariants as kind
@@ -104,6 +106,20 @@ answer_kinds (ty ∷ tys) = kind.Js ∷ []
 abbrev pub adapter_effect : Adapter → Effect
 adapter_effect a = effect_of (map argument_kind a.args) (answer_kinds a.results)
 
+-- what the ids of an instruction name is there
+abbrev pub names_live : Lowered → Instruction → Bool
+names_live l i = list_all (is_live_item l.«module») (instruction_items i)
+
+-- what passes through memory: a string or a vector for its address and its length, or the other way; what is freed in the end stays
+abbrev pub memory_effect : Instruction → Option Effect
+memory_effect (instr.StringToMemory malloc realloc memory) = Some (effect_of (kind.Js ∷ []) (kind.I32 ∷ kind.I32 ∷ []))
+memory_effect (instr.OptionStringToMemory malloc realloc memory) = Some (effect_of (kind.Js ∷ []) (kind.I32 ∷ kind.I32 ∷ []))
+memory_effect (instr.VecToWasm element malloc memory) = Some (effect_of (kind.Js ∷ []) (kind.I32 ∷ kind.I32 ∷ []))
+memory_effect (instr.MemoryToString memory) = Some (effect_of (kind.I32 ∷ kind.I32 ∷ []) (kind.Js ∷ []))
+memory_effect (instr.VecFromWasm element memory) = Some (effect_of (kind.I32 ∷ kind.I32 ∷ []) (kind.Js ∷ []))
+memory_effect (instr.DeferFree free align) = Some (effect_of (kind.I32 ∷ kind.I32 ∷ []) (kind.I32 ∷ kind.I32 ∷ []))
+memory_effect other = None
+
 -- what an instruction pops and pushes in an adapter whose parameters are of these kinds; none where it isn't built or names nothing
 unfoldable pub effect : Lowered → List Kind → Instruction → Option Effect
 effect l params (instr.ArgGet n) = option_map (λ k. effect_of [] (k ∷ [])) (slice_get params n)
@@ -120,7 +136,7 @@ effect l params instr.IndexFromBorrow = Some (effect_of (kind.Js ∷ []) (kind.I
 effect l params instr.TakeIndex = Some (effect_of (kind.I32 ∷ []) (kind.Js ∷ []))
 effect l params instr.GetIndex = Some (effect_of (kind.I32 ∷ []) (kind.Js ∷ []))
 effect l params instr.UnwrapResult = Some (effect_of (kind.I32 ∷ kind.I32 ∷ []) [])
-effect l params other = None
+effect l params other = if names_live l other then memory_effect other else None
 
 -- ---- the whole code
 

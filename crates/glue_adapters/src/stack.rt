@@ -1,10 +1,12 @@
 //! What instructions pop and push, and what a whole code leaves.
 ghost use Rattle.std.specs.Prelude.{◌≡◌, [], ◌∷◌, Some, None, IfOk, if◌then◌else◌, option_map, option_and_then};
+ghost use Rattle.std.specs.List.{list_all};
 ghost use Rattle.std.specs.Option.{option_copied};
+ghost use Rattle.glue_shared.specs.Roots.{instruction_items, is_live_item};
 ghost use Rattle.glue_adapters.specs.Stack as spec;
 
 use crate::kind::{Kind, are_same, argument_kinds, js_kinds, kinds_of};
-use glue_shared::{Adapter, AdapterType, Instruction, Lowered};
+use glue_shared::{Adapter, AdapterType, Instruction, Lowered, is_live_item, push_instruction};
 use glue_steps::function_type;
 use std::alloc::{AllocError, Global};
 use values::Seq;
@@ -119,6 +121,33 @@ fn parameter_effect(alloc: Global, kind: Option<&Kind>) -> Result<Option<Effect>
     }
 }
 
+// Whether what the ids of an instruction name is there.
+fn names_live(alloc: Global, module: &Module, instruction: &Instruction) -> Result<bool, AllocError>
+    ensures test { IfOk result (λ test. test ≡ list_all (is_live_item «module».now) (instruction_items instruction.now)) }
+{
+    let mut named = Vec::new(alloc);
+    push_instruction(&mut named, instruction)?;
+    Ok(named.iter().all(|item| is_live_item(module, *item)))
+}
+
+// What passes through memory.
+fn memory_effect(alloc: Global, instruction: &Instruction) -> Result<Option<Effect>, AllocError>
+    ensures effect { IfOk result (λ e. e ≡ spec.memory_effect instruction.now) }
+{
+    match instruction {
+        Instruction::StringToMemory(..)
+        | Instruction::OptionStringToMemory(..)
+        | Instruction::VecToWasm(..) => effect_of(alloc, &[Kind::Js], &[Kind::I32, Kind::I32]),
+        Instruction::MemoryToString(_) | Instruction::VecFromWasm(..) => {
+            effect_of(alloc, &[Kind::I32, Kind::I32], &[Kind::Js])
+        }
+        Instruction::DeferFree(..) => {
+            effect_of(alloc, &[Kind::I32, Kind::I32], &[Kind::I32, Kind::I32])
+        }
+        _ => Ok(None),
+    }
+}
+
 // What an instruction pops and pushes, where the parameters are of these kinds.
 #[tactic(auto, unfolding(crate::specs::Stack::effect))]
 fn instruction_effect(
@@ -144,7 +173,13 @@ fn instruction_effect(
         Instruction::UnwrapResult => effect_of(alloc, &[Kind::I32, Kind::I32], &[]),
         Instruction::CallExport(id) => export_effect(alloc, export_type(&lowered.module, *id)),
         Instruction::CallAdapter(id) => adapter_effect(alloc, lowered.wit.adapters.get(id)),
-        _ => Ok(None),
+        other => {
+            if names_live(alloc, &lowered.module, other)? {
+                memory_effect(alloc, other)
+            } else {
+                Ok(None)
+            }
+        }
     }
 }
 

@@ -144,7 +144,7 @@ unfolding answer
 exports_built f s l h e i =
     let classes = neither (is_some_item l.aux.structs) (list_any spec.is_member l.aux.exports) (no_classes f s l h).0 in
     let alone = list_any-none spec.is_member l.aux.exports e classes.1 i in
-    let codes = list_any (is_unbuilt_adapter s.externref) l.wit.adapters || is_some_item l.wit.exports in
+    let codes = list_any is_unbuilt_adapter l.wit.adapters || is_some_item l.wit.exports in
     let kept = is_some_item l.aux.imports_with_catch || list_any spec.is_special_export l.aux.exports in
     let passed = neither codes kept (where_true-none (codes || kept) _ (none_unbuilt conditions.UnbuiltInstructions f s l (search rules) h)) in
     let special = list_any-none spec.is_special_export l.aux.exports e (neither (is_some_item l.aux.imports_with_catch) (list_any spec.is_special_export l.aux.exports) passed.1).1 i in
@@ -160,25 +160,25 @@ pub absent_built : (f : FileFlags) (s : Settings) (l : Lowered) → unbuilt f s 
 unfolding answer
 absent_built f s l h =
     let classes = neither (is_some_item l.aux.structs) (list_any spec.is_member l.aux.exports) (no_classes f s l h).0 in
-    let codes = list_any (is_unbuilt_adapter s.externref) l.wit.adapters || is_some_item l.wit.exports in
+    let codes = list_any is_unbuilt_adapter l.wit.adapters || is_some_item l.wit.exports in
     let kept = is_some_item l.aux.imports_with_catch || list_any spec.is_special_export l.aux.exports in
     let passed = neither codes kept (where_true-none (codes || kept) _ (none_unbuilt conditions.UnbuiltInstructions f s l (search rules) h)) in record {
       structs = nothing l.aux.structs classes.0;
-      callbacks = nothing l.wit.exports (neither (list_any (is_unbuilt_adapter s.externref) l.wit.adapters) (is_some_item l.wit.exports) passed.0).1;
+      callbacks = nothing l.wit.exports (neither (list_any is_unbuilt_adapter l.wit.adapters) (is_some_item l.wit.exports) passed.0).1;
       caught = nothing l.aux.imports_with_catch (neither (is_some_item l.aux.imports_with_catch) (list_any spec.is_special_export l.aux.exports) passed.1).0;
     }
 
 -- ---- adapters
 
 -- an adapter of simple types, each instruction of which is built
-pub adapters_built : (f : FileFlags) (s : Settings) (l : Lowered) → unbuilt f s l ≡ None → (e : ℕ × Adapter) → IsIn e l.wit.adapters → list_any (spec.is_unbuilt_instruction s.externref) (code_of e.1.kind) ≡ false
+pub adapters_built : (f : FileFlags) (s : Settings) (l : Lowered) → unbuilt f s l ≡ None → (e : ℕ × Adapter) → IsIn e l.wit.adapters → list_any spec.is_unbuilt_instruction (code_of e.1.kind) ≡ false
 unfolding answer is_unbuilt_adapter
 adapters_built f s l h e i =
-    let codes = list_any (is_unbuilt_adapter s.externref) l.wit.adapters || is_some_item l.wit.exports in
+    let codes = list_any is_unbuilt_adapter l.wit.adapters || is_some_item l.wit.exports in
     let kept = is_some_item l.aux.imports_with_catch || list_any spec.is_special_export l.aux.exports in
     let passed = neither codes kept (where_true-none (codes || kept) _ (none_unbuilt conditions.UnbuiltInstructions f s l (search rules) h)) in
-    let each = list_any-none (is_unbuilt_adapter s.externref) l.wit.adapters e (neither (list_any (is_unbuilt_adapter s.externref) l.wit.adapters) (is_some_item l.wit.exports) passed.0).0 i in
-    (neither (not (list_all spec.is_simple e.1.args && list_all spec.is_simple e.1.results)) (list_any (spec.is_unbuilt_instruction s.externref) (code_of e.1.kind)) each).1
+    let each = list_any-none is_unbuilt_adapter l.wit.adapters e (neither (list_any is_unbuilt_adapter l.wit.adapters) (is_some_item l.wit.exports) passed.0).0 i in
+    (neither (not (list_all spec.is_simple e.1.args && list_all spec.is_simple e.1.results)) (list_any spec.is_unbuilt_instruction (code_of e.1.kind)) each).1
 
 -- ---- lifecycle
 

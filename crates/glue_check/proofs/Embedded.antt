@@ -21,7 +21,7 @@ use Rattle.glue_imports.specs.Given.{given_item, gives_item, is_giving}
 use Rattle.glue_check.specs.declared.verdict.Condition.TheVariants as conditions
 use Rattle.glue_check.specs.Answers.{answer}
 use Rattle.glue_check.specs.Links.{unembedded}
-use Rattle.glue_check.specs.Missing.{adapter_lacks, entry_lacks, excludes, instruction_lacks, has_sole_memory, is_excluded, lacked_part, lacked_unless, lacking, memory_there}
+use Rattle.glue_check.specs.Missing.{adapter_lacks, code_lacks, entry_lacks, excludes, has_sole_memory, is_excluded, lacked_part, lacked_unless, lacking, memory_there}
 use Rattle.glue_check.specs.TargetValues.{is_absent}
 use Rattle.glue_check.specs.Unbuilt.{is_told}
 use Rattle.glue_check.specs.Verdict.{verdict}
@@ -53,24 +53,23 @@ or_none (Some x) b h = cc
 
 -- no adapter lacks a part, and no import
 none_missing : (s : Settings) (l : Lowered) → verdict s l ≡ None
-    → (first_of (adapter_lacks s) l.wit.adapters ≡ None) × (first_of (entry_lacks s l) l.aux.imports ≡ None)
+    → (first_of (adapter_lacks s l) l.wit.adapters ≡ None) × (first_of (entry_lacks s l) l.aux.imports ≡ None)
 unfolding answer
 none_missing s l h =
-    let adapters = first_of (adapter_lacks s) l.wit.adapters in
+    let adapters = first_of (adapter_lacks s l) l.wit.adapters in
     let imports = first_of (entry_lacks s l) l.aux.imports in
     or_none adapters imports (option_map-none faults.MissingPart (option_or adapters imports) (none_of conditions.MissingPart s l (search rules) h))
 
--- no instruction of an adapter lacks one
-pub code_complete : (s : Settings) (l : Lowered) → verdict s l ≡ None → (e : ℕ × Adapter) → IsIn e l.wit.adapters
-    → first_of (instruction_lacks s.externref) (code_of e.1.kind) ≡ None
-code_complete s l h e i = first_of-none (adapter_lacks s) l.wit.adapters e (none_missing s l h).0 i
+-- the code of no adapter lacks one
+pub code_complete : (s : Settings) (l : Lowered) → verdict s l ≡ None → (e : ℕ × Adapter) → IsIn e l.wit.adapters → code_lacks s l (code_of e.1.kind) ≡ None
+code_complete s l h e i = first_of-none (adapter_lacks s l) l.wit.adapters e (none_missing s l h).0 i
 
 -- none of the imports lacks a part
 complete : (s : Settings) (l : Lowered) → verdict s l ≡ None → (e : ℕ × AuxImport) → IsIn e l.aux.imports → lacking s l e.1 ≡ None
 complete s l h e i = first_of-none (entry_lacks s l) l.aux.imports e (none_missing s l h).1 i
 
 -- a part that isn't lacked is there
-there_if : (there : Bool) (part : List ℕ) → lacked_unless there part ≡ None → there ≡ true
+pub there_if : (there : Bool) (part : List ℕ) → lacked_unless there part ≡ None → there ≡ true
 there_if true part h = refl
 there_if false part h = cc
 

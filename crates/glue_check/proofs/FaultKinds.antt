@@ -16,8 +16,8 @@ use Rattle.glue_published.specs.Fixed.{fixed_thing}
 use Rattle.glue_published.specs.Reexports.{bad_reexport}
 use Rattle.glue_check.specs.Links.{link_not_embedded}
 use Rattle.glue_check.specs.Missing.{missing_part}
-use Rattle.glue_check.specs.Modules.{module_clash}
-use Rattle.glue_check.specs.Naming.{bad_name, global_twice, import_clash, given_clash, wasm_clash, start_clash, name_clash, written_clash}
+use Rattle.glue_names.specs.Modules.{module_clash}
+use Rattle.glue_names.specs.Naming.{bad_name, global_twice, import_clash, given_clash, wasm_clash, start_clash, name_clash, written_clash}
 use Rattle.glue_check.specs.TargetValues.{intrinsic_target}
 use Rattle.glue_check.specs.Unbuilt.{unbuilt_target, unbuilt_imports, unbuilt_instructions, unbuilt_classes, unbuilt_settings, unbuilt_lifecycle, unbuilt_files}
 use Rattle.glue_check.specs.Verdict.{threads, package_json, unbuilt, verdict}
@@ -58,7 +58,7 @@ first ▸ rest = (first, rest)
 unbuilt_kind : (files : FileFlags) (s : Settings) (l : Lowered) → IsOfCheck (unbuilt files s l)
 unfolding unbuilt
 unbuilt_kind files s l = first_some-kind
-    (unbuilt_target s ∷ unbuilt_imports s l ∷ unbuilt_instructions s l ∷ unbuilt_classes l ∷ unbuilt_settings s ∷ unbuilt_lifecycle l ∷ unbuilt_files files l ∷ [])
+    (unbuilt_target s ∷ unbuilt_imports s l ∷ unbuilt_instructions l ∷ unbuilt_classes l ∷ unbuilt_settings s ∷ unbuilt_lifecycle l ∷ unbuilt_files files l ∷ [])
     (where_true-kind _ _ refl ▸ where_true-kind _ _ refl ▸ where_true-kind _ _ refl ▸ where_true-kind _ _ refl
     ▸ where_true-kind _ _ refl ▸ where_true-kind _ _ refl ▸ where_true-kind _ _ refl ▸ tt)
 

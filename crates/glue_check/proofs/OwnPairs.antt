@@ -19,7 +19,7 @@ use Rattle.glue_check.specs.declared.files.FileFlags.{FileFlags}
 use Rattle.glue_check.specs.Unbuilt.{is_function, is_plain_memory, is_defined_kind, memory_of}
 use Rattle.glue_check.specs.Verdict.{unbuilt, verdict}
 use Rattle.glue_check.proofs.BuiltForm.{imports_built, no_rethrow}
-use Rattle.glue_check.proofs.Called.{or_last}
+use Rattle.glue_names.proofs.Called.{or_last}
 use Rattle.glue_check.proofs.Passed.{imports_bound}
 
 -- ---- places of entries

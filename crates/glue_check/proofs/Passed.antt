@@ -27,7 +27,7 @@ use Rattle.glue_shared.specs.declared.settings.Settings.{Settings}
 use Rattle.glue_shared.specs.declared.import.JsImport.{JsImport}
 use Rattle.glue_shared.specs.declared.import.JsImportName.{JsImportName}
 use Rattle.glue_shared.specs.Names as names
-use Rattle.glue_shared.specs.Names.{is_one_of, has_number, js_import, fixed_names, described_hosts, described_names, own_imports, own_names}
+use Rattle.glue_shared.specs.Names.{is_one_of, has_number, implemented, js_import, fixed_names, described_hosts, described_names, own_imports, own_names}
 use Rattle.glue_adapters.specs.Resolving.{entry_at}
 use Rattle.glue_faults.specs.declared.fault.Fault.TheVariants as faults
 use Rattle.glue_faults.specs.First.{first_of, first_after, where_true}
@@ -48,18 +48,19 @@ use Rattle.glue_published.specs.Clash.{thing_clash}
 use Rattle.glue_published.specs.Fixed.{fixed_thing}
 use Rattle.glue_published.specs.Named.{is_proto_name, bad_path, is_bad_variant, bad_class, bad_enum, bad_declared_name, bad_export_name}
 use Rattle.glue_published.specs.Reexports.{bad_reexport}
-use Rattle.glue_check.specs.declared.modules.Claimed.{Claimed}
-use Rattle.glue_check.specs.Given.{given_names, other_names}
-use Rattle.glue_check.specs.Modules as modules
-use Rattle.glue_check.specs.Modules.{clashing_module, foreign_module}
-use Rattle.glue_check.specs.Naming as naming
-use Rattle.glue_check.specs.Naming.{bad_text, name_clash, written_clash}
-use Rattle.glue_check.specs.Taken.{brought, global_of, name_if}
+use Rattle.glue_names.specs.declared.modules.Claimed.{Claimed}
+use Rattle.glue_names.specs.Given.{given_names, other_names}
+use Rattle.glue_names.specs.Modules as modules
+use Rattle.glue_names.specs.Modules.{clashing_module, foreign_module}
+use Rattle.glue_names.specs.Naming as naming
+use Rattle.glue_names.specs.Naming.{bad_text, name_clash, written_clash}
+use Rattle.glue_names.specs.Taken.{brought, global_of, name_if}
 use Rattle.glue_check.specs.Verdict.{verdict, is_shared}
 use Rattle.glue_check.proofs.Conditions.{none_of}
 use Rattle.glue_check.proofs.BuiltForm.{away, not_false}
-use Rattle.glue_check.proofs.GivenNames.{either_host, none_fixed, omitted_given}
-use Rattle.glue_check.proofs.Globals.{from_flat, in_flat}
+use Rattle.glue_names.proofs.GivenNames.{either_host, none_fixed, omitted_given}
+use Rattle.glue_names.proofs.Called.{number_in}
+use Rattle.glue_names.proofs.Globals.{from_flat, in_flat}
 
 -- no memory is shared
 pub no_threads : (s : Settings) (l : Lowered) → verdict s l ≡ None → list_any is_shared l.«module».memories ≡ false
@@ -191,7 +192,7 @@ pairs_fit s l h pair i =
     fit_pair l pair (entry_at l.«module».imports pair.0.0) (pairs.imported_type l.«module» pair.0.0) (adapter_at l pair.1) refl refl refl fits
 
 -- no import stands in two pairs
-pub distinct_places : (s : Settings) (l : Lowered) → verdict s l ≡ None → AreDistinct (pairs.implemented l.wit)
+pub distinct_places : (s : Settings) (l : Lowered) → verdict s l ≡ None → AreDistinct (implemented l.wit)
 unfolding is_bad_pair
 distinct_places s l h =
     let place : ImportId × ℕ → ℕ = λ pair. pair.0.0 in
@@ -202,22 +203,13 @@ distinct_places s l h =
     (neither places ids (neither (places || ids) (not (fits_pair l (pairs.described l) pair)) k).0).0 in
     (new_numbers (is_bad_pair l (pairs.described l)) place told [] l.wit.implements (fit_adapters s l h).paired).distinct
 
--- a number that is found is one of them
-pub number_in : (n : ℕ) (ns : List ℕ) → has_number n ns ≡ true → IsIn n ns
-number_in n [] h = absurd (true≢false (sym h))
-number_in n (k ∷ ns) h = here (k == n) refl h (number_in n ns)
-  where
-    here : (b : Bool) → (k == n) ≡ b → (b || has_number n ns) ≡ true → (has_number n ns ≡ true → IsIn n ns) → IsIn n (k ∷ ns)
-    here true q h later = inl (sym (eqb-true k n q))
-    here false q h later = inr (later h)
-
 -- an adapter stands for each import that the glue file defines, unless the file defines it whatever is described
 pub imports_bound : (s : Settings) (l : Lowered) → verdict s l ≡ None → (k : ℕ) → IsIn k (own_imports s l.«module» l.wit l.aux)
-    → pairs.is_fixed_import l (entry_at l.«module».imports k) ≡ false → IsIn k (pairs.implemented l.wit)
+    → pairs.is_fixed_import l (entry_at l.«module».imports k) ≡ false → IsIn k (implemented l.wit)
 unfolding answer is_unbound
 imports_bound s l h k i fixed =
     let own = own_imports s l.«module» l.wit l.aux in
-    let defined = pairs.implemented l.wit in
+    let defined = implemented l.wit in
     let none = option_map-none _ (find (is_unbound l defined) own) (none_of conditions.UnboundImport s l (search rules) h) in
     number_in k defined (bound (has_number k defined) (pairs.is_fixed_import l (entry_at l.«module».imports k)) fixed (find-none (is_unbound l defined) own k none i))
   where
@@ -421,11 +413,11 @@ none_placed f from (suc k) (x ∷ is) i h e =
 -- one whose name no object can have as a key.
 pub foreign_apart : (s : Settings) (l : Lowered) → verdict s l ≡ None → (k : ℕ) (i : Import) → entry_at l.«module».imports k ≡ Some i
     → has_number k (own_imports s l.«module» l.wit l.aux) ≡ false → (claim : Claimed) → IsIn claim (modules.claims s l)
-    → modules.is_from (pairs.implemented l.wit) k i claim ≡ false
+    → modules.is_from (implemented l.wit) k i claim ≡ false
 unfolding foreign_module
 foreign_apart s l h k i e foreign claim c =
     let own = own_imports s l.«module» l.wit l.aux in
-    let paired = pairs.implemented l.wit in
+    let paired = implemented l.wit in
     let none = none_placed (modules.placed_clash own paired (modules.claims s l)) 0 k l.«module».imports i (no_clash s l h).1 e in
     let here : 0 + k ≡ k = omega arith in
     let clash = ap (λ n. modules.placed_clash own paired (modules.claims s l) n (Some i)) (sym here) ∙ none in

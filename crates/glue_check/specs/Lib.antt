@@ -1,15 +1,7 @@
 pub mod Answers
 pub mod FaultKinds
-pub mod Given
-pub mod Handed
 pub mod Links
 pub mod Missing
-pub mod Modules
-pub mod Naming
-pub mod Omitted
-pub mod Once
-pub mod Publishing
-pub mod Taken
 pub mod TargetValues
 pub mod Unbuilt
 pub mod Verdict

@@ -2,6 +2,8 @@
 use Rattle.std.specs.Prelude.{ℕ, Bool, true, false, not, ◌&&◌, is_some, List, [], ◌∷◌, codes, Option, Some, None, option_map, if◌then◌else◌}
 use Rattle.std.specs.List.{list_any}
 use Rattle.std.specs.Option.{option_or}
+use Rattle.wasm_core.specs.entries.ExportItem.{ExportItem}
+use Rattle.wasm_core.specs.entries.ExportItem.TheVariants as items
 use Rattle.wasm_core.specs.declared.types.Memory.{Memory}
 use Rattle.glue_shared.specs.declared.adapter.Adapter.{Adapter}
 use Rattle.glue_shared.specs.declared.adapter.Instruction.{Instruction}
@@ -12,7 +14,13 @@ use Rattle.glue_shared.specs.declared.import.Intrinsic.{Intrinsic}
 use Rattle.glue_shared.specs.declared.import.Intrinsic.TheVariants as i
 use Rattle.glue_shared.specs.declared.description.Lowered.{Lowered}
 use Rattle.glue_shared.specs.declared.settings.Settings.{Settings}
+use Rattle.glue_shared.specs.Roots.{instruction_items}
 use Rattle.glue_imports.specs.Given.{given_item}
+use Rattle.glue_steps.specs.declared.needed.ReferencePart.{ReferencePart}
+use Rattle.glue_steps.specs.declared.needed.ReferencePart.TheVariants as parts
+use Rattle.glue_steps.specs.declared.needed.TheConstants.{REFERENCE_PARTS}
+use Rattle.glue_steps.specs.Needed.{goes_by, part_item}
+use Rattle.glue_steps.specs.Resolving.{entry_at}
 use Rattle.glue_adapters.specs.Adapters.{code_of}
 use Rattle.glue_faults.specs.declared.fault.Fault.{Fault}
 use Rattle.glue_faults.specs.declared.fault.Fault.TheVariants as faults
@@ -59,16 +67,61 @@ lacking settings l other = None
 abbrev pub entry_lacks : Settings → Lowered → ℕ × AuxImport → Option (List ℕ)
 entry_lacks settings l entry = lacking settings l entry.1
 
--- what an instruction needs and lacks: `externref`, where an object is lent and references stand in a table of the module
-abbrev pub instruction_lacks : (externref : Bool) → Instruction → Option (List ℕ)
-instruction_lacks true instr.IndexFromBorrow = Some (codes "externref")
-instruction_lacks externref other = None
+-- ---- what instructions lack
 
--- the first part that an adapter lacks
-abbrev pub adapter_lacks : Settings → ℕ × Adapter → Option (List ℕ)
-adapter_lacks settings entry = first_of (instruction_lacks settings.externref) (code_of entry.1.kind)
+-- an object is lent, which a table of references doesn't take
+abbrev pub lends : Instruction → Bool
+lends instr.IndexFromBorrow = true
+lends other = false
+
+-- the name of a part in a description
+abbrev pub part_name : ReferencePart → List ℕ
+part_name parts.Alloc = codes "externref_alloc"
+part_name parts.Drop = codes "externref_drop"
+part_name parts.DropSlice = codes "externref_drop_slice"
+part_name parts.Table = codes "externref_table"
+
+-- an instruction goes by a part that isn't there
+abbrev pub lacks_part : Lowered → ReferencePart → Instruction → Bool
+lacks_part l part i = goes_by i part && not (is_some (part_item l part))
+
+-- code lacks a part
+abbrev pub part_lacked : Lowered → List Instruction → ReferencePart → Option (List ℕ)
+part_lacked l code part = lacked_unless (not (list_any (lacks_part l part) code)) (part_name part)
+
+-- what code lacks where values are kept in a table of references, the first in the order of bytes: `externref`, where an object is lent, or a
+-- part
+abbrev pub reference_lacked : (externref : Bool) → Lowered → List Instruction → Option (List ℕ)
+reference_lacked false l code = None
+reference_lacked true l code =
+    option_or (lacked_unless (not (list_any lends code)) (codes "externref")) (first_of (part_lacked l code) REFERENCE_PARTS)
+
+-- a memory with addresses of 64 bits
+abbrev pub is_wide_memory : Option Memory → Bool
+is_wide_memory None = false
+is_wide_memory (Some memory) = memory.limits.wide
+
+abbrev pub is_wide : Lowered → ExportItem → Bool
+is_wide l (items.Memory id) = is_wide_memory (entry_at l.«module».memories id.0)
+is_wide l other = false
+
+-- an id of an instruction names one
+abbrev pub names_wide : Lowered → Instruction → Bool
+names_wide l i = list_any (is_wide l) (instruction_items i)
+
+-- what code lacks of memories: they have addresses of 32 bits
+abbrev pub memory_lacked : Lowered → List Instruction → Option (List ℕ)
+memory_lacked l code = lacked_unless (not (list_any (names_wide l) code)) (codes "memory")
+
+-- the first part in the order of bytes that code lacks
+abbrev pub code_lacks : Settings → Lowered → List Instruction → Option (List ℕ)
+code_lacks settings l code = option_or (reference_lacked settings.externref l code) (memory_lacked l code)
+
+-- the first in that order that an adapter lacks
+abbrev pub adapter_lacks : Settings → Lowered → ℕ × Adapter → Option (List ℕ)
+adapter_lacks settings l entry = code_lacks settings l (code_of entry.1.kind)
 
 -- an adapter, or else a described import, lacks a part
 abbrev pub missing_part : Settings → Lowered → Option Fault
 missing_part settings l =
-    option_map faults.MissingPart (option_or (first_of (adapter_lacks settings) l.wit.adapters) (first_of (entry_lacks settings l) l.aux.imports))
+    option_map faults.MissingPart (option_or (first_of (adapter_lacks settings l) l.wit.adapters) (first_of (entry_lacks settings l) l.aux.imports))

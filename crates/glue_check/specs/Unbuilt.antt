@@ -9,7 +9,8 @@ use Rattle.wasm_core.specs.declared.types.ImportKind.TheVariants as import_kinds
 use Rattle.wasm_core.specs.declared.types.Memory.{Memory}
 use Rattle.glue_shared.specs.declared.adapter.Adapter.{Adapter}
 use Rattle.glue_shared.specs.declared.adapter.AdapterType.{AdapterType}
-use Rattle.glue_shared.specs.declared.adapter.AdapterType.TheVariants as types
+use Rattle.glue_shared.specs.declared.adapter.AdapterType.TheOpen.{AdapterType-F}
+use Rattle.glue_shared.specs.declared.adapter.AdapterType.TheFolds.{fold-AdapterType}
 use Rattle.glue_shared.specs.declared.adapter.Instruction.{Instruction}
 use Rattle.glue_shared.specs.declared.adapter.Instruction.TheVariants as instr
 use Rattle.glue_shared.specs.declared.aux.AuxExport.{AuxExport}
@@ -102,42 +103,36 @@ unbuilt_imports settings l = where_true (
 
 -- ---- instructions
 
--- An instruction that passes another value than a number, a truth or an object, or keeps something for later. Handles are built of the
--- object table, and not where references stand in a table of the module; that an object can't be lent there is told by a condition.
-abbrev pub is_unbuilt_instruction : (externref : Bool) → Instruction → Bool
-is_unbuilt_instruction externref (instr.ArgGet n) = false
-is_unbuilt_instruction externref instr.Int32ToWasm = false
-is_unbuilt_instruction externref instr.Int64ToWasm = false
-is_unbuilt_instruction externref instr.I32FromBool = false
-is_unbuilt_instruction externref (instr.WasmToInt32 unsigned) = false
-is_unbuilt_instruction externref (instr.WasmToInt64 unsigned) = false
-is_unbuilt_instruction externref instr.BoolFromI32 = false
-is_unbuilt_instruction externref (instr.CallExport id) = false
-is_unbuilt_instruction externref (instr.CallAdapter id) = false
-is_unbuilt_instruction externref instr.IndexFromOwned = externref
-is_unbuilt_instruction externref instr.IndexFromBorrow = false
-is_unbuilt_instruction externref instr.TakeIndex = externref
-is_unbuilt_instruction externref instr.GetIndex = externref
-is_unbuilt_instruction externref instr.UnwrapResult = externref
-is_unbuilt_instruction externref (instr.Other name) = false
-is_unbuilt_instruction externref other = true
+-- An instruction of a class, of a string enum, of a closure, or of a return pointer.
+abbrev pub is_unbuilt_instruction : Instruction → Bool
+is_unbuilt_instruction (instr.Retptr size) = true
+is_unbuilt_instruction (instr.LoadRetptr offset ty memory) = true
+is_unbuilt_instruction (instr.StoreRetptr offset ty memory) = true
+is_unbuilt_instruction (instr.ClassIntoPtr class) = true
+is_unbuilt_instruction (instr.ClassPtr class) = true
+is_unbuilt_instruction (instr.ClassFromPtr class) = true
+is_unbuilt_instruction (instr.EnumIndex name) = true
+is_unbuilt_instruction (instr.EnumText name) = true
+is_unbuilt_instruction (instr.Closure adapter mutable) = true
+is_unbuilt_instruction other = false
 
--- an integer, a truth, or any JavaScript value
+-- an integer, a truth, a string, a vector, any JavaScript value, or an option of what passes the test
+abbrev pub is_simple_layer : AdapterType-F Bool → Bool
+is_simple_layer (AdapterType-F.Class name) = false
+is_simple_layer (AdapterType-F.Enum name) = false
+is_simple_layer (AdapterType-F.StringEnum name) = false
+is_simple_layer (AdapterType-F.Union name) = false
+is_simple_layer (AdapterType-F.Option inner) = inner
+is_simple_layer other = true
+
+-- one of these, or options of one
 abbrev pub is_simple : AdapterType → Bool
-is_simple types.I32 = true
-is_simple types.S32 = true
-is_simple types.U32 = true
-is_simple types.I64 = true
-is_simple types.S64 = true
-is_simple types.U64 = true
-is_simple types.Bool = true
-is_simple types.Externref = true
-is_simple other = false
+is_simple = fold-AdapterType Bool is_simple_layer
 
-unfoldable pub is_unbuilt_adapter : (externref : Bool) → ℕ × Adapter → Bool
-is_unbuilt_adapter externref entry =
+unfoldable pub is_unbuilt_adapter : ℕ × Adapter → Bool
+is_unbuilt_adapter entry =
     not (list_all is_simple entry.1.args && list_all is_simple entry.1.results)
-    || list_any (is_unbuilt_instruction externref) (code_of entry.1.kind)
+    || list_any is_unbuilt_instruction (code_of entry.1.kind)
 
 abbrev pub takes_this : AuxExportKind → Bool
 takes_this export_kinds.FunctionThis = true
@@ -148,9 +143,9 @@ abbrev pub is_special_export : AuxExport → Bool
 is_special_export e = takes_this e.kind || (e.variadic || e.jsdoc)
 
 -- other values than these, closures, caught throws, and such exports
-abbrev pub unbuilt_instructions : Settings → Lowered → Option Fault
-unbuilt_instructions settings l = where_true (
-    (list_any (is_unbuilt_adapter settings.externref) l.wit.adapters || is_some_item l.wit.exports)
+abbrev pub unbuilt_instructions : Lowered → Option Fault
+unbuilt_instructions l = where_true (
+    (list_any is_unbuilt_adapter l.wit.adapters || is_some_item l.wit.exports)
     || (is_some_item l.aux.imports_with_catch || list_any is_special_export l.aux.exports)
     ) (faults.NotBuilt (codes "instructions"))
 

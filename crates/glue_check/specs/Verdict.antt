@@ -19,8 +19,8 @@ use Rattle.glue_published.specs.Reexports.{bad_reexport}
 use Rattle.glue_check.specs.declared.files.FileFlags.{FileFlags}
 use Rattle.glue_check.specs.Links.{link_not_embedded}
 use Rattle.glue_check.specs.Missing.{missing_part}
-use Rattle.glue_check.specs.Modules.{module_clash}
-use Rattle.glue_check.specs.Naming.{bad_name, global_twice, name_clash}
+use Rattle.glue_names.specs.Modules.{module_clash}
+use Rattle.glue_names.specs.Naming.{bad_name, global_twice, name_clash}
 use Rattle.glue_check.specs.TargetValues.{intrinsic_target}
 use Rattle.glue_check.specs.Unbuilt.{unbuilt_target, unbuilt_imports, unbuilt_instructions, unbuilt_classes, unbuilt_settings, unbuilt_lifecycle, unbuilt_files}
 
@@ -62,7 +62,7 @@ unfoldable pub unbuilt : FileFlags → Settings → Lowered → Option Fault
 unbuilt files settings l = first_some (
     unbuilt_target settings
     ∷ unbuilt_imports settings l
-    ∷ unbuilt_instructions settings l
+    ∷ unbuilt_instructions l
     ∷ unbuilt_classes l
     ∷ unbuilt_settings settings
     ∷ unbuilt_lifecycle l

@@ -3,17 +3,19 @@ ghost use Rattle.std.specs.Prelude.{◌≡◌, is_some, IfOk};
 ghost use Rattle.std.specs.List.{list_any};
 ghost use Rattle.std.specs.Option.{option_copied, option_or};
 ghost use Rattle.glue_shared.specs.Roots.{live_item};
+ghost use Rattle.glue_steps.specs.Resolving.{entry_at};
 ghost use Rattle.glue_faults.specs.First.{first_of};
 ghost use Rattle.glue_check.specs.Missing as spec;
 
 use glue_faults::Fault;
 use glue_shared::{
     Adapter, AdapterId, AdapterKind, AuxImport, Instruction, Intrinsic, Lowered, Settings,
-    first_memory, live_item, table_item,
+    first_memory, live_item, push_instruction, table_item,
 };
+use glue_steps::{REFERENCE_PARTS, ReferencePart, goes_by, part_item};
 use std::alloc::{AllocError, Global};
 use values::Text;
-use wasm_core::{ExportItem, Memory};
+use wasm_core::{ExportItem, Memory, MemoryId};
 
 // Whether an intrinsic goes by an object table, or by a table of references, and values are kept in the other.
 fn is_excluded(externref: bool, intrinsic: Intrinsic) -> bool
@@ -125,64 +127,214 @@ fn first_lacked(settings: &Settings, lowered: &Lowered) -> Option<&'static str>
     None
 }
 
-// What an instruction needs and lacks: an object can be lent to an object table alone.
-fn instruction_lacks(externref: bool, instruction: &Instruction) -> Option<&'static str>
-    ensures part { option_copied result ≡ spec.instruction_lacks externref instruction.now }
+// Whether an object is lent.
+fn lends(instruction: &Instruction) -> bool
+    ensures test { result ≡ spec.lends instruction.now }
 {
-    match instruction {
-        Instruction::IndexFromBorrow => { if externref { Some("externref") } else { None } }
-        _ => None,
+    matches!(instruction, Instruction::IndexFromBorrow)
+}
+
+// Whether code does that.
+fn code_lends(code: &[Instruction]) -> bool
+    ensures test { result ≡ list_any spec.lends code.now }
+{
+    code.iter().any(|instruction| lends(instruction))
+}
+
+// The name of a part in a description.
+fn part_name(part: ReferencePart) -> &'static str
+    ensures name { result.now ≡ spec.part_name part }
+{
+    match part {
+        ReferencePart::Alloc => "externref_alloc",
+        ReferencePart::Drop => "externref_drop",
+        ReferencePart::DropSlice => "externref_drop_slice",
+        ReferencePart::Table => "externref_table",
     }
 }
 
-// The first part that code lacks.
-fn code_lacks(externref: bool, code: &[Instruction]) -> Option<&'static str>
-    ensures first { option_copied result ≡ first_of (spec.instruction_lacks externref) code.now }
+// Whether an instruction goes by a part that isn't there.
+fn lacks_part(lowered: &Lowered, part: ReferencePart, instruction: &Instruction) -> bool
+    ensures test { result ≡ spec.lacks_part lowered.now part instruction.now }
 {
-    for instruction in code {
-        let part = instruction_lacks(externref, instruction);
-        if part.is_some() {
-            return part;
+    goes_by(instruction, part) && !part_item(lowered, part).is_some()
+}
+
+// Whether code does.
+fn code_lacks_part(lowered: &Lowered, part: ReferencePart, code: &[Instruction]) -> bool
+    ensures test { result ≡ list_any (spec.lacks_part lowered.now part) code.now }
+{
+    code.iter()
+        .any(|instruction| lacks_part(lowered, part, instruction))
+}
+
+// A part that code lacks.
+fn part_lacked(lowered: &Lowered, code: &[Instruction], part: ReferencePart) -> Option<&'static str>
+    ensures part { option_copied result ≡ spec.part_lacked lowered.now code.now part }
+{
+    lacked_unless(!code_lacks_part(lowered, part, code), part_name(part))
+}
+
+// The first of some parts that code lacks.
+fn first_part(
+    lowered: &Lowered,
+    code: &[Instruction],
+    parts: &[ReferencePart],
+) -> Option<&'static str>
+    ensures first { option_copied result ≡ first_of (spec.part_lacked lowered.now code.now) parts.now }
+{
+    for part in parts {
+        let lacked = part_lacked(lowered, code, *part);
+        if lacked.is_some() {
+            return lacked;
         }
     }
     None
 }
 
+// What code lacks where values are kept in a table of references.
+fn reference_lacked(
+    externref: bool,
+    lowered: &Lowered,
+    code: &[Instruction],
+) -> Option<&'static str>
+    ensures first { option_copied result ≡ spec.reference_lacked externref lowered.now code.now }
+{
+    if !externref {
+        return None;
+    }
+    if code_lends(code) {
+        return Some("externref");
+    }
+    first_part(lowered, code, &REFERENCE_PARTS)
+}
+
+// Whether a memory stands and has addresses of 64 bits.
+fn is_wide_memory(memories: &[Option<Memory>], id: MemoryId) -> bool
+    ensures test { result ≡ spec.is_wide_memory (entry_at memories.now id.0) }
+{
+    match memories.get(id.0 as usize) {
+        Some(Some(memory)) => memory.limits.wide,
+        _ => false,
+    }
+}
+
+// Whether an item is one.
+fn is_wide(lowered: &Lowered, item: ExportItem) -> bool
+    ensures test { result ≡ spec.is_wide lowered.now item }
+{
+    match item {
+        ExportItem::Memory(id) => is_wide_memory(lowered.module.memories(), id),
+        _ => false,
+    }
+}
+
+// Whether an id of an instruction names one.
+fn names_wide(
+    alloc: Global,
+    lowered: &Lowered,
+    instruction: &Instruction,
+) -> Result<bool, AllocError>
+    ensures test { IfOk result (λ test. test ≡ spec.names_wide lowered.now instruction.now) }
+{
+    let mut named = Vec::new(alloc);
+    push_instruction(&mut named, instruction)?;
+    Ok(named.iter().any(|item| is_wide(lowered, *item)))
+}
+
+// Whether an id of code does.
+fn code_names_wide(
+    alloc: Global,
+    lowered: &Lowered,
+    code: &[Instruction],
+) -> Result<bool, AllocError>
+    ensures test { IfOk result (λ test. test ≡ list_any (spec.names_wide lowered.now) code.now) }
+{
+    for instruction in code {
+        if names_wide(alloc, lowered, instruction)? {
+            return Ok(true);
+        }
+    }
+    Ok(false)
+}
+
+// What code lacks of memories.
+fn memory_lacked(
+    alloc: Global,
+    lowered: &Lowered,
+    code: &[Instruction],
+) -> Result<Option<&'static str>, AllocError>
+    ensures part { IfOk result (λ part. option_copied part ≡ spec.memory_lacked lowered.now code.now) }
+{
+    let wide = code_names_wide(alloc, lowered, code)?;
+    Ok(lacked_unless(!wide, "memory"))
+}
+
+// The first part that code lacks.
+fn code_lacks(
+    alloc: Global,
+    settings: &Settings,
+    lowered: &Lowered,
+    code: &[Instruction],
+) -> Result<Option<&'static str>, AllocError>
+    ensures first { IfOk result (λ part. option_copied part ≡ spec.code_lacks settings.now lowered.now code.now) }
+{
+    match reference_lacked(settings.externref, lowered, code) {
+        Some(part) => Ok(Some(part)),
+        None => memory_lacked(alloc, lowered, code),
+    }
+}
+
 // The first part that an adapter lacks.
-fn adapter_lacks(settings: &Settings, id: AdapterId, adapter: &Adapter) -> Option<&'static str>
-    ensures first { option_copied result ≡ spec.adapter_lacks settings.now (id, adapter.now) }
+fn adapter_lacks(
+    alloc: Global,
+    settings: &Settings,
+    lowered: &Lowered,
+    id: AdapterId,
+    adapter: &Adapter,
+) -> Result<Option<&'static str>, AllocError>
+    ensures first { IfOk result (λ part. option_copied part ≡ spec.adapter_lacks settings.now lowered.now (id, adapter.now)) }
 {
     match &adapter.kind {
-        AdapterKind::Local(code) => code_lacks(settings.externref, code.as_slice()),
-        AdapterKind::Import(_) => None,
+        AdapterKind::Local(code) => code_lacks(alloc, settings, lowered, code.as_slice()),
+        AdapterKind::Import(_) => code_lacks(alloc, settings, lowered, &[]),
     }
 }
 
 // The first part that one of the adapters lacks.
-fn first_of_adapters(settings: &Settings, lowered: &Lowered) -> Option<&'static str>
-    ensures first { option_copied result ≡ first_of (spec.adapter_lacks settings.now) lowered.now.wit.adapters }
+fn first_of_adapters(
+    alloc: Global,
+    settings: &Settings,
+    lowered: &Lowered,
+) -> Result<Option<&'static str>, AllocError>
+    ensures first { IfOk result (λ part. option_copied part ≡ first_of (spec.adapter_lacks settings.now lowered.now) lowered.now.wit.adapters) }
 {
     for (id, adapter) in lowered.wit.adapters.iter() {
-        let part = adapter_lacks(settings, *id, adapter);
+        let part = adapter_lacks(alloc, settings, lowered, *id, adapter)?;
         if part.is_some() {
-            return part;
+            return Ok(part);
         }
     }
-    None
+    Ok(None)
 }
 
 // The first part that an adapter or else a described import lacks.
-fn first_missing(settings: &Settings, lowered: &Lowered) -> Option<&'static str>
-    ensures first { option_copied result ≡ option_or (first_of (spec.adapter_lacks settings.now) lowered.now.wit.adapters) (first_of (spec.entry_lacks settings.now lowered.now) lowered.now.aux.imports) }
+fn first_missing(
+    alloc: Global,
+    settings: &Settings,
+    lowered: &Lowered,
+) -> Result<Option<&'static str>, AllocError>
+    ensures first { IfOk result (λ part. option_copied part ≡ option_or (first_of (spec.adapter_lacks settings.now lowered.now) lowered.now.wit.adapters) (first_of (spec.entry_lacks settings.now lowered.now) lowered.now.aux.imports)) }
 {
-    match first_of_adapters(settings, lowered) {
-        Some(part) => Some(part),
-        None => first_lacked(settings, lowered),
+    match first_of_adapters(alloc, settings, lowered)? {
+        Some(part) => Ok(Some(part)),
+        None => Ok(first_lacked(settings, lowered)),
     }
 }
 
-/// That an adapter or a described import lacks a part that it needs: the one memory, `memory`, which has to have addresses of 32 bits; a table by the name
-/// that it has in the description; or `externref`, where references would have to be kept in the other way. Want of memory is the only error.
+/// That an adapter or a described import lacks a part that it needs: a table or a function by the name that it has in the description;
+/// `memory`, where a memory has addresses of 64 bits, or the one that an import gives isn't there or isn't the only one; or `externref`, where
+/// references would have to be kept in the other way. Want of memory is the only error.
 pub(crate) fn missing_part(
     alloc: Global,
     settings: &Settings,
@@ -190,7 +342,7 @@ pub(crate) fn missing_part(
 ) -> Result<Option<Fault>, AllocError>
     ensures fault { IfOk result (λ fault. fault ≡ spec.missing_part settings.now lowered.now) }
 {
-    match first_missing(settings, lowered) {
+    match first_missing(alloc, settings, lowered)? {
         None => Ok(None),
         Some(part) => Ok(Some(Fault::MissingPart {
             part: Text::from_str(alloc, part)?,

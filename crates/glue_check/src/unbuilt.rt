@@ -11,10 +11,10 @@ ghost use Rattle.glue_check.specs.Unbuilt as spec;
 use crate::files::FileFlags;
 use crate::links::unembedded;
 use crate::missing::excludes;
-use crate::own::{import_at, own_ids};
 use crate::target_values::is_absent;
 use glue_faults::{Fault, not_built};
 use glue_imports::has_expression;
+use glue_names::{import_at, own_ids};
 use glue_published::stands_alone;
 use glue_shared::{
     Adapter, AdapterId, AdapterKind, AdapterType, AuxExport, AuxExportKind, AuxImport, Instruction,
@@ -165,46 +165,36 @@ pub(crate) fn unbuilt_imports(
     not_built(alloc, asked, "imports")
 }
 
-// Whether an instruction passes another value than a number, a truth or an object, or keeps something for later. Handles
-// are built of the object table alone.
-fn is_unbuilt_instruction(externref: bool, instruction: &Instruction) -> bool
-    ensures test { result ≡ spec.is_unbuilt_instruction externref instruction.now }
+// Whether an instruction is one of a class, of a string enum, of a closure, or of a return pointer.
+fn is_unbuilt_instruction(instruction: &Instruction) -> bool
+    ensures test { result ≡ spec.is_unbuilt_instruction instruction.now }
 {
-    match instruction {
-        Instruction::ArgGet(_)
-        | Instruction::Int32ToWasm
-        | Instruction::Int64ToWasm
-        | Instruction::I32FromBool
-        | Instruction::WasmToInt32(_)
-        | Instruction::WasmToInt64(_)
-        | Instruction::BoolFromI32
-        | Instruction::CallExport(_)
-        | Instruction::CallAdapter(_)
-        | Instruction::IndexFromBorrow
-        | Instruction::Other(_) => false,
-        Instruction::IndexFromOwned
-        | Instruction::TakeIndex
-        | Instruction::GetIndex
-        | Instruction::UnwrapResult => externref,
-        _ => true,
-    }
+    matches!(
+        instruction,
+        Instruction::Retptr(_)
+            | Instruction::LoadRetptr(_, _, _)
+            | Instruction::StoreRetptr(_, _, _)
+            | Instruction::ClassIntoPtr(_)
+            | Instruction::ClassPtr(_)
+            | Instruction::ClassFromPtr(_)
+            | Instruction::EnumIndex(_)
+            | Instruction::EnumText(_)
+            | Instruction::Closure(_, _)
+    )
 }
 
-// Whether a type is an integer, a truth, or any JavaScript value.
+// Whether a type is an integer, a truth, a string, a vector, any JavaScript value, or options of one of these.
 fn is_simple(ty: &AdapterType) -> bool
     ensures test { result ≡ spec.is_simple ty.now }
 {
-    matches!(
-        ty,
-        AdapterType::I32
-            | AdapterType::S32
-            | AdapterType::U32
-            | AdapterType::I64
-            | AdapterType::S64
-            | AdapterType::U64
-            | AdapterType::Bool
-            | AdapterType::Externref
-    )
+    match ty {
+        AdapterType::Class(_)
+        | AdapterType::Enum(_)
+        | AdapterType::StringEnum(_)
+        | AdapterType::Union(_) => false,
+        AdapterType::Option(inner) => is_simple(inner.get()),
+        _ => true,
+    }
 }
 
 fn are_simple(types: &[AdapterType]) -> bool
@@ -213,32 +203,33 @@ fn are_simple(types: &[AdapterType]) -> bool
     types.iter().all(|ty| is_simple(ty))
 }
 
-fn has_unbuilt_instruction(externref: bool, kind: &AdapterKind) -> bool
-    ensures test { result ≡ list_any (spec.is_unbuilt_instruction externref) (adapters.code_of kind.now) }
+fn has_unbuilt_instruction(kind: &AdapterKind) -> bool
+    ensures test { result ≡ list_any spec.is_unbuilt_instruction (adapters.code_of kind.now) }
 {
     match kind {
-        AdapterKind::Local(code) => code.as_slice().iter().any(|instruction| is_unbuilt_instruction(
-            externref,
-            instruction,
-        )),
+        AdapterKind::Local(code) => {
+            code.as_slice()
+                .iter()
+                .any(|instruction| is_unbuilt_instruction(instruction))
+        }
         AdapterKind::Import(_) => false,
     }
 }
 
 #[tactic(auto, unfolding(crate::specs::Unbuilt::is_unbuilt_adapter))]
-fn is_unbuilt_adapter(externref: bool, id: AdapterId, adapter: &Adapter) -> bool
-    ensures test { result ≡ spec.is_unbuilt_adapter externref (id, adapter.now) }
+fn is_unbuilt_adapter(id: AdapterId, adapter: &Adapter) -> bool
+    ensures test { result ≡ spec.is_unbuilt_adapter (id, adapter.now) }
 {
     !(are_simple(adapter.args.as_slice()) && are_simple(adapter.results.as_slice()))
-        || has_unbuilt_instruction(externref, &adapter.kind)
+        || has_unbuilt_instruction(&adapter.kind)
 }
 
 // Whether an adapter is of a type or has an instruction that isn't built.
-fn has_unbuilt_adapter(externref: bool, lowered: &Lowered) -> bool
-    ensures test { result ≡ list_any (spec.is_unbuilt_adapter externref) lowered.now.wit.adapters }
+fn has_unbuilt_adapter(lowered: &Lowered) -> bool
+    ensures test { result ≡ list_any spec.is_unbuilt_adapter lowered.now.wit.adapters }
 {
     for (id, adapter) in lowered.wit.adapters.iter() {
-        if is_unbuilt_adapter(externref, *id, adapter) {
+        if is_unbuilt_adapter(*id, adapter) {
             return true;
         }
     }
@@ -267,12 +258,11 @@ fn has_special_export(exports: &[AuxExport]) -> bool
 /// That adapters of this form aren't built. Want of memory is the only error.
 pub(crate) fn unbuilt_instructions(
     alloc: Global,
-    settings: &Settings,
     lowered: &Lowered,
 ) -> Result<Option<Fault>, AllocError>
-    ensures fault { IfOk result (λ fault. fault ≡ spec.unbuilt_instructions settings.now lowered.now) }
+    ensures fault { IfOk result (λ fault. fault ≡ spec.unbuilt_instructions lowered.now) }
 {
-    let asked = has_unbuilt_adapter(settings.externref, lowered)
+    let asked = has_unbuilt_adapter(lowered)
         || !lowered.wit.exports.is_empty()
         || !lowered.aux.imports_with_catch.is_empty()
         || has_special_export(lowered.aux.exports.as_slice());

@@ -9,9 +9,6 @@ ghost use Rattle.glue_check.specs.Verdict as spec;
 use crate::files::FileFlags;
 use crate::links::link_not_embedded;
 use crate::missing::missing_part;
-use crate::modules::module_clash;
-use crate::naming::{bad_name, global_twice, name_clash};
-use crate::publishing::fixed_export;
 use crate::target_values::intrinsic_target;
 use crate::unbuilt::{
     unbuilt_classes, unbuilt_files, unbuilt_imports, unbuilt_instructions, unbuilt_lifecycle,
@@ -19,6 +16,7 @@ use crate::unbuilt::{
 };
 use glue_adapters::{bad_adapter, unbound_import, unsupported};
 use glue_faults::{Fault, where_true};
+use glue_names::{bad_name, fixed_export, global_twice, module_clash, name_clash};
 use glue_published::{bad_reexport, thing_clash};
 use glue_shared::{Lowered, NonstandardWitSection, Settings, WasmBindgenAux};
 use std::alloc::{AllocError, Global};
@@ -131,7 +129,7 @@ fn answer(
     match condition {
         Condition::UnbuiltTarget => unbuilt_target(alloc, settings),
         Condition::UnbuiltImports => unbuilt_imports(alloc, settings, lowered),
-        Condition::UnbuiltInstructions => unbuilt_instructions(alloc, settings, lowered),
+        Condition::UnbuiltInstructions => unbuilt_instructions(alloc, lowered),
         Condition::UnbuiltClasses => unbuilt_classes(alloc, lowered),
         Condition::UnbuiltSettings => unbuilt_settings(alloc, settings),
         Condition::UnbuiltLifecycle => unbuilt_lifecycle(alloc, lowered),

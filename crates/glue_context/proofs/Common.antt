@@ -11,7 +11,7 @@ pub use Rattle.values.specs.Lists.{AreApart, AreDistinct, IsAway, IsIn}
 unfoldable pub use Rattle.glue_check.specs.Verdict.{unbuilt, verdict}
 pub use Rattle.glue_check.specs.declared.files.FileFlags.{FileFlags}
 pub use Rattle.glue_check.proofs.BuiltForm.{IsBuiltExport}
-pub use Rattle.glue_check.proofs.Globals.{some_of}
+pub use Rattle.glue_names.proofs.Globals.{some_of}
 pub use Rattle.glue_check.proofs.Steps.{HasSteps, IsDescribed, IsThere}
 pub use Rattle.glue_steps.specs.Exported.{export_name, export_names}
 pub use Rattle.glue_lines.specs.Grouped.{AreImportLines, Imported}

@@ -1,15 +1,19 @@
 -- The names that the glue file declares beside those that are drawn: of foreign modules, of the frame and of loading, and of helpers. They are
 -- fixed names, none of them twice and none of the host.
 use Rattle.glue_context.proofs.Common.{◌≡◌, ℕ, zero, suc, ◌+◌, ◌<◌, inl, inr, List, [], ◌∷◌, ◌++◌, map, Bool, true, false, true≢false, refl, sym, ap, subst, arith, length, codes, bytes_eq-Decides, list_any, Option, Some, None, IsIn, IsAway, AreDistinct, AreAmong, AreApart, distinct_both, HOSTS, TARGET_NAMES, fixed_names, helper_names, import_names, live_count, global_names, is_one_of, Settings, Contents, module_at, modules_from}
-use Rattle.std.specs.Prelude.{◌||◌, ◌≤◌, ◌^◌, cond, drop, is_some}
+use Rattle.std.specs.Prelude.{◌||◌, ◌≤◌, ◌^◌, cond, drop, is_some, slice_get}
+use Rattle.std.specs.Fmt.{decimal}
 use Rattle.std.specs.List.{list_all}
 use Rattle.std.proofs.lemmas.{Fmt.decimal_injective, Bool.and_parts, Bool.Decides.nat_tests, List.Sums.sum_by-cons, List.length-append}
-use Rattle.glue_words.proofs.{Among.among_left, Among.among_right, Among.among_trans, Among.among_both, Among.among_itself, Among.apart_swap, Among.apart_among, Among.apart_both, Among.apart_joined, Among.apart_parts, Among.apart_split}
+use Rattle.values.proofs.Members.{in_either, in_left, in_right}
+use Rattle.glue_names.proofs.MappedLists.{in_map}
+use Rattle.glue_words.proofs.{Among.among_by, Among.among_in, Among.among_left, Among.among_right, Among.among_trans, Among.among_both, Among.among_itself, Among.apart_swap, Among.apart_among, Among.apart_by, Among.apart_in, Among.apart_both, Among.apart_joined, Among.apart_parts, Among.apart_split}
 use Rattle.glue_words.specs.Facts.{facts}
 use Rattle.glue_words.specs.Ident.{is_ident}
 use Rattle.glue_lines.specs.Lines.{foreign_line}
-use Rattle.glue_shared.specs.declared.names.TheConstants.{HELPER_NAMES}
-use Rattle.glue_shared.specs.Names.{has_number}
+use Rattle.glue_shared.specs.declared.names.TheConstants.{HELPER_NAMES, MEMORY_NAMES, TABLE_NAMES}
+use Rattle.glue_shared.specs.Names.{has_number, placed_names}
+use Rattle.glue_shared.specs.Roots.{is_entry}
 use Rattle.glue_targets.specs.Targets.{module_name}
 use Rattle.glue_targets.proofs.FixedTexts.{start_binds}
 use Rattle.glue_targets.proofs.FrameEnd.{module_names, modules_apart, own_name}
@@ -17,7 +21,11 @@ use Rattle.glue_words.proofs.Belonging.{Context}
 use Rattle.glue_lines.specs.declared.form.LineForm.TheVariants.{Es}
 use Rattle.glue_lines.proofs.LineFacts.{foreign_fits, foreign_holds}
 use Rattle.glue_check.proofs.BuiltForm.{away}
+use Rattle.helper_table.specs.declared.parts.HelperParts.{HelperParts}
+use Rattle.helper_table.specs.declared.parts.TableExport.{TableExport}
 use Rattle.helper_table.specs.Names.{single_names}
+use Rattle.helper_table.proofs.ListedNames.{IsListed, is_unlisted, listed_away}
+use Rattle.helper_table.proofs.SuppliedNames.{memory_stems, table_stems}
 use Rattle.glue_context.specs.Foreign.{is_strings}
 
 -- ---- tests of names
@@ -129,9 +137,45 @@ start_distinct true = grind arith
 start_apart : (memory : Bool) (names : List (List ℕ)) → AreApart (start_binds true) names → AreApart (start_binds memory) names
 start_apart memory names h = apart_among (start_binds memory) (start_binds true) names (start_within memory) h
 
+-- the memories and the table whose exports are given to helpers stand
+pub record AreStanding (m : Contents) (parts : HelperParts) : Type 0 where
+  pub memories : (n : ℕ) (export : List ℕ) → slice_get parts.memories n ≡ Some (Some export) → is_entry (slice_get m.memories n) ≡ true
+  pub table : (t : TableExport) → parts.table ≡ Some t → is_entry (slice_get m.tables t.place) ≡ true
+
+-- a name with the place of an entry that stands is among those with the places of entries
+placed_in : {A : Type 0} (stems : List (List ℕ)) (stem : List ℕ) → IsIn stem stems → (from n : ℕ) (entries : List (Option A))
+    → is_entry (slice_get entries n) ≡ true → IsIn (stem ++ decimal (from + n)) (placed_names stems from entries)
+placed_in stems stem at from n [] h = absurd (true≢false (sym h))
+placed_in stems stem at from zero (None ∷ entries) h = absurd (true≢false (sym h))
+placed_in stems stem at from zero (Some entry ∷ entries) h =
+    let same : from ≡ from + 0 = omega arith in
+    in_left (stem ++ decimal (from + 0)) (map (λ (x : List ℕ). x ++ decimal from) stems) (placed_names stems (from + 1) entries)
+    (subst (λ (k : ℕ). IsIn (stem ++ decimal k) (map (λ (x : List ℕ). x ++ decimal from) stems)) same
+    (in_map (λ (x : List ℕ). x ++ decimal from) stem stems at))
+placed_in stems stem at from (suc n) (None ∷ entries) h =
+    let same : from + 1 + n ≡ from + suc n = omega arith in
+    subst (λ (k : ℕ). IsIn (stem ++ decimal k) (placed_names stems (from + 1) entries)) same (placed_in stems stem at (from + 1) n entries h)
+placed_in stems stem at from (suc n) (Some entry ∷ entries) h =
+    let same : from + 1 + n ≡ from + suc n = omega arith in
+    in_right (stem ++ decimal (from + suc n)) (map (λ (x : List ℕ). x ++ decimal from) stems) (placed_names stems (from + 1) entries)
+    (subst (λ (k : ℕ). IsIn (stem ++ decimal k) (placed_names stems (from + 1) entries)) same (placed_in stems stem at (from + 1) n entries h))
+
+-- the same, where the first entry has the place 0
+placed_first : {A : Type 0} (stems : List (List ℕ)) (stem : List ℕ) → IsIn stem stems → (n : ℕ) (entries : List (Option A))
+    → is_entry (slice_get entries n) ≡ true → IsIn (stem ++ decimal n) (placed_names stems 0 entries)
+placed_first stems stem at n entries h =
+    let same : 0 + n ≡ n = omega arith in
+    subst (λ (k : ℕ). IsIn (stem ++ decimal k) (placed_names stems 0 entries)) same (placed_in stems stem at 0 n entries h)
+
+-- names of modules are none of helpers
+lines_unlisted : (from : ℕ) (paths : List (List ℕ)) → list_all is_unlisted (module_names from paths) ≡ true
+lines_unlisted from [] = refl
+lines_unlisted from (path ∷ paths) = lines_unlisted (from + 1) paths
+
 -- names of helpers that are held, and of these foreign modules, beside the drawn ones, where the frame takes the memory or not
 module _ (s : Settings) (m : Contents) (paths held : List (List ℕ)) (memory : Bool) (few : length paths ≤ live_count m.imports)
-    (small : length paths < 2 ^ 32) (listed : AreAmong held single_names) where
+    (small : length paths < 2 ^ 32) (parts : HelperParts) (stands : AreStanding m parts)
+    (listed : (name : List ℕ) → IsIn name held → IsListed parts name) where
   abbrev pub lines : List (List ℕ)
   lines = module_names 1 paths
 
@@ -141,18 +185,47 @@ module _ (s : Settings) (m : Contents) (paths held : List (List ℕ)) (memory : 
   abbrev rest_names : List (List ℕ)
   rest_names = import_names (live_count m.imports) ++ global_names s.target
 
+  -- a name that a helper may bind is a fixed one
+  pub listed_fixed : (name : List ℕ) → IsListed parts name → IsIn name (fixed_names s m)
+  unfolding fixed_names helper_names
+  listed_fixed name h =
+      in_right name (map (λ w. w.now) TARGET_NAMES) (helper_names m ++ rest_names) (in_left name (helper_names m) rest_names (by h))
+    where
+      helpers : List (List ℕ)
+      helpers = map (λ w. w.now) HELPER_NAMES
+
+      of_memories : List (List ℕ)
+      of_memories = map (λ w. w.now) MEMORY_NAMES
+
+      of_tables : List (List ℕ)
+      of_tables = map (λ w. w.now) TABLE_NAMES
+
+      by : IsListed parts name → IsIn name (helpers ++ (placed_names of_memories 0 m.memories ++ placed_names of_tables 0 m.tables))
+      by (inl at) =
+          in_left name helpers (placed_names of_memories 0 m.memories ++ placed_names of_tables 0 m.tables)
+          (among_in name single_names helpers (all_found helpers single_names refl) at)
+      by (inr (inl o)) =
+          in_right name helpers (placed_names of_memories 0 m.memories ++ placed_names of_tables 0 m.tables)
+          (in_left name (placed_names of_memories 0 m.memories) (placed_names of_tables 0 m.tables)
+          (subst (λ (x : List ℕ). IsIn x (placed_names of_memories 0 m.memories)) (sym o.told)
+          (placed_first of_memories o.stem (among_in o.stem memory_stems of_memories (all_found of_memories memory_stems refl) o.listed) o.place m.memories
+          (stands.memories o.place o.export o.given))))
+      by (inr (inr o)) =
+          in_right name helpers (placed_names of_memories 0 m.memories ++ placed_names of_tables 0 m.tables)
+          (in_right name (placed_names of_memories 0 m.memories) (placed_names of_tables 0 m.tables)
+          (subst (λ (x : List ℕ). IsIn x (placed_names of_tables 0 m.tables)) (sym o.told)
+          (placed_first of_tables o.stem (among_in o.stem table_stems of_tables (all_found of_tables table_stems refl) o.listed) o.«export».place m.tables
+          (stands.table o.«export» o.given))))
+
   -- they are fixed names
   pub own_fixed : AreAmong own_names (fixed_names s m)
   unfolding fixed_names helper_names
   own_fixed =
       let targets = map (λ w. w.now) TARGET_NAMES in
-      let helpers = map (λ w. w.now) HELPER_NAMES in
       let imports = import_names (live_count m.imports) in
       let by_target = λ (xs : List (List ℕ)) (h : AreAmong xs targets). among_left xs targets (helper_names m ++ rest_names) h in
       let by_import = λ (xs : List (List ℕ)) (h : AreAmong xs imports).
       among_right xs targets (helper_names m ++ rest_names) (among_right xs (helper_names m) rest_names (among_left xs imports (global_names s.target) h)) in
-      let by_helper = among_right single_names targets (helper_names m ++ rest_names) (among_left single_names (helper_names m) rest_names
-      (among_left single_names helpers _ (all_found helpers single_names refl))) in
       let first = subst (λ (name : List ℕ). IsIn name imports) own_name (named_in 0 (live_count m.imports) (omega arith)) in
       let taken = codes "__wbg_get_imports" ∷ codes "memory" ∷ [] in
       let frame = by_target taken (all_found targets taken refl) in
@@ -161,7 +234,7 @@ module _ (s : Settings) (m : Contents) (paths held : List (List ℕ)) (memory : 
       (by_import lines (let l = few in modules_within 1 paths (live_count m.imports) (omega (arith, l))))
       (among_both (start_binds memory) (held ++ loading_bound) (fixed_names s m)
       (among_trans (start_binds memory) (start_binds true) (fixed_names s m) (start_within memory) (frame.0, (frame.1.0, (named.0, tt))))
-      (among_both held loading_bound (fixed_names s m) (among_trans held single_names (fixed_names s m) listed by_helper)
+      (among_both held loading_bound (fixed_names s m) (among_by held (fixed_names s m) (λ name at. listed_fixed name (listed name at)))
       (by_target loading_bound (all_found targets loading_bound refl))))
 
   -- apart from one another
@@ -175,28 +248,28 @@ module _ (s : Settings) (m : Contents) (paths held : List (List ℕ)) (memory : 
       let first = subst (λ (name : List ℕ). IsAway name lines) own_name (later_away 0 1 paths (omega arith) wide) in
       apart_swap (start_binds memory) lines (start_apart memory lines (away.0, (away.1.0, (first, tt))))
 
-  held_apart : (names : List (List ℕ)) → AreApart single_names names → AreApart held names
-  held_apart names h = apart_among held single_names names listed h
+  held_apart : (names : List (List ℕ)) → list_all is_unlisted names ≡ true → AreApart held names
+  held_apart names h = apart_by held names (λ name at. listed_away parts names h name (listed name at))
 
   lines_held : AreApart lines held
-  lines_held = apart_swap held lines (held_apart lines (apart_swap lines single_names (modules_apart single_names refl 1 paths)))
+  lines_held = apart_swap held lines (held_apart lines (lines_unlisted 1 paths))
 
   lines_loading : AreApart lines loading_bound
   lines_loading = modules_apart loading_bound refl 1 paths
 
   frame_held : AreApart (start_binds memory) held
   frame_held =
-      start_apart memory held (apart_swap held (start_binds true) (held_apart (start_binds true) (none_found (start_binds true) single_names refl)))
+      start_apart memory held (apart_swap held (start_binds true) (held_apart (start_binds true) refl))
 
   held_loading : AreApart held loading_bound
-  held_loading = held_apart loading_bound (none_found loading_bound single_names refl)
+  held_loading = held_apart loading_bound refl
 
   -- none is a name that the host has in each file
   pub own_no_hosts : AreApart own_names host_texts
   own_no_hosts =
       apart_both lines (start_binds memory ++ (held ++ loading_bound)) host_texts (modules_apart host_texts refl 1 paths)
       (apart_both (start_binds memory) (held ++ loading_bound) host_texts (start_apart memory host_texts (none_found host_texts (start_binds true) refl))
-      (apart_both held loading_bound host_texts (held_apart host_texts (none_found host_texts single_names refl)) (none_found host_texts loading_bound refl)))
+      (apart_both held loading_bound host_texts (held_apart host_texts refl) (none_found host_texts loading_bound refl)))
 
   frame_behind : AreApart (start_binds memory) (held ++ loading_bound)
   frame_behind = apart_joined (start_binds memory) held loading_bound frame_held (start_apart memory loading_bound (none_found loading_bound (start_binds true) refl))
@@ -280,6 +353,27 @@ module _ (s : Settings) (m : Contents) (paths held : List (List ℕ)) (memory : 
     first_among =
         among_both framed_names loading_bound all_names (among_left framed_names framed_names (held ++ loading_bound) (among_itself framed_names))
         (among_right loading_bound framed_names (held ++ loading_bound) (among_right loading_bound held loading_bound (among_itself loading_bound)))
+
+    -- where drawn names are no fixed ones, none of the first is a name that a helper may bind
+    pub first_unlisted : AreApart imported (fixed_names s m) → AreApart constants (fixed_names s m) → AreApart names (fixed_names s m) → (name : List ℕ)
+        → IsIn name first_names → IsListed parts name → ⊥
+    first_unlisted i c n name at h =
+        elim (in_either name framed_names loading_bound at) [
+          | inl framed ↦ elim (in_either name imported (lines ++ (constants ++ (names ++ start_binds memory))) framed) [
+            | inl here ↦ apart_in name imported (fixed_names s m) i here (listed_fixed name h)
+            | inr behind ↦ elim (in_either name lines (constants ++ (names ++ start_binds memory)) behind) [
+              | inl here ↦ listed_away parts lines (lines_unlisted 1 paths) name h here
+              | inr behind ↦ elim (in_either name constants (names ++ start_binds memory) behind) [
+                | inl here ↦ apart_in name constants (fixed_names s m) c here (listed_fixed name h)
+                | inr behind ↦ elim (in_either name names (start_binds memory) behind) [
+                  | inl here ↦ apart_in name names (fixed_names s m) n here (listed_fixed name h)
+                  | inr here ↦ listed_away parts (start_binds true) refl name h (among_in name (start_binds memory) (start_binds true) (start_within memory) here)
+                ]
+              ]
+            ]
+          ]
+          | inr here ↦ listed_away parts loading_bound refl name h here
+        ]
 
     pub held_among : AreAmong held all_names
     held_among = among_right held framed_names (held ++ loading_bound) (among_left held held loading_bound (among_itself held))

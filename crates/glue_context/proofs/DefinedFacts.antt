@@ -32,7 +32,7 @@ use Rattle.glue_shared.specs.declared.import.AuxImport.TheVariants as what
 use Rattle.glue_shared.specs.declared.import.AuxValue.TheVariants as value
 use Rattle.glue_shared.specs.declared.import.JsImport.{JsImport}
 use Rattle.glue_shared.specs.Names.{adapter_for, handed_part, has_number}
-use Rattle.glue_check.proofs.Called.{called_own}
+use Rattle.glue_names.proofs.Called.{called_own}
 use Rattle.glue_check.proofs.OwnPairs.{IsDefinableBy, IsDefinedImport, number_there}
 use Rattle.glue_context.specs.Defined.{HoldsAdapter, HoldsDefinition, HoldsFunction}
 use Rattle.glue_context.specs.DefinedItems.{IsAdapterItem, IsDefinedBy, IsFunctionItem, IsMemoryItem, IsPartItem, definition_back, definition_front, is_unpaired, address_words, limit_words, maximum_words, memory_back, memory_front, memory_words, part_words, spelled, value_front, value_text, words_text}
@@ -42,7 +42,7 @@ use Rattle.glue_context.proofs.Edited.{moved_keeps}
 use Rattle.glue_context.proofs.Entries.{any_there}
 use Rattle.glue_context.proofs.ExpressionFits.{function_fit}
 use Rattle.glue_context.proofs.ExpressionNames.{HasImport, function_has}
-use Rattle.glue_context.proofs.Fits.{AreWell, HasBasis, HasNames, fixed_hosts, function_binds, function_fits, function_inner, has_parts, inner_words, keys_described, names_with}
+use Rattle.glue_context.proofs.Fits.{AreWell, HasBasis, HasNames, fixed_hosts, free_declared, function_binds, function_fits, function_inner, has_parts, inner_words, keys_described, names_with}
 use Rattle.glue_context.proofs.HandedParts.{IsHanded, entry_there, handed_is}
 
 -- the text of an item by itself is that of its words
@@ -301,13 +301,13 @@ module _ (s : Settings) (m : NameMap) (l : Lowered) where
         let there = entry_there h.id l.aux.imports w h.described in
         let parts = function_or_throw m j (value_text m j) in
         let free = function_free m j (value_text m j) in
-        let stands = free_stand (Some comma) parts (function_fit m j (value_text m j) (λ n i. well h.id w called h.described n i)) in
+        let stands = free_stand (Some comma) parts (function_fit m j (value_text m j) (λ n i. well.named h.id w called h.described n i)) in
         let has : HasImport c m nothing_given w = record {
           given = λ none. absurd (true≢false (sym none));
           begun = basis.begun h.id w called h.described;
           keys = keys_described s l (h.id, w) there;
           used = fixed_hosts s l;
-          helpers = basis.helpers;
+          helpers = free_declared s l m declared basis;
           exports = basis.wasm;
         } in
         let outer : HasNames c (outer_parts parts) =

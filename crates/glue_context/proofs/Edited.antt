@@ -22,8 +22,9 @@ use Rattle.glue_steps.specs.Resolving.{export_named, item_order, live, or_empty}
 use Rattle.glue_lines.specs.Grouped.{source_of}
 use Rattle.glue_naming.specs.Imported.{called_names}
 use Rattle.glue_naming.specs.Handed.{handed_pair, handed_imports}
-use Rattle.glue_naming.specs.ItemNames.{added_exports, asked_items, item_map, item_names}
-use Rattle.glue_naming.proofs.ItemNames.{IsGivenAs, added_live, item_named, names_with_added}
+use Rattle.taken_items.specs.Asked.{asked_items}
+use Rattle.taken_items.specs.ItemNames.{added_exports, item_map, item_names}
+use Rattle.taken_items.proofs.ItemNames.{IsGivenAs, added_live, item_named, names_with_added}
 use Rattle.glue_targets.proofs.FixedTexts.{call_takes}
 use Rattle.glue_context.specs.declared.edits.TheConstants.{START}
 use Rattle.glue_context.specs.Defined.{IsExportOf}

@@ -10,7 +10,7 @@ use Rattle.glue_words.specs.Words.{space}
 use Rattle.glue_words.specs.Ident.{is_ident}
 use Rattle.glue_words.specs.Limits.{is_computed}
 use Rattle.glue_words.specs.Spacing.{is_wasm}
-use Rattle.glue_words.proofs.Idents.{ascii_ident}
+use Rattle.std.proofs.lemmas.Bool.{and_from}
 use Rattle.glue_words.proofs.Among.{apart_none, among_both, among_by, among_in, among_left, among_trans}
 use Rattle.glue_tree.proofs.Fit.{is_inner}
 use Rattle.glue_targets.specs.RoleWords.{export_first}
@@ -22,8 +22,8 @@ use Rattle.glue_public.specs.Public.{IsDeclared}
 use Rattle.glue_targets.proofs.FixedTexts.{call_takes}
 use Rattle.glue_binding.specs.Spelling.{path_words, chained_words}
 use Rattle.glue_binding.proofs.Standing.{step_fit}
-use Rattle.glue_binding.proofs.Outside.{outside_words, outside_of}
-use Rattle.glue_steps.specs.declared.step.Step.TheVariants.{CallImport, ToUnsigned64, CallHelper, IndexFromBorrow, UnwrapResult}
+use Rattle.glue_binding.proofs.Outside.{exports_words, outside_words, outside_of, passed_none}
+use Rattle.glue_steps.specs.declared.step.Step.TheVariants.{CallImport, ToUnsigned64, CallHelper, IndexFromBorrow, UnwrapResult, PassToMemory, DeferFree, CopyOut}
 use Rattle.glue_binding.proofs.Parts.{outer_parts, outer_expression, expression_none, parts_declare}
 use Rattle.glue_binding.proofs.Paths.{TellsKeys, path_tells, property_tells, chained_tells}
 use Rattle.glue_scope.specs.Properties.{property_parts}
@@ -32,8 +32,8 @@ use Rattle.values.specs.Map.{look_up}
 use Rattle.wasm_core.specs.entries.ExportItem.{ExportItem}
 use Rattle.glue_imports.specs.Given.{given_item, gives_item}
 use Rattle.glue_steps.specs.Resolving.{export_named, given_of, item_order, or_empty}
-use Rattle.glue_naming.specs.ItemNames.{added_exports, item_map, item_names}
-use Rattle.glue_naming.proofs.ItemNames.{given_listed, item_asked, item_named, names_with_added}
+use Rattle.taken_items.specs.ItemNames.{added_exports, item_map, item_names}
+use Rattle.taken_items.proofs.ItemNames.{given_listed, item_asked, item_named, names_with_added}
 use Rattle.glue_shared.specs.Names.{entry_of, has_number}
 use Rattle.glue_shared.specs.declared.import.JsImportName.{JsImportName}
 use Rattle.glue_imports.specs.declared.part.Part.{Part}
@@ -41,14 +41,20 @@ use Rattle.glue_imports.specs.declared.part.Part.TheVariants as part
 use Rattle.glue_imports.specs.declared.part.Expression.{Expression}
 use Rattle.glue_binding.proofs.Linked.{StandsBeside, bound_local, bound_resolved, bound_keyed, bound_alone, bound_exported, bound_inner, bound_binds}
 use Rattle.helper_table.specs.Laws.{any_in}
-use Rattle.helper_table.proofs.Held.{free_names}
-use Rattle.glue_check.specs.Handed.{own_callees}
-use Rattle.glue_check.proofs.Steps.{handle_helpers}
-use Rattle.glue_check.proofs.Globals.{in_flat}
+use Rattle.helper_table.specs.declared.parts.HelperParts.{HelperParts}
+use Rattle.helper_table.proofs.Held.{base_names, free_names}
+use Rattle.helper_table.proofs.HeldItems.{among_test}
+use Rattle.helper_table.proofs.ListedNames.{bound_listed}
+use Rattle.helper_table.proofs.Supplied.{base_among, provided_in, provided_names}
+use Rattle.glue_names.specs.Handed.{own_callees}
+use Rattle.glue_check.proofs.Steps.{IsHelperOf, IsNamedFunction}
+use Rattle.glue_names.proofs.Globals.{in_flat}
 use Rattle.glue_context.specs.DefinedItems.{takes_memory}
 use Rattle.glue_context.specs.Edits.{has_start}
 use Rattle.glue_context.specs.Keys.{described_keys, import_properties, imported_properties, other_properties}
+use Rattle.glue_context.specs.Parts.{are_few, helper_parts}
 use Rattle.glue_context.proofs.Declared.{all_found}
+use Rattle.glue_context.proofs.Provided.{function_known, helper_provided, listed_apart, listed_ident}
 use Rattle.glue_context.proofs.ExpressionFits.{IsWell, IsNamedWell, expression_fit}
 use Rattle.glue_context.proofs.ExpressionNames.{HasPart, HasExpression, HasLoaded, HasName, used_hosts, expression_has}
 
@@ -57,6 +63,7 @@ use Rattle.glue_context.proofs.ExpressionNames.{HasPart, HasExpression, HasLoade
 -- no step declares a name of the file
 step_binds : (step : Step) → bound_in (outside_words step) ≡ []
 step_binds (CallImport adapter n has_result e) = expression_none bound_name parts_declare e
+step_binds (PassToMemory helper exports optional) = passed_none bound_name (λ n. refl) (λ n. refl) helper exports optional
 step_binds other = refl
 
 binds_none : (steps : List Step) → bound_in (outside_of steps) ≡ []
@@ -66,22 +73,26 @@ binds_none (step ∷ steps) =
     ∙ ap (λ (ns : List (List ℕ)). ns ++ bound_in (outside_of steps)) (step_binds step)
     ∙ binds_none steps
 
--- the helpers of handles, and those by which an object is lent, need nothing of the module
-handle_free : AreAmong handle_helpers free_names
-handle_free = (any_in _ free_names refl, (any_in _ free_names refl, (any_in _ free_names refl, tt)))
-
+-- the helpers by which an object is lent need nothing of the module
 abbrev lending_helpers : List (List ℕ)
 lending_helpers = codes "addBorrowedObject" ∷ codes "heap" ∷ codes "stack_pointer" ∷ []
 
 lending_free : AreAmong lending_helpers free_names
 lending_free = (any_in _ free_names refl, (any_in _ free_names refl, (any_in _ free_names refl, tt)))
 
--- their names are identifiers
-handle_fit : (helper : List ℕ) → IsIn helper handle_helpers → (is_ident helper && not (is_wasm helper)) ≡ true
-handle_fit helper (inl same) = rw (same, ascii_ident (codes "addHeapObject") refl) refl
-handle_fit helper (inr (inl same)) = rw (same, ascii_ident (codes "getObject") refl) refl
-handle_fit helper (inr (inr (inl same))) = rw (same, ascii_ident (codes "takeObject") refl) refl
-handle_fit helper (inr (inr (inr none))) = absurd none
+-- so do those that a step may call whatever the module gives
+abbrev absent_helpers : List (List ℕ)
+absent_helpers = codes "isLikeNone" ∷ codes "WASM_VECTOR_LEN" ∷ []
+
+absent_base : AreAmong absent_helpers base_names
+absent_base = (any_in _ base_names refl, (any_in _ base_names refl, tt))
+
+-- all these are provided
+free_provided : (parts : HelperParts) → AreAmong free_names (provided_names parts)
+free_provided parts = among_trans free_names base_names (provided_names parts) (among_test free_names base_names refl) (base_among parts)
+
+absent_provided : (parts : HelperParts) → AreAmong absent_helpers (provided_names parts)
+absent_provided parts = among_trans absent_helpers base_names (provided_names parts) absent_base (base_among parts)
 
 -- a file has the names that words use
 abbrev pub HasNames : Context → List Word → Type 0
@@ -156,33 +167,47 @@ module _ (s : Settings) (l : Lowered) where
     ForCalled P = (id : ℕ) (w : AuxImport) → has_number id (own_callees s l) ≡ true → entry_of id l.aux.imports ≡ Some w
         → (n : JsImportName) → IsIn n (names_of (js_import w)) → P n
 
-    -- what stands for each is an identifier, and no drawn one is `wasm`
-    abbrev pub AreWell : Type 0
-    AreWell = ForCalled (IsWell m)
+    -- items go by the names of their exports, and ids can name all memories and tables
+    pub record AreTaken : Type 0 where
+      pub items : m.wasm ≡ item_map (item_names s l)
+      pub few : are_few l.«module» ≡ true
 
-    -- these names hold what functions and definitions use of the file: `wasm`, `memory` where that is handed in, helpers that need nothing of the
-    -- module, the drawn names, and those that the file has for the values of intrinsics; what has no drawn name is a name of the host, and items
-    -- go by the names of their exports
+    -- what stands for each is an identifier, and no drawn one is `wasm`
+    pub record AreWell : Type 0 where
+      pub named : ForCalled (IsWell m)
+      pub taken : AreTaken
+
+    -- these names hold what functions and definitions use of the file: `wasm`, `memory` where that is handed in, helpers that are provided, the drawn
+    -- names, and those that the file has for the values of intrinsics; what has no drawn name is a name of the host
     pub record HasBasis (declared : List (List ℕ)) : Type 0 where
       pub wasm : IsIn (codes "wasm") declared
       pub memory : takes_memory s l ≡ true → IsIn (codes "memory") declared
-      pub helpers : AreAmong free_names declared
+      pub helpers : AreAmong (provided_names (helper_parts s l m)) declared
       pub begun : ForCalled (HasName (names_with declared) m)
       pub values : HasLoaded (names_with declared) s.target
-      pub items : m.wasm ≡ item_map (item_names s l)
+      pub taken : AreTaken
 
     abbrev AreThere : List Step → Type 0
     AreThere = AllByRecursion (IsThere s l m)
 
     pub named_well : AreWell → (e : Expression) (d : IsDescribed s l m e) → IsNamedWell m (js_import d.entry.1)
-    named_well well e d n i = well d.entry.0 d.entry.1 d.own d.first n i
+    named_well well e d n i = well.named d.entry.0 d.entry.1 d.own d.first n i
+
+    -- the name of a helper that an instruction calls is an identifier, and not `wasm`
+    helper_fit : AreWell → (helper : List ℕ) → IsHelperOf s l helper → (is_ident helper && not (is_wasm helper)) ≡ true
+    helper_fit well helper h =
+        let found = helper_provided s l m well.taken.items well.taken.few helper h in
+        let listed = bound_listed (helper_parts s l m) helper found.0 found.1.0 in
+        and_from (is_ident helper) (not (is_wasm helper)) (listed_ident (helper_parts s l m) helper listed) (listed_apart (helper_parts s l m) helper listed)
 
     -- the texts of steps are spaced
     is_fit : AreWell → (step : Step) → IsThere s l m step → step_fit step ≡ true
     is_fit well (CallImport adapter n has_result e) d =
         expression_fit s m (given_of m l d.entry.1) d.call d.spread d.bound d.entry.1 e (named_well well e d) d.is
-    is_fit well (CallHelper helper n) d = handle_fit helper d
-    is_fit well (UnwrapResult helper) d = handle_fit helper d
+    is_fit well (CallHelper helper n) d = helper_fit well helper d
+    is_fit well (UnwrapResult helper) d = helper_fit well helper d
+    is_fit well (PassToMemory helper exports optional) d = helper_fit well helper d.0
+    is_fit well (CopyOut helper) d = helper_fit well helper d
     is_fit well other d = refl
 
     are_fit : AreWell → (steps : List Step) → AreThere steps → list_all step_fit steps ≡ true
@@ -191,10 +216,43 @@ module _ (s : Settings) (l : Lowered) where
 
     -- where what each step names is there, a file with these names has those of the steps
     module _ (declared : List (List ℕ)) (basis : HasBasis declared) where
-      -- the helpers of handles
-      handle_declared : (helper : List ℕ) → IsIn helper handle_helpers → IsIn helper declared
-      handle_declared helper at =
-          among_in helper free_names declared basis.helpers (among_in helper handle_helpers free_names handle_free at)
+      abbrev parts : HelperParts
+      parts = helper_parts s l m
+
+      -- the helpers that instructions call
+      helper_declared : (helper : List ℕ) → IsHelperOf s l helper → IsIn helper declared
+      helper_declared helper h =
+          among_in helper (provided_names parts) declared basis.helpers
+          (provided_in parts helper (helper_provided s l m basis.taken.items basis.taken.few helper h))
+
+      -- those that need nothing of the module
+      pub free_declared : AreAmong free_names declared
+      free_declared = among_trans free_names (provided_names parts) declared (free_provided parts) basis.helpers
+
+      absent_declared : AreAmong absent_helpers declared
+      absent_declared = among_trans absent_helpers (provided_names parts) declared (absent_provided parts) basis.helpers
+
+      -- the export of a function that an instruction names
+      function_there : (name : List ℕ) → IsNamedFunction s l m name → IsIn name (names_with declared).exports
+      function_there name f =
+          in_left name (names_with_added s l) (call_takes (has_start l.«module»)) (function_known s l m basis.taken.items basis.taken.few name f)
+
+      exports_there : (exports : List (List ℕ)) → AllByRecursion (IsNamedFunction s l m) exports → (words : List Word) → HasNames (names_with declared) words
+          → HasNames (names_with declared) (exports_words exports ++ words)
+      exports_there [] h words k = k
+      exports_there (name ∷ exports) h words k =
+          let rest = exports_there exports h.1 words k in
+          ((basis.wasm, rest.0), rest.1, (function_there name h.0, rest.2), rest.3, rest.4)
+
+      passed_there : (optional : Bool) (helper : List ℕ) (exports : List (List ℕ)) → IsHelperOf s l helper → AllByRecursion (IsNamedFunction s l m) exports
+          → (words : List Word) → HasNames (names_with declared) words
+          → HasNames (names_with declared) (outside_words (PassToMemory helper exports optional) ++ words)
+      passed_there false helper exports h f words k =
+          let rest = exports_there exports f words k in
+          ((helper_declared helper h, (absent_declared.1.0, rest.0)), rest.1, rest.2, rest.3, rest.4)
+      passed_there true helper exports h f words k =
+          let rest = exports_there exports f words k in
+          ((absent_declared.0, (helper_declared helper h, (absent_declared.1.0, rest.0))), rest.1, rest.2, rest.3, rest.4)
 
       -- the export that gives the item of a described import
       item_there : (e : Expression) (d : IsDescribed s l m e) → gives_item d.entry.1 ≡ true
@@ -207,7 +265,7 @@ module _ (s : Settings) (l : Lowered) where
               let n = item_named s l item (item_asked s l d.entry.0 d.entry.1 item d.own d.first q) in
               in_left (export_named m (Some item)) (names_with_added s l) (call_takes (has_start l.«module»))
               (subst (λ (name : List ℕ). IsIn name (names_with_added s l))
-              (sym (ap or_empty (ap (λ (es : List (ExportItem × List ℕ)). look_up item_order es item) basis.items ∙ n.1.0)))
+              (sym (ap or_empty (ap (λ (es : List (ExportItem × List ℕ)). look_up item_order es item) basis.taken.items ∙ n.1.0)))
               (given_listed s l item n.0 n.1.1))
 
       described_text : (e : Expression) → IsDescribed s l m e → HasExpression (names_with declared) e
@@ -216,7 +274,7 @@ module _ (s : Settings) (l : Lowered) where
         begun = basis.begun d.entry.0 d.entry.1 d.own d.first;
         keys = keys_described d.entry d.among;
         used = fixed_hosts;
-        helpers = basis.helpers;
+        helpers = free_declared;
         exports = basis.wasm;
       }) basis.values d.is
 
@@ -224,12 +282,18 @@ module _ (s : Settings) (l : Lowered) where
       has_names [] h = (tt, tt, tt, tt, refl)
       has_names (ToUnsigned64 ∷ steps) h = let k = has_names steps h.1 in (k.0, (fixed_hosts.0, k.1), k.2, k.3, k.4)
       has_names (CallHelper helper n ∷ steps) h =
-          let k = has_names steps h.1 in ((handle_declared helper h.0, k.0), k.1, k.2, k.3, k.4)
+          let k = has_names steps h.1 in ((helper_declared helper h.0, k.0), k.1, k.2, k.3, k.4)
       has_names (UnwrapResult helper ∷ steps) h =
-          let k = has_names steps h.1 in ((handle_declared helper h.0, k.0), k.1, k.2, k.3, k.4)
+          let k = has_names steps h.1 in ((helper_declared helper h.0, k.0), k.1, k.2, k.3, k.4)
+      has_names (PassToMemory helper exports optional ∷ steps) h =
+          passed_there optional helper exports h.0.0 h.0.1 (outside_of steps) (has_names steps h.1)
+      has_names (DeferFree free align ∷ steps) h =
+          let k = has_names steps h.1 in ((basis.wasm, k.0), k.1, (function_there free h.0, k.2), k.3, k.4)
+      has_names (CopyOut helper ∷ steps) h =
+          let k = has_names steps h.1 in ((helper_declared helper h.0, k.0), k.1, k.2, k.3, k.4)
       has_names (IndexFromBorrow ∷ steps) h =
           let k = has_names steps h.1 in
-          let lent = among_trans lending_helpers free_names declared lending_free basis.helpers in
+          let lent = among_trans lending_helpers free_names declared lending_free free_declared in
           ((lent.0, (lent.1.0, (lent.1.1.0, k.0))), (fixed_hosts.1.0, k.1), k.2, k.3, k.4)
       has_names (step ∷ steps) h =
           let k = has_names steps h.1 in

@@ -8,12 +8,13 @@ use Rattle.wasm_core.specs.declared.types.ImportKind.{ImportKind}
 use Rattle.wasm_core.specs.declared.types.ImportKind.TheVariants as kinds
 use Rattle.wasm_core.specs.declared.types.Memory.{Memory}
 use Rattle.wasm_core.specs.types.FuncType.{FuncType}
-use Rattle.glue_shared.specs.Names.{adapter_for, has_number}
-use Rattle.glue_adapters.specs.Pairs.{implemented, import_type, is_fixed_import, is_fixed_kind}
-use Rattle.glue_check.specs.Modules.{glue_module}
+use Rattle.glue_shared.specs.Names.{adapter_for, has_number, implemented}
+use Rattle.glue_adapters.specs.Pairs.{import_type, is_fixed_import, is_fixed_kind}
+use Rattle.glue_names.specs.Modules.{glue_module}
 use Rattle.glue_check.specs.Unbuilt.{is_plain_memory, memory_of}
 use Rattle.glue_check.proofs.OwnPairs.{IsDefinableBy, IsDefinedImport, entry_in, number_there, own_defined}
-use Rattle.glue_check.proofs.Passed.{imports_bound, number_in, pairs_fit}
+use Rattle.glue_check.proofs.Passed.{imports_bound, pairs_fit}
+use Rattle.glue_names.proofs.Called.{number_in}
 use Rattle.glue_context.specs.DefinedItems.{is_unpaired, takes_memory}
 use Rattle.glue_context.specs.Edits.{has_start, with_start_moved}
 use Rattle.glue_context.specs.Foreign.{has_strings, is_strings, path_of}

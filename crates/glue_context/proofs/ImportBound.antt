@@ -16,7 +16,7 @@ use Rattle.glue_lines.specs.Grouped.{placed_entry, placed_entries, entries_of, l
 use Rattle.glue_lines.specs.Vendor.{closing_word, constant_words, tested_words, vendor_names, vendor_constant}
 use Rattle.glue_lines.proofs.GroupedFacts.{entry_stands}
 use Rattle.glue_lines.proofs.VendorFacts.{constant_holds, tried_names}
-use Rattle.glue_check.proofs.Globals.{in_flat}
+use Rattle.glue_names.proofs.Globals.{in_flat}
 use Rattle.glue_context.specs.ImportedItems.{vendor_item}
 use Rattle.glue_context.proofs.Entries.{in_filter_map}
 use Rattle.glue_published.specs.Reexports.{is_outside}

@@ -13,7 +13,7 @@ use Rattle.glue_shared.specs.declared.import.JsImportName.{JsImportName}
 use Rattle.glue_shared.specs.declared.import.JsImportName.TheVariants as js
 use Rattle.glue_shared.specs.declared.name_map.NameMap.{NameMap}
 use Rattle.glue_shared.specs.Names.{is_from_module}
-use Rattle.glue_check.specs.Omitted.{name_where}
+use Rattle.glue_names.specs.Omitted.{name_where}
 use Rattle.glue_targets.specs.Published.{IsNamed}
 use Rattle.glue_lines.specs.declared.form.LineForm.{LineForm}
 use Rattle.glue_lines.specs.Grouped.{Imported, AreImportLines}

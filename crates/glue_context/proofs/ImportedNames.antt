@@ -6,7 +6,7 @@ use Rattle.glue_words.proofs.Among.{apart_by}
 use Rattle.glue_shared.specs.declared.import.JsImportName.{JsImportName}
 use Rattle.glue_shared.specs.declared.import.JsImportName.TheVariants as js
 use Rattle.glue_shared.specs.Names.{is_from_module}
-use Rattle.glue_check.specs.Omitted.{name_where}
+use Rattle.glue_names.specs.Omitted.{name_where}
 use Rattle.glue_naming.specs.Listed.{names_drawn}
 use Rattle.glue_lines.specs.Lines.{LineEntry}
 use Rattle.glue_lines.specs.Grouped.{Imported, placed_entries}

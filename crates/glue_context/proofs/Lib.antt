@@ -9,6 +9,7 @@ pub mod Facts
 mod Fits
 mod FrameRead
 mod HandedParts
+mod HeldNames
 mod ImportBound
 mod ImportedFacts
 mod ImportedNames
@@ -16,5 +17,6 @@ mod Lists
 pub mod Made
 mod OwnPaths
 mod Paths
+mod Provided
 mod TreeFacts
 mod TreeNames

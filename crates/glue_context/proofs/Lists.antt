@@ -16,7 +16,7 @@ use Rattle.glue_context.specs.DefinedItems.{takes_memory}
 use Rattle.glue_context.specs.Edits.{has_start}
 use Rattle.glue_context.specs.Foreign.{has_strings}
 use Rattle.glue_context.specs.Items.{AreGroups, front_groups}
-use Rattle.glue_context.specs.Parts.{helper_parts}
+use Rattle.glue_context.specs.Parts.{are_few, helper_parts}
 use Rattle.glue_exports.specs.Tree.{has_none}
 use Rattle.glue_exports.proofs.Joined.{from_filter}
 use Rattle.glue_public.specs.Described.{FunctionItems}
@@ -175,8 +175,9 @@ pub glue_made : (s : Settings) (m : NameMap) (l : Lowered) (pairs : List (Import
     → IsArranged (pair_order l) (own_pairs s l) pairs → IsArranged (place_order l) (own_imports s l.«module» l.wit l.aux) places
     → called ≡ drawn_imports s l m pairs → frame ≡ frame_of s l
     → AreGroups s m l places called frame groups → front ≡ joined_groups groups → AreAsked parts front group
-    → items ≡ front ++ (group ++ last ∷ []) → last ≡ loading_item s.stem (has_strings s l) (has_start l.«module») → parts ≡ helper_parts s → IsGlue s m l items
-glue_made s m l pairs places called frame groups front items group last parts by_import by_place listed framed are joined asked put loads known =
+    → items ≡ front ++ (group ++ last ∷ []) → last ≡ loading_item s.stem (has_strings s l) (has_start l.«module») → parts ≡ helper_parts s l m → are_few l.«module» ≡ true
+    → IsGlue s m l items
+glue_made s m l pairs places called frame groups front items group last parts by_import by_place listed framed are joined asked put loads known few =
     let drawn = drawn_imports s l m pairs in
     let whole = frame_of s l in
     let g : AreGroups s m l places drawn whole groups =
@@ -197,6 +198,7 @@ glue_made s m l pairs places called frame groups front items group last parts by
       declared = g.declared;
       defined = g.defined;
       numbered = g.numbered;
+      few = few;
       asked = subst (λ (p : HelperParts). AreAsked p rest group) known (subst (λ (xs : List Item). AreAsked parts xs group) all asked);
       all = put ∙ ap (λ (xs : List Item). xs ++ (group ++ last ∷ [])) all ∙ ap (λ (x : Item). rest ++ (group ++ x ∷ [])) loads;
     }

@@ -1,5 +1,6 @@
 -- What is made of a description that is checked: linked, defined and published.
 use Rattle.glue_context.proofs.Common.{◌≡◌, ℕ, ◌+◌, ◌<◌, ◌==◌, inl, inr, List, [], ◌∷◌, ◌++◌, map, length, Bool, true, false, true≢false, None, Some, refl, sym, ap, ◌∙◌, subst, arith, append-nil, codes, flat_map, flat_map_single, bytes_eq-Decides, list_any, list_all, IsPermutation-sym, IsIn, AreDistinct, AreAmong, AreApart, ImportId, Item, AuxImport, HOSTS, bound_in, bound_names, used_in, is_export_key, AllItems, Belongs, Context, Settings, NameMap, AreNames, Deno, Lowered, host_names, fixed_names, fixed_public, live_count, own_imports, is_one_of, described_hosts, names_of, js_import, foreign_lines, foreign_modules, frame_of, line_form, IsGlue, rewritten, IsLinked, IsDefined, defined_by, defined_places, IsPublished, published_pairs, published_by, fixed_published, fixed_by, EachItem, IsExported, IsPrescribed, export_names, FileFlags, unbuilt, verdict}
+use Rattle.std.proofs.Common.{All, ◌⊎◌}
 use Rattle.std.specs.Prelude.{◌≤◌, ◌^◌, ◌&&◌, cond, Option}
 use Rattle.std.proofs.lemmas.{List.map-id, Bool.Decides.Decides-eqb, List.Sums.list_all-from_AllPass}
 use Rattle.values.proofs.Members.{in_left, in_right, in_either}
@@ -24,17 +25,20 @@ use Rattle.glue_lines.specs.declared.form.LineForm.{LineForm}
 use Rattle.glue_lines.specs.declared.form.LineForm.TheVariants.{Es}
 use Rattle.glue_lines.proofs.LineFacts.{foreign_belongs, foreign_holds}
 use Rattle.helper_table.specs.declared.parts.HelperParts.{HelperParts}
-use Rattle.helper_table.specs.Closed.{IsBare, asked_helpers}
-use Rattle.helper_table.specs.Names.{single_names}
-use Rattle.helper_table.proofs.Held.{held_item, free_names, helper_hosts, each_held, held_belong, held_distinct, held_inner, held_listed, asked_declared}
+use Rattle.helper_table.proofs.Held.{held_item}
+use Rattle.helper_table.specs.Closed.{asked_helpers, binder}
+use Rattle.helper_table.proofs.HeldItems.{each_entry, helper_hosts}
+use Rattle.helper_table.proofs.ListedNames.{IsListed, unlisted_unbound}
+use Rattle.helper_table.proofs.Supplies.{IsProvided, given_exports, is_supplied}
+use Rattle.helper_table.proofs.Supplied.{asked_supplied, in_provided, provided_declared, provided_names, supplied_belong, supplied_distinct, supplied_inner}
 use Rattle.glue_imports.specs.Roots.{plain_name}
 use Rattle.glue_imports.specs.Intrinsics.{loaded_name}
 use Rattle.glue_targets.proofs.FixedTexts as fixed
 use Rattle.glue_targets.proofs.FixedTexts.{start_binds}
 use Rattle.glue_targets.proofs.FrameEnd.{module_names, own_name, end_bound, end_fixed, end_fits, end_hosts}
 use Rattle.glue_published.specs.Reexports.{Reexport, is_outside}
-use Rattle.glue_check.specs.Handed.{own_callees}
-use Rattle.glue_check.proofs.Globals.{described_host, from_flat, in_flat, more_hosts}
+use Rattle.glue_names.specs.Handed.{own_callees}
+use Rattle.glue_names.proofs.Globals.{described_host, from_flat, in_flat, more_hosts}
 use Rattle.glue_check.proofs.OwnPairs.{pair_kept}
 use Rattle.glue_context.specs.DefinedItems.{takes_memory}
 use Rattle.glue_context.specs.Edits.{has_start}
@@ -47,23 +51,31 @@ use Rattle.glue_naming.specs.Naming.{import_name}
 use Rattle.glue_naming.specs.Pairs.{is_among, own_pairs}
 use Rattle.glue_naming.specs.declared.named.Named.TheVariants as things
 use Rattle.glue_naming.proofs.CalledNames as called
-use Rattle.glue_naming.proofs.MappedLists.{from_map, in_map}
+use Rattle.glue_names.proofs.MappedLists.{from_map, in_map}
 use Rattle.glue_context.specs.Parts.{helper_parts}
-use Rattle.glue_context.proofs.{Declared.AreDrawn, Declared.all_apart, Declared.all_distinct, Declared.all_found, Declared.all_names, Declared.constants_first, Declared.first_among, Declared.first_names, Declared.frame_first, Declared.held_among, Declared.imports_first, Declared.lines_first, Declared.loading_bound, Declared.loading_first, Declared.modules_few, Declared.modules_idents, Declared.names_first, Declared.own_fixed, Declared.own_framed, Declared.own_names, Declared.own_no_hosts}
+use Rattle.glue_context.proofs.{Declared.AreDrawn, Declared.AreStanding, Declared.all_apart, Declared.all_distinct, Declared.all_found, Declared.all_names, Declared.constants_first, Declared.first_among, Declared.first_names, Declared.first_unlisted, Declared.frame_first, Declared.held_among, Declared.imports_first, Declared.lines_first, Declared.loading_bound, Declared.loading_first, Declared.modules_few, Declared.modules_idents, Declared.names_first, Declared.own_fixed, Declared.own_framed, Declared.own_names, Declared.own_no_hosts}
+use Rattle.glue_context.proofs.HeldNames.{asked_listed}
 use Rattle.glue_context.proofs.ImportBound.{import_bound_among}
 use Rattle.glue_context.proofs.ImportedFacts as imported
 use Rattle.glue_context.proofs.TreeFacts as published
-use Rattle.glue_naming.proofs.ItemNames.{names_with_added}
-use Rattle.glue_context.proofs.ExpressionFits.{IsBegunWell}
+use Rattle.taken_items.proofs.ItemNames.{names_with_added}
+use Rattle.glue_context.proofs.Provided.{all_given, memory_stands, table_stands}
+use Rattle.glue_context.proofs.ExpressionFits.{IsBegunWell, IsWell}
 use Rattle.glue_context.proofs.ExpressionNames.{HasBegun, HasName}
 use Rattle.glue_context.proofs.HandedParts.{entry_there}
-use Rattle.glue_context.proofs.{Facts.Facts, Facts.built, Facts.own_pair, Fits.names_with, Fits.AreWell, Fits.HasBasis, DefinedFacts.define_belongs, DefinedFacts.define_binds, DefinedFacts.define_exported, DefinedFacts.define_holds, DefinedFacts.define_role, Lists.arranged_from, Lists.moved_from, Lists.distinct_moved, Lists.all_are, Lists.flat_none, Lists.all_applied, Lists.all_kept, Lists.constants, Lists.each_among, Lists.each_any, Lists.each_at, Lists.each_item, Lists.each_line, Lists.front, Lists.given, Lists.declared_stands, Lists.imported_stands, Lists.imports, Lists.items_with, Lists.loading, Lists.none_given, Lists.with_held, Edited.item_exported, Edited.rewritten_exports, Paths.written_count}
+use Rattle.glue_context.proofs.{Facts.Facts, Facts.built, Facts.own_pair, Fits.names_with, Fits.AreTaken, Fits.AreWell, Fits.HasBasis, DefinedFacts.define_belongs, DefinedFacts.define_binds, DefinedFacts.define_exported, DefinedFacts.define_holds, DefinedFacts.define_role, Lists.arranged_from, Lists.moved_from, Lists.distinct_moved, Lists.all_are, Lists.flat_none, Lists.all_applied, Lists.all_kept, Lists.constants, Lists.each_among, Lists.each_any, Lists.each_at, Lists.each_item, Lists.each_line, Lists.front, Lists.given, Lists.declared_stands, Lists.imported_stands, Lists.imports, Lists.items_with, Lists.loading, Lists.none_given, Lists.with_held, Edited.item_exported, Edited.rewritten_exports, Paths.written_count}
 
 -- the three facts of items that a built description asks for
 pub record IsSound (s : Settings) (m : NameMap) (l : Lowered) (items : List Item) : Type 0 where
   pub linked : IsLinked s (host_names s l.aux) (described_keys l.aux) (rewritten s l) items (has_start l.«module»)
   pub defined : IsDefined s m l (rewritten s l) items
   pub published : IsPublished s l.aux (fixed_public s l.«module» l.wit l.aux) items
+
+-- what holds of all items holds of one of them
+one_of : (P : Item → Type 0) (xs : List Item) (item : Item) → AllItems P xs → IsIn item xs → P item
+one_of P [] item h at = absurd at
+one_of P (x ∷ xs) item h (inl same) = subst P (sym same) h.0
+one_of P (x ∷ xs) item h (inr at) = one_of P xs item h.1 at
 
 -- loading uses what is declared there
 loading_within : (memory starts : Bool) → AreAmong (fixed.loading_uses starts) (start_binds memory ++ loading_bound)
@@ -146,22 +158,21 @@ module _ (s : Settings) (m : NameMap) (l : Lowered) (items : List Item) (b : Fac
   -- ---- helpers
 
   abbrev parts : HelperParts
-  parts = helper_parts s
+  parts = helper_parts s l m
 
-  bare : IsBare parts
-  bare = record { memories = refl; table = refl; store = refl; destroy = refl }
+  -- names that they provide
+  abbrev provided : List (List ℕ)
+  provided = provided_names parts
+
+  standing : AreStanding l.«module» parts
+  standing = record { memories = memory_stands s l m n.items g.few; table = table_stands s l m n.items g.few }
 
   abbrev needed : List ℕ
   needed = asked_helpers parts (front g)
 
   -- what holds of a helper's item whatever its words are
   held_so : (P : Item → Type 0) → ((entry : List ℕ × List Word) → P (held_item entry)) → AllItems P g.helpers
-  held_so P give = each_held parts bare needed g.helpers g.asked P (λ e at. give e)
-
-  held_fixed : AllItems (λ item. fixed_by item ≡ []) g.helpers
-  held_fixed =
-      all_applied (λ item. list_any is_export_key item.words ≡ false) (λ item. fixed_by item ≡ []) g.helpers
-      (held_so _ (λ entry h. ap (λ (b : Bool). fixed_of (role.Helper entry.0) b entry.1) h)) (held_inner parts bare needed g.helpers g.asked)
+  held_so P give = each_entry parts needed g.helpers g.asked P (λ e at. give e)
 
   -- ---- items that bind names of the outside
 
@@ -242,8 +253,8 @@ module _ (s : Settings) (m : NameMap) (l : Lowered) (items : List Item) (b : Fac
   abbrev held : List (List ℕ)
   held = flat_map (λ (item : Item). bound_in item.words) g.helpers
 
-  listed : AreAmong held single_names
-  listed = held_listed parts bare needed g.helpers g.asked
+  listed : (name : List ℕ) → IsIn name held → IsListed parts name
+  listed = asked_listed parts (front g) g.helpers g.asked
 
   few : length paths ≤ live_count l.«module».imports
   few = subst (λ (n : ℕ). length paths ≤ n) (written_count s l)
@@ -251,16 +262,16 @@ module _ (s : Settings) (m : NameMap) (l : Lowered) (items : List Item) (b : Fac
 
   -- what the file declares, and what its first items may use
   abbrev declared : List (List ℕ)
-  declared = all_names s l.«module» paths held memory few g.numbered listed imported_names constant_names names
+  declared = all_names s l.«module» paths held memory few g.numbered parts standing listed imported_names constant_names names
 
   abbrev first : List (List ℕ)
-  first = first_names s l.«module» paths held memory few g.numbered listed imported_names constant_names names
+  first = first_names s l.«module» paths held memory few g.numbered parts standing listed imported_names constant_names names
 
   abbrev own : List (List ℕ)
-  own = own_names s l.«module» paths held memory few g.numbered listed
+  own = own_names s l.«module» paths held memory few g.numbered parts standing listed
 
   own_all_fixed : AreAmong own (fixed_names s l.«module»)
-  own_all_fixed = own_fixed s l.«module» paths held memory few g.numbered listed
+  own_all_fixed = own_fixed s l.«module» paths held memory few g.numbered parts standing listed
 
   -- what is apart from fixed names is apart from the file's own
   no_own : (xs : List (List ℕ)) → AreApart xs (fixed_names s l.«module») → AreApart xs own
@@ -280,7 +291,7 @@ module _ (s : Settings) (m : NameMap) (l : Lowered) (items : List Item) (b : Fac
   constants_apart : (ys : List (List ℕ)) → AreApart drawn ys → AreApart constant_names ys
   constants_apart ys h = apart_among constant_names drawn ys constants_drawn h
 
-  are_drawn : AreDrawn s l.«module» paths held memory few g.numbered listed imported_names constant_names names
+  are_drawn : AreDrawn s l.«module» paths held memory few g.numbered parts standing listed imported_names constant_names names
   are_drawn =
       let names_apart = published.tree_apart s m l b n g.declares g.declared drawn drawn_of in
       let fixed_apart = called.listed_no_fixed s l m n g.pairs sub has in record {
@@ -314,7 +325,7 @@ module _ (s : Settings) (m : NameMap) (l : Lowered) (items : List Item) (b : Fac
   -- the file's own names are none of the host
   outside : AreApart own (host_names s l.aux)
   outside =
-      rw hosts_are (apart_joined own (map (λ w. w.now) HOSTS) _ (own_no_hosts s l.«module» paths held memory few g.numbered listed) (apart_swap _ own described_apart))
+      rw hosts_are (apart_joined own (map (λ w. w.now) HOSTS) _ (own_no_hosts s l.«module» paths held memory few g.numbered parts standing listed) (apart_swap _ own described_apart))
 
   -- a name of the host that each file has
   known : (ys : List (List ℕ)) → list_all (is_one_of (map (λ w. w.now) HOSTS)) ys ≡ true → AreAmong ys (host_names s l.aux)
@@ -345,49 +356,56 @@ module _ (s : Settings) (m : NameMap) (l : Lowered) (items : List Item) (b : Fac
           let same = (bytes_eq-Decides (codes "wasm") name).0 q in
           absurd (apart_in (codes "wasm") own drawn apart there (subst (λ (x : List ℕ). IsIn x drawn) (sym same) at))
 
-  well : AreWell s l m
-  well id w mine is name i = by (import_name m name) refl
+  taken : AreTaken s l m
+  taken = record { items = n.items; few = g.few }
+
+  begun_well : (id : ℕ) (w : AuxImport) → has_number id (own_callees s l) ≡ true → entry_of id l.aux.imports ≡ Some w → (name : JsImportName)
+      → IsIn name (names_of (js_import w)) → IsWell m name
+  begun_well id w mine is name i = by (import_name m name) refl
     where
       by : (drawn : Option (List ℕ)) → import_name m name ≡ drawn → IsBegunWell drawn (plain_name name)
       by (Some text) found = (n.good.idents (things.Import name) text found, no_wasm text (entry_drawn id w mine is name i text found))
       by None none = b.idents name (begun_described id w mine is name i) (plain_name name) (entry_brought id w mine is name i none)
 
-  -- what stands among the first names, or is a helper's that needs nothing of the module
-  there : (ys : List (List ℕ)) → AreAmong ys first → AreAmong ys (first ++ free_names)
-  there ys h = among_left ys first free_names h
+  well : AreWell s l m
+  well = record { named = begun_well; taken = taken }
 
-  drawn_first : (name : List ℕ) → IsIn name drawn → IsIn name (first ++ free_names)
+  -- what stands among the first names, or is provided
+  there : (ys : List (List ℕ)) → AreAmong ys first → AreAmong ys (first ++ provided)
+  there ys h = among_left ys first provided h
+
+  drawn_first : (name : List ℕ) → IsIn name drawn → IsIn name (first ++ provided)
   drawn_first name at = elim (imported.one_declares form (imports g) g.lines g.imported s.omit_imports no_host name at) [
-    | inl here ↦ among_in name imported_names (first ++ free_names)
-        (there imported_names (imports_first s l.«module» paths held memory few g.numbered listed imported_names constant_names names)) here
-    | inr here ↦ among_in name constant_names (first ++ free_names)
-        (there constant_names (constants_first s l.«module» paths held memory few g.numbered listed imported_names constant_names names)) here
+    | inl here ↦ among_in name imported_names (first ++ provided)
+        (there imported_names (imports_first s l.«module» paths held memory few g.numbered parts standing listed imported_names constant_names names)) here
+    | inr here ↦ among_in name constant_names (first ++ provided)
+        (there constant_names (constants_first s l.«module» paths held memory few g.numbered parts standing listed imported_names constant_names names)) here
   ]
 
   loaded : AreAmong loading_bound first
-  loaded = loading_first s l.«module» paths held memory few g.numbered listed imported_names constant_names names
+  loaded = loading_first s l.«module» paths held memory few g.numbered parts standing listed imported_names constant_names names
 
   framed : AreAmong (start_binds memory) first
-  framed = frame_first s l.«module» paths held memory few g.numbered listed imported_names constant_names names
+  framed = frame_first s l.«module» paths held memory few g.numbered parts standing listed imported_names constant_names names
 
   begun : (id : ℕ) (w : AuxImport) → has_number id (own_callees s l) ≡ true → entry_of id l.aux.imports ≡ Some w → (name : JsImportName)
-      → IsIn name (names_of (js_import w)) → HasName (names_with s l (first ++ free_names)) m name
+      → IsIn name (names_of (js_import w)) → HasName (names_with s l (first ++ provided)) m name
   begun id w mine is name i = by (import_name m name) refl
     where
-      by : (drawn : Option (List ℕ)) → import_name m name ≡ drawn → HasBegun (names_with s l (first ++ free_names)) drawn (plain_name name)
+      by : (drawn : Option (List ℕ)) → import_name m name ≡ drawn → HasBegun (names_with s l (first ++ provided)) drawn (plain_name name)
       by (Some text) found = drawn_first text (entry_drawn id w mine is name i text found)
       by None none = described_host s l name (begun_described id w mine is name i) (plain_name name) (entry_brought id w mine is name i none)
 
-  basis : HasBasis s l m (first ++ free_names)
+  basis : HasBasis s l m (first ++ provided)
   basis = record {
     wasm = (there loading_bound loaded).1.1.1.0;
-    memory = λ taken. among_in (codes "memory") (start_binds memory) (first ++ free_names) (there (start_binds memory) framed)
+    memory = λ taken. among_in (codes "memory") (start_binds memory) (first ++ provided) (there (start_binds memory) framed)
         (subst (λ (b : Bool). IsIn (codes "memory") (start_binds b)) (sym taken) (inr (inl refl)));
-    helpers = among_right free_names first free_names (among_itself free_names);
+    helpers = among_right provided first provided (among_itself provided);
     begun = begun;
-    values = λ value name h. among_in name loading_bound (first ++ free_names) (there loading_bound loaded)
+    values = λ value name h. among_in name loading_bound (first ++ provided) (there loading_bound loaded)
         (deno_loaded value name (subst (λ (target : Target). loaded_name target value ≡ Some name) b.deno h));
-    items = n.items;
+    taken = taken;
   }
 
   -- ---- re-exports
@@ -397,7 +415,7 @@ module _ (s : Settings) (m : NameMap) (l : Lowered) (items : List Item) (b : Fac
   reexport_listed r i = called.reexport_listed s l m n g.pairs sub has r i (published.no_outside s m l b n g.declares g.declared r i)
 
   -- it stands among the first names
-  reexport_first : (r : Reexport) → IsIn r l.aux.reexports → (x : List ℕ) × (import_name m (r.1).name ≡ Some x) × IsIn x (first ++ free_names)
+  reexport_first : (r : Reexport) → IsIn r l.aux.reexports → (x : List ℕ) × (import_name m (r.1).name ≡ Some x) × IsIn x (first ++ provided)
   reexport_first r i =
       let d = reexport_listed r i in
       (d.0, d.1, drawn_first d.0 (in_map (λ (import : Imported). import.1) ((r.1).name, d.0) (imports g) d.2))
@@ -426,19 +444,19 @@ module _ (s : Settings) (m : NameMap) (l : Lowered) (items : List Item) (b : Fac
       }
 
   -- the module of the members is declared by the frame's start
-  first_module : IsIn (codes "import0") (first ++ free_names)
-  first_module = among_in (codes "import0") (start_binds memory) (first ++ free_names) (there (start_binds memory) framed) (own_framed memory)
+  first_module : IsIn (codes "import0") (first ++ provided)
+  first_module = among_in (codes "import0") (start_binds memory) (first ++ provided) (there (start_binds memory) framed) (own_framed memory)
 
   -- and what its end uses of the host is known
   proxy_known : (handed : Bool) → AreAmong (end_hosts handed) (host_names s l.aux)
   proxy_known true = known (codes "Proxy" ∷ []) refl
   proxy_known false = tt
 
-  -- the items but helpers belong where all names of helpers are declared too that need nothing of the module
-  firsts : AllItems (λ item. Belongs (names_with s l (first ++ free_names)) item.words) (items_with g [])
+  -- the items but helpers belong where all names of helpers are declared too that are provided
+  firsts : AllItems (λ item. Belongs (names_with s l (first ++ provided)) item.words) (items_with g [])
   firsts =
-      let c = names_with s l (first ++ free_names) in
-      let lined = lines_first s l.«module» paths held memory few g.numbered listed imported_names constant_names names in
+      let c = names_with s l (first ++ provided) in
+      let lined = lines_first s l.«module» paths held memory few g.numbered parts standing listed imported_names constant_names names in
       let small : 1 + length paths < 2 ^ 64 = let h = g.numbered in omega (arith, h) in
       let own0 : module_names 0 (own_path s.stem ∷ paths) ≡ codes "import0" ∷ module_names 1 paths = ap (λ (n : List ℕ). n ∷ module_names 1 paths) own_name in
       each_item g (λ item. Belongs c item.words) []
@@ -446,7 +464,7 @@ module _ (s : Settings) (m : NameMap) (l : Lowered) (items : List Item) (b : Fac
       (each_line (λ item. Belongs c item.words) 1 paths (λ n path less. foreign_belongs Es n path c (omega (arith, less, small)) tt))
       (imported.constants_belong form (imports g) g.lines g.imported c drawn_idents (known (codes "undefined" ∷ []) refl).0 (import_hosts c refl))
       (published.items_belong s m l b n g.declares g.declared well c.declared basis
-      (there names (names_first s l.«module» paths held memory few g.numbered listed imported_names constant_names names)) reexport_first)
+      (there names (names_first s l.«module» paths held memory few g.numbered parts standing listed imported_names constant_names names)) reexport_first)
       (λ place item k x. define_belongs s m l well c.declared basis b.pair_steps place k (b.defined place k) item x)
       (belongs_by_facts c _ (fixed.start_fits c s.stem memory))
       (belongs_by_facts c _ (end_fits s.stem paths strings c (modules_idents 0 (own_path s.stem ∷ paths) (omega (arith, small)))
@@ -458,6 +476,31 @@ module _ (s : Settings) (m : NameMap) (l : Lowered) (items : List Item) (b : Fac
       (known (codes "URL" ∷ codes "WebAssembly" ∷ codes "fetch" ∷ []) refl)
       (among_right (fixed.call_takes starts) (names_with_added s l) (fixed.call_takes starts) (among_itself (fixed.call_takes starts)))))
 
+  -- ---- helpers that are held
+
+  -- a name that an item in front uses is that of no helper, or provided
+  asked_so : (item : Item) (name : List ℕ) → IsIn item (front g) → IsIn name (used_in item.words) → (binder parts name ≡ None) ⊎ IsProvided parts name
+  asked_so item name ahead k =
+      let belongs = one_of (λ (i : Item). Belongs (names_with s l (first ++ provided)) i.words) (items_with g []) item firsts
+      (in_left item (front g) (loading g ∷ []) ahead) in
+      let fixed_apart = called.listed_no_fixed s l m n g.pairs sub has in
+      elim (in_either name first provided (among_in name (used_in item.words) (first ++ provided) belongs.resolved.bound k)) [
+        | inl here ↦ inl (unlisted_unbound parts name
+            (first_unlisted s l.«module» paths held memory few g.numbered parts standing listed imported_names constant_names names
+            (lines_apart (fixed_names s l.«module») fixed_apart) (constants_apart (fixed_names s l.«module») fixed_apart)
+            (published.tree_no_fixed s m l b n g.declares g.declared) name here))
+        | inr free ↦ inr (in_provided parts name free)
+      ]
+
+  -- so all that are asked for are supplied
+  roots : All (λ i. is_supplied parts i ≡ true) needed
+  roots = asked_supplied parts (front g) asked_so
+
+  held_fixed : AllItems (λ item. fixed_by item ≡ []) g.helpers
+  held_fixed =
+      all_applied (λ item. list_any is_export_key item.words ≡ false) (λ item. fixed_by item ≡ []) g.helpers
+      (held_so _ (λ entry h. ap (λ (b : Bool). fixed_of (role.Helper entry.0) b entry.1) h)) (supplied_inner parts needed g.helpers g.asked roots)
+
   -- loading uses what the frame and it declare
   loading_declared : AreAmong (used_in (loading g).words) declared
   loading_declared =
@@ -465,18 +508,18 @@ module _ (s : Settings) (m : NameMap) (l : Lowered) (items : List Item) (b : Fac
       subst (λ (ns : List (List ℕ)). AreAmong ns declared) (sym (fixed.loading_used s.stem strings starts))
       (among_trans (fixed.loading_uses starts) bound declared (loading_within memory starts)
       (among_trans bound first declared (among_both (start_binds memory) loading_bound first framed loaded)
-      (first_among s l.«module» paths held memory few g.numbered listed imported_names constant_names names)))
+      (first_among s l.«module» paths held memory few g.numbered parts standing listed imported_names constant_names names)))
 
   -- a name that such an item uses is declared: where it is a helper's, that one is held
-  first_declared : (item : Item) → IsIn item (items_with g []) → AreAmong (used_in item.words) (first ++ free_names) → AreAmong (used_in item.words) declared
+  first_declared : (item : Item) → IsIn item (items_with g []) → AreAmong (used_in item.words) (first ++ provided) → AreAmong (used_in item.words) declared
   first_declared item at used = elim (in_either item (front g) (loading g ∷ []) at) [
     | inl ahead ↦ among_by (used_in item.words) declared (λ name k.
-        elim (in_either name first free_names (among_in name (used_in item.words) (first ++ free_names) used k)) [
+        elim (in_either name first provided (among_in name (used_in item.words) (first ++ provided) used k)) [
           | inl here ↦ among_in name first declared
-              (first_among s l.«module» paths held memory few g.numbered listed imported_names constant_names names) here
+              (first_among s l.«module» paths held memory few g.numbered parts standing listed imported_names constant_names names) here
           | inr free ↦ among_in name held declared
-              (held_among s l.«module» paths held memory few g.numbered listed imported_names constant_names names)
-              (asked_declared parts bare (front g) g.helpers g.asked item name ahead k free)
+              (held_among s l.«module» paths held memory few g.numbered parts standing listed imported_names constant_names names)
+              (provided_declared parts (front g) g.helpers g.asked item name ahead k (in_provided parts name free))
         ])
     | inr (inl same) ↦ subst (λ (i : Item). AreAmong (used_in i.words) declared) (sym same) loading_declared
     | inr (inr none) ↦ absurd none
@@ -486,10 +529,14 @@ module _ (s : Settings) (m : NameMap) (l : Lowered) (items : List Item) (b : Fac
   belong =
       let c = names_with s l declared in
       with_held g (λ item. Belongs c item.words) g.helpers
-      (all_kept (λ item. Belongs (names_with s l (first ++ free_names)) item.words) (λ item. Belongs c item.words) (items_with g [])
-      (λ item at h. belongs_among (names_with s l (first ++ free_names)) declared item.words h (first_declared item at h.resolved.bound)) firsts)
-      (held_belong parts bare needed g.helpers g.asked c (held_among s l.«module» paths held memory few g.numbered listed imported_names constant_names names)
-      (known helper_hosts refl))
+      (all_kept (λ item. Belongs (names_with s l (first ++ provided)) item.words) (λ item. Belongs c item.words) (items_with g [])
+      (λ item at h. belongs_among (names_with s l (first ++ provided)) declared item.words h (first_declared item at h.resolved.bound)) firsts)
+      (supplied_belong parts needed g.helpers g.asked roots c (among_in (codes "wasm") loading_bound declared
+      (among_trans loading_bound first declared loaded (first_among s l.«module» paths held memory few g.numbered parts standing listed imported_names constant_names names))
+      (inr (inr (inr (inl refl))))) (held_among s l.«module» paths held memory few g.numbered parts standing listed imported_names constant_names names)
+      (known helper_hosts refl)
+      (among_by (given_exports parts) c.exports (λ name at.
+      in_left name (names_with_added s l) (fixed.call_takes starts) (all_given s l m n.items g.few name at))))
 
   -- the words of an item are asked for among items
   abbrev IsAsked : List Item → Item → Type 0
@@ -498,11 +545,11 @@ module _ (s : Settings) (m : NameMap) (l : Lowered) (items : List Item) (b : Fac
   linked : IsLinked s (host_names s l.aux) (described_keys l.aux) (rewritten s l) all starts
   linked =
       let c = names_with s l declared in
-      let d = held_distinct parts bare needed g.helpers g.asked in
+      let d = supplied_distinct parts needed g.helpers g.asked roots in
       let hosts_apart = called.listed_no_host s l m n g.pairs sub has in
       let k = linked_by_words c all (sym bound) belong
-      (rw bound (all_distinct s l.«module» paths held memory few g.numbered listed imported_names constant_names names d are_drawn))
-      (rw bound (all_apart s l.«module» paths held memory few g.numbered listed imported_names constant_names names c.hosts (lines_apart c.hosts hosts_apart)
+      (rw bound (all_distinct s l.«module» paths held memory few g.numbered parts standing listed imported_names constant_names names d are_drawn))
+      (rw bound (all_apart s l.«module» paths held memory few g.numbered parts standing listed imported_names constant_names names c.hosts (lines_apart c.hosts hosts_apart)
       (constants_apart c.hosts hosts_apart) (published.tree_no_host s m l b n g.declares g.declared) outside)) in
       let exported : EachItem (IsExported (export_names (rewritten s l))) [] all = rw (rewritten_exports s l) at k.exported in
       let asked : List Item → Item → List Item → Type 0 = IsPrescribed s starts (frame_of s l) in
@@ -575,7 +622,7 @@ module _ (s : Settings) (m : NameMap) (l : Lowered) (items : List Item) (b : Fac
         none_given published_by g.helpers (held_so _ (λ entry. refl)),
       ) (simp (flat_none, append-nil)) in
       let none : fixed_published all ≡ [] =
-      given g fixed_by (λ place. []) g.helpers (λ place item k x. rw (define_role s m l place item x, define_exported s m l well (first ++ free_names) basis b.pair_steps place k (b.defined place k) item x) refl)
+      given g fixed_by (λ place. []) g.helpers (λ place item k x. rw (define_role s m l place item x, define_exported s m l well (first ++ provided) basis b.pair_steps place k (b.defined place k) item x) refl)
       ∙ rw (
         lines_none fixed_by imported.import_fixed,
         none_given fixed_by (foreign_lines 1 paths) (lines_inner 1 paths),

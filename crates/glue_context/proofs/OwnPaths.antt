@@ -13,16 +13,16 @@ use Rattle.glue_shared.specs.declared.import.AuxImport.{AuxImport}
 use Rattle.glue_shared.specs.declared.import.JsImport.{JsImport}
 use Rattle.glue_shared.specs.declared.import.JsImportName.{JsImportName}
 use Rattle.glue_shared.specs.declared.import.JsImportName.TheVariants as names
-use Rattle.glue_shared.specs.Names.{code_of, entry_of, handed_name, has_number, is_direct, is_from_module, is_handed_on, is_implemented, is_own, is_whole, js_import, names_of, own_place, own_places}
+use Rattle.glue_shared.specs.Names.{code_of, entry_of, handed_name, has_number, implemented, is_direct, is_from_module, is_handed_on, is_implemented, is_own, is_whole, js_import, names_of, own_place, own_places}
 use Rattle.glue_lines.specs.Grouped.{source_of}
-use Rattle.glue_adapters.specs.Pairs.{implemented}
-use Rattle.glue_check.specs.Modules.{called_place, calls_from, claim_of, comes_from, glue_module, is_from, module_of}
-use Rattle.glue_check.proofs.Globals.{from_flat, in_flat}
+use Rattle.glue_names.specs.Modules.{called_place, calls_from, claim_of, comes_from, glue_module, is_from, module_of}
+use Rattle.glue_names.proofs.Globals.{from_flat, in_flat}
 use Rattle.glue_check.proofs.OwnPairs.{number_there, own_defined}
-use Rattle.glue_check.proofs.Passed.{foreign_apart, number_in}
+use Rattle.glue_check.proofs.Passed.{foreign_apart}
+use Rattle.glue_names.proofs.Called.{number_in}
 use Rattle.glue_naming.specs.Handed.{handed_imports, handed_pair}
 use Rattle.glue_naming.specs.Imported.{called_name, called_names}
-use Rattle.glue_naming.proofs.MappedLists.{from_map, in_map}
+use Rattle.glue_names.proofs.MappedLists.{from_map, in_map}
 use Rattle.glue_context.specs.Foreign.{path_of, with_move, with_path}
 use Rattle.glue_context.specs.Rewritten.{handed_move}
 use Rattle.glue_context.proofs.Entries.{any_there, from_filter_map, in_filter_map, mapped_entry, one_of_any}

@@ -24,7 +24,7 @@ use Rattle.glue_exports.proofs.Sorted.{first_behind, rest_ordered}
 use Rattle.glue_public.specs.Described.{FunctionItems, described, entry_of, enum_name, function_definition, lone_functions}
 pub use Rattle.glue_public.proofs.TreeFacts.{OfFunction, OfEnum, OfReexport}
 use Rattle.glue_public.proofs.TreeFacts.{HasItems, IsOf, each_zip, entry_is, function_in, namespace_root, pairs, qualified_of, same_qualified, tree_is}
-use Rattle.glue_check.specs.Publishing.{qualified}
+use Rattle.glue_names.specs.Publishing.{qualified}
 use Rattle.glue_naming.specs.declared.named.Named.{Named}
 use Rattle.glue_naming.specs.declared.named.Named.TheVariants.{Enum, Function, Import, Namespace}
 use Rattle.glue_naming.specs.Drawing.{name_in}

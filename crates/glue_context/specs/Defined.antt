@@ -21,7 +21,7 @@ use Rattle.glue_shared.specs.declared.name_map.NameMap.{NameMap}
 use Rattle.glue_shared.specs.Names.{adapter_for, handed_part, own_imports}
 use Rattle.glue_check.specs.Unbuilt.{memory_of}
 use Rattle.glue_steps.specs.Resolving.{entry_at, export_named}
-use Rattle.glue_naming.specs.ItemNames.{asked_items}
+use Rattle.taken_items.specs.Asked.{asked_items}
 use Rattle.glue_naming.specs.Naming.{declared_name}
 use Rattle.glue_context.specs.DefinedItems.{define_item, memory_words, part_words, value_item}
 use Rattle.glue_context.specs.ExportedItems.{declaration_words}

@@ -11,7 +11,7 @@ use Rattle.wasm_core.specs.entries.ExportItem.{ExportItem}
 use Rattle.wasm_core.specs.entries.ExportItem.TheVariants as items
 use Rattle.wasm_core.specs.Contents.{Contents, IsLive}
 use Rattle.wasm_core.specs.Edits.{with_import, with_export, with_func, without_start, IsLiveItem}
-pub use Rattle.glue_check.specs.Naming.{has_start}
+pub use Rattle.glue_names.specs.Naming.{has_start}
 use Rattle.glue_context.specs.declared.edits.Edits.{Edits}
 use Rattle.glue_context.specs.declared.edits.TheConstants.{SHIM, START}
 

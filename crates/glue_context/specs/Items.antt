@@ -1,6 +1,6 @@
 -- The items of the glue file: lines that take modules, vendor constants, what the description declares, the frame with the definitions of
 -- imports, helpers, and loading.
-use Rattle.std.specs.Prelude.{◌≡◌, ℕ, ◌<◌, ◌^◌, Bool, is_some, List, [], ◌∷◌, ◌++◌, length}
+use Rattle.std.specs.Prelude.{◌≡◌, ℕ, ◌<◌, ◌^◌, Bool, true, is_some, List, [], ◌∷◌, ◌++◌, length}
 use Rattle.std.specs.List.{AllZip, flat_map}
 use Rattle.wasm_core.specs.ids.ImportId.{ImportId}
 use Rattle.glue_words.specs.declared.item.Item.{Item}
@@ -28,7 +28,7 @@ use Rattle.glue_context.specs.ExportedItems.{declare_item}
 use Rattle.glue_context.specs.Foreign.{foreign_modules, foreign_lines, has_strings}
 use Rattle.glue_context.specs.Functions.{IsFunctionOf}
 use Rattle.glue_context.specs.ImportedItems.{line_form, vendor_items}
-use Rattle.glue_context.specs.Parts.{helper_parts}
+use Rattle.glue_context.specs.Parts.{are_few, helper_parts}
 
 -- a function is declared under the name that it was given
 pub record AreFunctionItems (s : Settings) (m : NameMap) (l : Lowered) (e : AuxExport) (items : FunctionItems) : Type 0 where
@@ -108,7 +108,8 @@ pub record IsGlue (settings : Settings) (m : NameMap) (l : Lowered) (items : Lis
   pub declared : AreTreeItems settings m l declares
   pub defined : AllZip (IsDefineItem settings m l) places defines
   pub numbered : length (foreign_modules settings l) < 2 ^ 32
-  pub asked : AreAsked (helper_parts settings)
+  pub few : are_few l.«module» ≡ true
+  pub asked : AreAsked (helper_parts settings l m)
       (front_items settings.stem (frame_of settings l) lines (vendor_items (drawn_imports settings l m pairs)) declares defines) helpers
   pub all : items ≡ all_items settings.stem (has_start l.«module») (frame_of settings l) lines
       (vendor_items (drawn_imports settings l m pairs)) declares defines helpers

@@ -125,6 +125,7 @@ pub fn glue_items<N: Names>(
     )?;
     let front = joined(alloc, groups)?;
     let loading = loading_item(alloc, settings, frame.strings, has_start(&lowered.module))?;
-    let items = with_helpers(alloc, &helper_parts(alloc, settings), front, loading)?;
+    let parts = helper_parts(alloc, settings, lowered, names)?;
+    let items = with_helpers(alloc, &parts, front, loading)?;
     Ok(items)
 }

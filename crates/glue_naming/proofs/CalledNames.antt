@@ -25,11 +25,11 @@ use Rattle.glue_shared.specs.declared.settings.Settings.{Settings}
 use Rattle.glue_shared.specs.declared.settings.Target.{Target}
 use Rattle.glue_shared.specs.Names.{code_of, described_names, entry_of, fixed_names, has_number, host_names, js_import, names_of, own_imports}
 use Rattle.glue_published.specs.Reexports.{Reexport, is_outside}
-use Rattle.glue_check.specs.Handed.{callee, own_callees, pair_callees}
-use Rattle.glue_check.specs.Publishing.{qualified}
+use Rattle.glue_names.specs.Handed.{callee, own_callees, pair_callees}
+use Rattle.glue_names.specs.Publishing.{qualified}
 use Rattle.glue_published.specs.Things.{stands_alone}
-use Rattle.glue_check.proofs.Globals.{from_flat, in_flat}
-use Rattle.glue_check.proofs.Passed.{number_in}
+use Rattle.glue_names.proofs.Globals.{from_flat, in_flat}
+use Rattle.glue_names.proofs.Called.{callee_is, number_in}
 use Rattle.glue_naming.specs.Given.{reserved_names}
 use Rattle.glue_naming.specs.Imported.{called_name, called_names, import_wanted, local_name, names_called, pair_names}
 use Rattle.glue_naming.specs.Listed.{called_once, drawn_import, drawn_imports, imports_named, names_drawn}
@@ -43,8 +43,8 @@ use Rattle.glue_naming.specs.declared.named.WantedName.TheVariants.{Plain}
 use Rattle.glue_naming.proofs.Arranged.{all_are, moved_from}
 use Rattle.glue_naming.proofs.Draws.{IsAt, stands}
 use Rattle.glue_naming.proofs.Functions.{given_of}
-use Rattle.glue_check.proofs.EachOnce.{once_from, once_has}
-use Rattle.glue_naming.proofs.MappedLists.{flat_more, from_map, from_part, in_map, in_part, part_distinct}
+use Rattle.glue_names.proofs.EachOnce.{once_from, once_has}
+use Rattle.glue_names.proofs.MappedLists.{flat_more, from_map, from_part, in_map, in_part, in_where, part_distinct, where_true}
 use Rattle.glue_naming.proofs.Reserved.{free_no_fixed, free_no_host}
 use Rattle.glue_naming.proofs.Reexports.{besides_from, both_once, reexport_there}
 use Rattle.glue_naming.proofs.WantedNames.{each_wanted, import_there}
@@ -92,10 +92,6 @@ no_enum key w name same e = cc
 no_root : (key : List ℕ) (w : Wanted) (name : JsImportName) → w ≡ root_wanted key → Import name ≡ w.thing → ⊥
 no_root key w name same e = cc
 
-pub in_where : {A : Type 0} (x : A) (xs : List A) (b : Bool) → IsIn x (cond b xs []) → IsIn x xs × (b ≡ true)
-in_where x xs true i = (i, refl)
-in_where x xs false i = absurd i
-
 no_function : (x : AuxExport) (w : Wanted) (name : JsImportName) → IsIn w (function_names x) → Import name ≡ w.thing → ⊥
 no_function x w name i e = only (in_where w (function_wanted (qualified x) ∷ []) (stands_alone x.kind) i).0
   where
@@ -127,14 +123,6 @@ step_described es (instr.CallAdapter id) n i = entry_described es id n i
 step_described es step n i = absurd i
 
 -- a step with this callee is the call of it
-pub callee_is : (step : Instruction) (id : ℕ) → callee step ≡ Some id → step ≡ instr.CallAdapter id
-callee_is (instr.CallAdapter other) id e = cc
-callee_is step id e = cc
-
-pub where_true : {A : Type 0} (x : A) (xs : List A) (b : Bool) → b ≡ true → IsIn x xs → IsIn x (cond b xs [])
-where_true x xs true h i = i
-where_true x xs false h i = absurd (true≢false (sym h))
-
 drawn_is : (name : JsImportName) (o : Option (List ℕ)) (e : JsImportName × List ℕ) → option_map (λ (d : List ℕ). (name, d)) o ≡ Some e
     → (o ≡ Some e.1) × (e.0 ≡ name)
 drawn_is name None e h = cc

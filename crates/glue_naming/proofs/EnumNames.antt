@@ -12,14 +12,14 @@ use Rattle.glue_shared.specs.declared.import.JsImportName.{JsImportName}
 use Rattle.glue_shared.specs.declared.name_map.NameMap.{NameMap}
 use Rattle.glue_shared.specs.declared.settings.Settings.{Settings}
 use Rattle.glue_shared.specs.Names.{fixed_names, host_names}
-use Rattle.glue_check.specs.Publishing.{qualified}
+use Rattle.glue_names.specs.Publishing.{qualified}
 use Rattle.glue_naming.specs.declared.named.Named.TheVariants.{Enum, Import, Function, Namespace}
 use Rattle.glue_naming.specs.declared.named.Wanted.{Wanted}
 use Rattle.glue_naming.specs.Given.{reserved_names}
 use Rattle.glue_naming.specs.Naming.{AreNames, enum_name, function_name, import_name, root_name}
 use Rattle.glue_naming.specs.Wanted.{enum_key, enum_wanted}
 use Rattle.glue_naming.proofs.Arranged.{moved_from}
-use Rattle.glue_naming.proofs.MappedLists.{in_map}
+use Rattle.glue_names.proofs.MappedLists.{in_map}
 use Rattle.glue_naming.proofs.Reserved.{away_fixed, away_host}
 use Rattle.glue_naming.proofs.WantedNames.{enum_there}
 

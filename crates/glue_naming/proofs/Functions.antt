@@ -12,9 +12,9 @@ use Rattle.glue_shared.specs.declared.description.Lowered.{Lowered}
 use Rattle.glue_shared.specs.declared.name_map.NameMap.{NameMap}
 use Rattle.glue_shared.specs.declared.settings.Settings.{Settings}
 use Rattle.glue_shared.specs.Names.{fixed_names, host_names}
-use Rattle.glue_check.specs.Publishing.{qualified}
+use Rattle.glue_names.specs.Publishing.{qualified}
 use Rattle.glue_check.proofs.BuiltForm.{IsBuiltExport}
-use Rattle.glue_check.proofs.Globals.{in_flat, some_of}
+use Rattle.glue_names.proofs.Globals.{in_flat, some_of}
 use Rattle.glue_naming.specs.declared.named.Named.TheVariants.{Function}
 use Rattle.glue_naming.specs.declared.named.Wanted.{Wanted}
 use Rattle.glue_naming.specs.Given.{reserved_names}
@@ -22,7 +22,7 @@ use Rattle.glue_naming.specs.Naming.{AreNames, declared_name, function_name, is_
 use Rattle.glue_naming.specs.Wanted.{function_names, function_wanted}
 use Rattle.glue_naming.proofs.Arranged.{all_are, moved_from}
 use Rattle.glue_naming.proofs.Draws.{all_at}
-use Rattle.glue_naming.proofs.MappedLists.{from_map, in_map}
+use Rattle.glue_names.proofs.MappedLists.{from_map, in_map}
 use Rattle.glue_naming.proofs.Reserved.{free_no_fixed, free_no_host}
 use Rattle.glue_naming.proofs.WantedNames.{function_there}
 

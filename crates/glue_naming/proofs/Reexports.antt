@@ -8,13 +8,13 @@ use Rattle.glue_shared.specs.declared.aux.WasmBindgenAux.{WasmBindgenAux}
 use Rattle.glue_shared.specs.declared.import.JsImportName.{JsImportName}
 use Rattle.glue_exports.proofs.Joined.{apart_each, filter_distinct, from_filter}
 use Rattle.glue_published.specs.Reexports.{Reexport, is_same}
-use Rattle.glue_check.specs.Once.{each_once, has_name}
-use Rattle.glue_check.proofs.EachOnce.{name_in, new_has, once_distinct, once_from}
+use Rattle.glue_names.specs.Once.{each_once, has_name}
+use Rattle.glue_names.proofs.EachOnce.{name_in, new_has, once_distinct, once_from}
 use Rattle.glue_published.proofs.ImportOrder.{import_order_total}
 use Rattle.glue_naming.specs.Arranged.{in_order}
 use Rattle.glue_naming.specs.Reexported.{export_order, names_reexported, reexported_besides}
 use Rattle.glue_naming.proofs.InOrder.{in_order_from, in_order_has}
-use Rattle.glue_naming.proofs.MappedLists.{from_map, in_map}
+use Rattle.glue_names.proofs.MappedLists.{from_map, in_map}
 
 -- ---- lists of names
 

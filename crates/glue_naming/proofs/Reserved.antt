@@ -10,8 +10,8 @@ use Rattle.glue_scope.proofs.Drawn.{with_texts-append, with_texts_keeps, with_te
 use Rattle.glue_shared.specs.declared.description.Lowered.{Lowered}
 use Rattle.glue_shared.specs.declared.settings.Settings.{Settings}
 use Rattle.glue_shared.specs.Names.{fixed_names, host_names, name_at, own_imports, own_names}
-use Rattle.glue_check.specs.Taken.{taken_names}
-use Rattle.glue_check.specs.Given.{values_name}
+use Rattle.glue_names.specs.Taken.{taken_names}
+use Rattle.glue_names.specs.Given.{values_name}
 use Rattle.glue_naming.specs.Given.{closure_export, import_name_at, bundled_names, given_names, reserved_names}
 
 -- ---- lists of given names

@@ -9,9 +9,9 @@ use Rattle.wasm_core.specs.Contents.{Contents}
 use Rattle.glue_shared.specs.declared.settings.Settings.{Settings}
 use Rattle.glue_shared.specs.declared.description.Lowered.{Lowered}
 use Rattle.glue_shared.specs.Names.{own_names}
-use Rattle.glue_check.specs.Given.{values_name}
-use Rattle.glue_check.specs.Publishing.{is_bundler}
-use Rattle.glue_check.specs.Taken.{taken_names}
+use Rattle.glue_names.specs.Given.{values_name}
+use Rattle.glue_names.specs.Publishing.{is_bundler}
+use Rattle.glue_names.specs.Taken.{taken_names}
 
 -- the name of the export at a place, where one stands
 abbrev pub export_name_at : List (Option Export) → ℕ → List (List ℕ)

@@ -17,7 +17,7 @@ use Rattle.glue_naming.specs.declared.named.Named.TheVariants.{Import}
 use Rattle.glue_naming.specs.declared.named.WantedName.TheVariants.{Plain}
 use Rattle.glue_naming.specs.declared.named.Wanted.{Wanted}
 use Rattle.glue_published.specs.Reexports.{is_outside}
-use Rattle.glue_check.specs.Once.{each_once}
+use Rattle.glue_names.specs.Once.{each_once}
 
 -- ---- names that adapters call
 

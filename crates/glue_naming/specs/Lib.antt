@@ -5,7 +5,6 @@ pub mod Pairs
 pub mod Imported
 pub mod Reexported
 pub mod Handed
-pub mod ItemNames
 pub mod Wanted
 pub mod Naming
 pub mod Listed

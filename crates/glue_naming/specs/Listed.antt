@@ -5,7 +5,7 @@ use Rattle.glue_shared.specs.declared.description.Lowered.{Lowered}
 use Rattle.glue_shared.specs.declared.import.JsImportName.{JsImportName}
 use Rattle.glue_shared.specs.declared.name_map.NameMap.{NameMap}
 use Rattle.glue_shared.specs.declared.settings.Settings.{Settings}
-use Rattle.glue_check.specs.Once.{each_once}
+use Rattle.glue_names.specs.Once.{each_once}
 use Rattle.glue_naming.specs.Imported.{names_called}
 use Rattle.glue_naming.specs.Naming.{import_name}
 use Rattle.glue_naming.specs.Reexported.{reexported_besides}

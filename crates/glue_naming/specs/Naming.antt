@@ -6,12 +6,12 @@ use Rattle.glue_shared.specs.declared.description.Lowered.{Lowered}
 use Rattle.glue_shared.specs.declared.import.JsImportName.{JsImportName}
 use Rattle.glue_shared.specs.declared.name_map.NameMap.{NameMap}
 use Rattle.glue_shared.specs.declared.settings.Settings.{Settings}
-use Rattle.glue_check.specs.Publishing.{qualified}
+use Rattle.glue_names.specs.Publishing.{qualified}
 use Rattle.glue_naming.specs.declared.named.Named.TheVariants.{Enum, Import, Function, Namespace}
 use Rattle.glue_naming.specs.declared.named.Wanted.{Wanted}
 use Rattle.glue_naming.specs.Drawing.{IsDrawnMap, AreGood, name_in}
 use Rattle.glue_naming.specs.Given.{reserved_names}
-use Rattle.glue_naming.specs.ItemNames.{item_map, item_names}
+use Rattle.taken_items.specs.ItemNames.{item_map, item_names}
 use Rattle.glue_naming.specs.Wanted.{AreWanted, enum_key}
 
 -- the name that the function of an export was given

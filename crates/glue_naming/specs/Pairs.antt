@@ -5,7 +5,7 @@ use Rattle.std.specs.declared.cmp.Ordering.{Ordering}
 use Rattle.wasm_core.specs.ids.ImportId.{ImportId}
 use Rattle.wasm_core.specs.declared.types.Import.{Import}
 use Rattle.glue_shared.specs.declared.description.Lowered.{Lowered}
-pub use Rattle.glue_check.specs.Handed.{is_among, own_pairs}
+pub use Rattle.glue_names.specs.Handed.{is_among, own_pairs}
 use Rattle.glue_naming.specs.Arranged.{text_order}
 
 -- the name of the import at a place, where one stands

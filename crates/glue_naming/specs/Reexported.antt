@@ -7,7 +7,7 @@ use Rattle.glue_shared.specs.declared.description.Lowered.{Lowered}
 use Rattle.glue_shared.specs.declared.import.JsImportName.{JsImportName}
 use Rattle.glue_shared.specs.declared.settings.Settings.{Settings}
 use Rattle.glue_published.specs.Reexports.{Reexport}
-use Rattle.glue_check.specs.Once.{each_new}
+use Rattle.glue_names.specs.Once.{each_new}
 use Rattle.glue_naming.specs.declared.named.Wanted.{Wanted}
 use Rattle.glue_naming.specs.Arranged.{in_order, text_order}
 use Rattle.glue_naming.specs.Imported.{import_wanted, names_called}

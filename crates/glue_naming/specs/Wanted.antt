@@ -11,7 +11,7 @@ use Rattle.glue_shared.specs.declared.description.Lowered.{Lowered}
 use Rattle.glue_shared.specs.declared.settings.Settings.{Settings}
 use Rattle.glue_shared.specs.Paths.{qualified_name}
 use Rattle.glue_published.specs.Roots.{AreRoots}
-use Rattle.glue_check.specs.Publishing.{qualified}
+use Rattle.glue_names.specs.Publishing.{qualified}
 use Rattle.glue_published.specs.Things.{stands_alone}
 use Rattle.glue_naming.specs.declared.named.Named.TheVariants.{Class, Registry, Enum, Function, Namespace}
 use Rattle.glue_naming.specs.declared.named.WantedName.TheVariants.{Plain, After}

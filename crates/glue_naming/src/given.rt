@@ -4,23 +4,14 @@ ghost use Rattle.std.specs.List.{flat_map};
 ghost use Rattle.std.specs.FinSet as set;
 ghost use Rattle.values.specs.TextSet.{with_texts};
 ghost use Rattle.glue_shared.specs.Names as names;
-ghost use Rattle.glue_check.specs.Given.{values_name};
+ghost use Rattle.glue_names.specs.Given.{values_name};
 ghost use Rattle.glue_naming.specs.Given as spec;
 
-use glue_check::{taken_names, values_name};
+use glue_names::{taken_names, values_name, with_name};
 use glue_scope::Names;
 use glue_shared::{AdapterId, AuxStringEnum, Lowered, Settings, Target, own_imports};
 use std::alloc::{AllocError, Global};
 use wasm_core::{Export, ExportId, Import, ImportId, Module};
-
-// With a name.
-pub(crate) fn with_name<N: Names>(scope: N, name: &str) -> Result<N, AllocError>
-    ensures bound { IfOk result (λ more. N.bound more ≡ set.insert (N.bound scope) name.now) }
-{
-    let mut more = scope;
-    more.reserve(name)?;
-    Ok(more)
-}
 
 // With the name of an export, where one stands.
 fn with_export<N: Names>(

@@ -3,7 +3,7 @@ ghost use Rattle.std.specs.Prelude.{◌≡◌, ◌++◌, ◌∷◌, [], IfOk, On
 ghost use Rattle.std.specs.List.{flat_map};
 ghost use Rattle.std.specs.Option.{option_copied};
 ghost use Rattle.glue_shared.specs.Names as names;
-ghost use Rattle.glue_check.specs.Once as once;
+ghost use Rattle.glue_names.specs.Once as once;
 ghost use Rattle.glue_naming.specs.Imported as spec;
 
 use crate::named::{Named, Wanted, WantedName};

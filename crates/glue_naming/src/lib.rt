@@ -21,10 +21,9 @@
 //! that were drawn for it, each once (`specs/Listed.antt`). `pairs_by_import` (`sorted`) gives the pairs in the order in which imports are named,
 //! and `own_places_by_name` the places of own imports in the order in which the crate above defines them.
 //!
-//! `item_names` (`named`) gives the items of the module that own imports ask for, each once, with the names of the exports that give them, and
-//! `added_exports` (`added`) the exports that have to be added for that (`specs/ItemNames.antt`); a name that is added is no other export's.
+//! The map of names also has those of the exports that give items of the module, which `item_names` draws in a scope of their own.
 //!
-//! Stands on `glue_check`, `glue_published`, `glue_exports`, `glue_imports`, `glue_steps`, `glue_scope`, `glue_words`, `glue_shared` and
+//! Stands on `glue_check`, `glue_names`, `taken_items`, `glue_published`, `glue_exports`, `glue_imports`, `glue_steps`, `glue_scope`, `glue_words`, `glue_shared` and
 //! `wasm_core`. It knows no item.
 #![tactic(auto)]
 
@@ -33,7 +32,6 @@ mod drawing;
 mod given;
 mod handed;
 mod imported;
-mod items;
 mod listed;
 mod named;
 mod naming;
@@ -45,7 +43,6 @@ mod tests;
 pub use asked::wanted;
 pub use drawing::name_all;
 pub use handed::handed_imports;
-pub use items::{added_exports, item_names};
 pub use listed::drawn_imports;
 pub use named::{Named, Wanted, WantedName, name_in};
 pub use naming::{draw_names, function_name, import_name, names_of};

@@ -7,12 +7,12 @@ ghost use Rattle.glue_naming.specs.Naming as spec;
 use crate::asked::wanted;
 use crate::drawing::name_all;
 use crate::given::reserved_scope;
-use crate::items::{item_map, item_names};
 use crate::named::{Named, name_in};
 use glue_check::{Checked, qualified};
 use glue_scope::Names;
 use glue_shared::{AuxExport, JsImportName, Lowered, NameMap, Settings};
 use std::alloc::{AllocError, Global};
+use taken_items::{item_map, item_names};
 use values::Text;
 
 /// The names that are drawn for what is described, and those of the exports that give items of the module. Want of memory is the only error.

@@ -4,4 +4,4 @@ use Rattle.glue_check.specs.Missing.{adapter_lacks}
 use Rattle.glue_check.proofs.missing.first_of_adapters.Given as goal
 
 abbrev pub invariant-loop-id : goal.invariant-loop-id
-invariant-loop-id l = first_of (adapter_lacks l.settings) l.id-iterator ≡ first_of (adapter_lacks l.settings) l.lowered.wit.adapters
+invariant-loop-id l = first_of (adapter_lacks l.settings l.lowered) l.id-iterator ≡ first_of (adapter_lacks l.settings l.lowered) l.lowered.wit.adapters

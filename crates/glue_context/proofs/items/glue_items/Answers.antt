@@ -21,7 +21,7 @@ returns g c =
     let places = map (λ (id : ImportId). id.0) c.in_ok-places.places.items in
     record {
       items = glue_made c.args.settings.now c.args.names.now c.args.lowered.now pairs places c.in_ok-called.called (frame_by c.in_ok-frame.frame)
-          c.in_ok-groups.groups c.in_ok-front.front c.in_ok-items.items made.0 c.in_ok-loading.loading c.helper_parts.result
+          c.in_ok-groups.groups c.in_ok-front.front c.in_ok-items.items made.0 c.in_ok-loading.loading c.in_ok-parts.parts
           c.in_ok-pairs.ensures.sorted
           c.in_ok-places.ensures.sorted
           (rw c.as_slice.ensures.value at c.in_ok-called.ensures.listed)
@@ -31,5 +31,6 @@ returns g c =
           made.1.0
           made.1.1
           (rw (c.has_start.ensures.test, ap (λ (f : Frame). f.strings) c.in_ok-frame.ensures.parts) at c.in_ok-loading.ensures.item)
-          c.helper_parts.ensures.parts;
+          c.in_ok-parts.ensures.parts
+          c.in_ok-parts.ensures.few;
     }

@@ -1,6 +1,6 @@
 use Rattle.std.proofs.Common.{◌≡◌, map, drop}
 use Rattle.values.specs.TextSet.{with_texts}
-use Rattle.glue_check.specs.Given.{values_name}
+use Rattle.glue_names.specs.Given.{values_name}
 use Rattle.glue_naming.proofs.given.with_enums.Given as goal
 
 abbrev pub invariant-loop-texts : goal.invariant-loop-texts

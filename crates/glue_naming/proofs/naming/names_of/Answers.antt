@@ -1,6 +1,6 @@
 use Rattle.std.proofs.Common.{ap, ◌∙◌}
-use Rattle.glue_naming.specs.ItemNames.{item_map}
-use Rattle.glue_naming.proofs.ItemNames.{are_names}
+use Rattle.taken_items.specs.ItemNames.{item_map}
+use Rattle.glue_naming.proofs.AllNames.{are_names}
 use Rattle.glue_naming.proofs.naming.names_of.Goals as goal
 
 pub returns : goal.returns

@@ -1,6 +1,0 @@
-use Rattle.std.proofs.Common.{◌≡◌, ◌++◌, take}
-use Rattle.glue_check.specs.Omitted.{omitted_names}
-use Rattle.glue_check.proofs.omitted.push_omitted_names.Given as goal
-
-abbrev pub invariant-loop-import : goal.invariant-loop-import
-invariant-loop-import l = l.list ≡ l.initial.list ++ omitted_names l.omitted (take l.import-index l.imports)

@@ -1,0 +1,10 @@
+pub mod Called
+mod Described
+pub mod EachOnce
+pub mod GivenNames
+pub mod Globals
+pub mod MappedLists
+pub mod OwnNames
+pub mod SameNames
+mod SeenNames
+pub mod TakenNames

@@ -1,0 +1,7 @@
+use Rattle.std.proofs.Common.{◌≡◌, drop}
+use Rattle.glue_faults.specs.First.{first_of}
+use Rattle.glue_names.specs.Naming.{bad_reexported}
+use Rattle.glue_names.proofs.naming.first_bad_reexported.Given as goal
+
+abbrev pub invariant-loop-entry : goal.invariant-loop-entry
+invariant-loop-entry l = first_of (bad_reexported l.omitted) (drop l.entry-index l.entries) ≡ first_of (bad_reexported l.omitted) l.entries

@@ -1,0 +1,9 @@
+pub mod Given
+pub mod Handed
+pub mod Modules
+pub mod Naming
+pub mod Omitted
+pub mod Once
+pub mod Printed
+pub mod Publishing
+pub mod Taken

@@ -1,0 +1,28 @@
+-- The code of the adapters that become functions: those of exports, and those of own imports.
+use Rattle.std.specs.Prelude.{ℕ, List, [], ◌++◌, if◌then◌else◌}
+use Rattle.std.specs.List.{flat_map}
+use Rattle.std.specs.Ordering.{nat_cmp}
+use Rattle.values.specs.Map.{look_up}
+use Rattle.wasm_core.specs.ids.ImportId.{ImportId}
+use Rattle.glue_shared.specs.declared.adapter.Instruction.{Instruction}
+use Rattle.glue_shared.specs.declared.aux.AuxExport.{AuxExport}
+use Rattle.glue_shared.specs.declared.description.Lowered.{Lowered}
+use Rattle.glue_shared.specs.declared.settings.Settings.{Settings}
+use Rattle.glue_shared.specs.Names.{has_number, code_of, own_imports}
+
+-- the code of an adapter, by its id
+abbrev pub code_by : Lowered → ℕ → List Instruction
+code_by l id = code_of (look_up nat_cmp l.wit.adapters id)
+
+-- that of an export's adapter
+abbrev pub export_code : Lowered → AuxExport → List Instruction
+export_code l e = code_by l e.adapter
+
+-- that of a pair's, where its import is one of these
+abbrev pub pair_code : List ℕ → Lowered → ImportId × ℕ → List Instruction
+pair_code own l pair = if has_number pair.0.0 own then code_by l pair.1 else []
+
+-- the instructions of all
+abbrev pub printed_code : Settings → Lowered → List Instruction
+printed_code s l =
+    flat_map (export_code l) l.aux.exports ++ flat_map (pair_code (own_imports s l.«module» l.wit l.aux) l) l.wit.implements

@@ -1,0 +1,2 @@
+pub mod ItemNames
+mod Joined

@@ -1,0 +1,173 @@
+//! The items of the module that the adapters which become functions ask for.
+ghost use Rattle.std.specs.Prelude.{◌≡◌, ◌++◌, IfOk, OnOk};
+ghost use Rattle.std.specs.List.{flat_map};
+ghost use Rattle.glue_shared.specs.Roots.{listed};
+ghost use Rattle.glue_steps.specs.Needed.{needed_items};
+ghost use Rattle.glue_names.specs.Printed.{code_by};
+ghost use Rattle.taken_items.specs.Asked as spec;
+
+use glue_imports::given_item;
+use glue_names::own_places;
+use glue_shared::{AdapterId, AuxExport, IdSet, Instruction, Lowered, Settings, code_of};
+use glue_steps::{Indexed, needed_items};
+use std::alloc::{AllocError, Global};
+use values::Seq;
+use wasm_core::{ExportItem, ImportId};
+
+// The item that is given by what an instruction calls.
+fn called_item(indexed: &Indexed<'_>, instruction: &Instruction) -> Option<ExportItem>
+    ensures item { listed result ≡ spec.called_item indexed.now instruction.now }
+{
+    match instruction {
+        Instruction::CallAdapter(id) => {
+            given_item(indexed.lowered(), indexed.described_import(*id)?)
+        }
+        _ => None,
+    }
+}
+
+// Adds that item.
+fn push_called(
+    indexed: &Indexed<'_>,
+    instruction: &Instruction,
+    asked: &mut Seq<ExportItem>,
+) -> Result<(), AllocError>
+    ensures pushed { OnOk result (asked.new ≡ asked.old ++ spec.called_item indexed.now instruction.now) }
+{
+    if let Some(item) = called_item(indexed, instruction) {
+        asked.push(item)?;
+    }
+    Ok(())
+}
+
+// Adds the items that an instruction takes itself.
+fn push_needed(
+    alloc: Global,
+    settings: &Settings,
+    lowered: &Lowered,
+    instruction: &Instruction,
+    asked: &mut Seq<ExportItem>,
+) -> Result<(), AllocError>
+    ensures pushed { OnOk result (asked.new ≡ asked.old ++ needed_items settings.now lowered.now instruction.now) }
+{
+    let needed = needed_items(alloc, settings, lowered, instruction)?;
+    asked.append(Seq::from_vec(needed))
+}
+
+// Adds the items that an instruction asks for.
+fn push_asked(
+    alloc: Global,
+    settings: &Settings,
+    indexed: &Indexed<'_>,
+    instruction: &Instruction,
+    asked: &mut Seq<ExportItem>,
+) -> Result<(), AllocError>
+    ensures pushed { OnOk result (asked.new ≡ asked.old ++ spec.instruction_asks settings.now indexed.now instruction.now) }
+{
+    push_called(indexed, instruction, asked)?;
+    push_needed(alloc, settings, indexed.lowered(), instruction, asked)?;
+    Ok(())
+}
+
+// Adds those that a code asks for.
+fn push_code(
+    alloc: Global,
+    settings: &Settings,
+    indexed: &Indexed<'_>,
+    code: &[Instruction],
+    asked: &mut Seq<ExportItem>,
+) -> Result<(), AllocError>
+    ensures pushed { OnOk result (asked.new ≡ asked.old ++ spec.code_asks settings.now indexed.now code.now) }
+{
+    for instruction in code {
+        push_asked(alloc, settings, indexed, instruction, asked)?;
+    }
+    Ok(())
+}
+
+// Adds those that an adapter asks for.
+fn push_adapter(
+    alloc: Global,
+    settings: &Settings,
+    indexed: &Indexed<'_>,
+    id: AdapterId,
+    asked: &mut Seq<ExportItem>,
+) -> Result<(), AllocError>
+    ensures pushed { OnOk result (asked.new ≡ asked.old ++ spec.code_asks settings.now indexed.now (code_by indexed.now id)) }
+{
+    let code = code_of(indexed.lowered().wit.adapters.get(&id));
+    push_code(alloc, settings, indexed, code, asked)
+}
+
+// Adds those that the adapter of a pair asks for, where the import is an own one.
+fn push_pair(
+    alloc: Global,
+    settings: &Settings,
+    own: &IdSet,
+    indexed: &Indexed<'_>,
+    pair: &(ImportId, AdapterId),
+    asked: &mut Seq<ExportItem>,
+) -> Result<(), AllocError>
+    ensures pushed { OnOk result (asked.new ≡ asked.old ++ spec.pair_asks settings.now own.now indexed.now pair.now) }
+{
+    if own.has(pair.0.0) {
+        push_adapter(alloc, settings, indexed, pair.1, asked)
+    } else {
+        Ok(())
+    }
+}
+
+// Those that the adapters of exports ask for.
+fn exports_asked(
+    alloc: Global,
+    settings: &Settings,
+    indexed: &Indexed<'_>,
+    exports: &[AuxExport],
+) -> Result<Seq<ExportItem>, AllocError>
+    ensures asked { IfOk result (λ asked. asked ≡ flat_map (spec.export_asks settings.now indexed.now) exports.now) }
+{
+    let mut asked = Seq::new(alloc);
+    for export in exports {
+        push_adapter(alloc, settings, indexed, export.adapter, &mut asked)?;
+    }
+    Ok(asked)
+}
+
+// Those that the adapters of these pairs ask for.
+fn pairs_asked(
+    alloc: Global,
+    settings: &Settings,
+    own: &IdSet,
+    indexed: &Indexed<'_>,
+    pairs: &[(ImportId, AdapterId)],
+) -> Result<Seq<ExportItem>, AllocError>
+    ensures asked { IfOk result (λ asked. asked ≡ flat_map (spec.pair_asks settings.now own.now indexed.now) pairs.now) }
+{
+    let mut asked = Seq::new(alloc);
+    for pair in pairs {
+        push_pair(alloc, settings, own, indexed, pair, &mut asked)?;
+    }
+    Ok(asked)
+}
+
+/// Those that the adapters of exports and of own imports ask for. Want of memory is the only error.
+pub(crate) fn asked_items(
+    alloc: Global,
+    settings: &Settings,
+    lowered: &Lowered,
+) -> Result<Seq<ExportItem>, AllocError>
+    ensures asked { IfOk result (λ asked. asked ≡ spec.asked_items settings.now lowered.now) }
+{
+    let own = own_places(alloc, settings, lowered)?;
+    let indexed = Indexed::new(alloc, lowered)?;
+    let mut asked = exports_asked(alloc, settings, &indexed, lowered.aux.exports.as_slice())?;
+    let others = pairs_asked(
+        alloc,
+        settings,
+        &own,
+        &indexed,
+        lowered.wit.implements.as_slice(),
+    )?;
+    asked.append(others)?;
+    Ok(asked)
+}
