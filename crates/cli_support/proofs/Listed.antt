@@ -17,7 +17,7 @@ use Rattle.std.proofs.lemmas.List.Elements.{filter-append}
 use Rattle.std.proofs.lemmas.List.Folds.{flat_map-map}
 use Rattle.std.proofs.lemmas.Grind.{flat_map-append}
 use Rattle.glue_words.specs.Limits.{is_computed}
-use Rattle.glue_check.specs.Taken.{brought}
+use Rattle.glue_names.specs.Taken.{brought}
 use Rattle.glue_context.specs.Keys.{import_properties, imported_properties, other_properties, member_name, described_keys}
 use Rattle.glue_shared.specs.declared.aux.WasmBindgenAux.{WasmBindgenAux}
 use Rattle.glue_shared.specs.declared.import.AuxImport.{AuxImport}

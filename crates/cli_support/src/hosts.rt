@@ -1,7 +1,7 @@
 //! The names of the outside, as a list.
 ghost use Rattle.std.specs.Prelude.{◌≡◌, ◌∷◌, ◌++◌, [], IfOk, OnOk, map};
 ghost use Rattle.std.specs.List.{flat_map, list_any};
-ghost use Rattle.glue_check.specs.Taken.{brought};
+ghost use Rattle.glue_names.specs.Taken.{brought};
 ghost use Rattle.glue_shared.specs.Names as names;
 ghost use Rattle.cli_support.specs.Listed.{IsSortedSet};
 

@@ -20,6 +20,8 @@ mod described;
 #[cfg(test)]
 mod edits;
 #[cfg(test)]
+mod memory;
+#[cfg(test)]
 mod modules;
 #[cfg(test)]
 mod omitted;
@@ -31,5 +33,7 @@ mod parts;
 mod published;
 #[cfg(test)]
 mod reexported;
+#[cfg(test)]
+mod references;
 #[cfg(test)]
 mod unbuilt;

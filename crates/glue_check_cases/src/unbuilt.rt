@@ -168,22 +168,30 @@ const GROUPS: &[Group] = &[
         RESULTS,
         "NotBuilt instructions",
         &[
-            r#"["string"]"#,
             r#"[{"class":"C"}]"#,
             r#"[{"enum":"E"}]"#,
             r#"[{"string_enum":"E"}]"#,
             r#"[{"union":"U"}]"#,
-            r#"[{"vec":"U8"}]"#,
-            r#"[{"option":"s32"}]"#,
+            r#"[{"option":{"class":"C"}}]"#,
         ],
     ),
     (
         ADD,
         ARGUMENTS,
         "",
-        &[r#"["u32"]"#, r#"["bool"]"#, r#"["externref"]"#],
+        &[
+            r#"["u32"]"#,
+            r#"["bool"]"#,
+            r#"["externref"]"#,
+            r#"["string"]"#,
+        ],
     ),
-    (ADD, ARGUMENTS, "NotBuilt instructions", &[r#"["string"]"#]),
+    (
+        ADD,
+        ARGUMENTS,
+        "NotBuilt instructions",
+        &[r#"[{"enum":"E"}]"#, r#"[{"option":{"union":"U"}}]"#],
+    ),
     (
         ADD,
         INSTRUCTION,
@@ -228,10 +236,6 @@ const GROUPS: &[Group] = &[
         INSTRUCTION,
         "NotBuilt instructions",
         &[
-            r#"["StringToMemory",1,null,0]"#,
-            r#"["OptionStringToMemory",1,1,0]"#,
-            r#"["MemoryToString",0]"#,
-            r#"["DeferFree",1,1]"#,
             r#"["Retptr",16]"#,
             r#"["LoadRetptr",0,"i32",0]"#,
             r#"["StoreRetptr",0,"i64",0]"#,
@@ -241,8 +245,6 @@ const GROUPS: &[Group] = &[
             r#"["EnumIndex","E"]"#,
             r#"["EnumText","E"]"#,
             r#"["Closure",0,true]"#,
-            r#"["VecFromWasm","U8",0]"#,
-            r#"["VecToWasm","U8",1,0]"#,
         ],
     ),
     // What is built of one argument without a result.
@@ -417,24 +419,17 @@ const UNWRAPPING: Edit = (
     r#""code":[["ArgGet",0],["IndexFromOwned"],["ArgGet",1],["I32FromBool"],["UnwrapResult"],["ArgGet",0],["Int32ToWasm"]"#,
 );
 
-/// Handles, where values are kept in an object table, and in a table of the module.
-const HANDLES: &[AskedCase] = &[
-    (&[], (ADD, &[TAKING], "")),
-    (&[], (ADD, &[LOOKING], "")),
-    (&[], (ADD, &[GIVING], "")),
-    (&[], (ADD, &[UNWRAPPING], "")),
-    (&[Asked::Others], (ADD, &[TAKING], "NotBuilt instructions")),
-    (&[Asked::Others], (ADD, &[LOOKING], "NotBuilt instructions")),
-    (&[Asked::Others], (ADD, &[GIVING], "NotBuilt instructions")),
-    (
-        &[Asked::Others],
-        (ADD, &[UNWRAPPING], "NotBuilt instructions"),
-    ),
+/// Handles of the object table.
+const HANDLES: &[Case] = &[
+    (ADD, &[TAKING], ""),
+    (ADD, &[LOOKING], ""),
+    (ADD, &[GIVING], ""),
+    (ADD, &[UNWRAPPING], ""),
 ];
 
 #[test]
 fn handles_are_built_of_the_object_table(rt: HostRuntime) -> Result<(), AllocError> {
-    assert_asked(&rt, rt.alloc(), HANDLES)
+    assert_cases(&rt, rt.alloc(), HANDLES)
 }
 
 #[test]

@@ -7,6 +7,8 @@ mod binding;
 #[cfg(test)]
 mod compare;
 #[cfg(test)]
+mod memory;
+#[cfg(test)]
 mod operands;
 #[cfg(test)]
 mod tree;

@@ -1,94 +1,7 @@
-//! Runs of adapters' functions.
-use crate::compare::assert_told;
-use crate::evaluator::evaluated;
+//! Runs of adapters that pass numbers, truths and objects.
 use crate::run::{Answer, Value};
-use glue_binding::bind;
-use glue_inputs::texts;
-use glue_scope::IdentScope;
-use glue_steps::Step;
-use std::alloc::{AllocError, Global};
-use std::process::Abort;
-use values::Text;
-
-/// A step of a vector, by what its text is.
-#[derive(Clone, Copy)]
-enum Row {
-    Parameter(u32),
-    Unsigned,
-    Unsigned64,
-    NotZero,
-    /// The call of an export with so many operands, which has a result.
-    Export(&'static str, usize),
-    /// The call of a helper with one operand.
-    Helper(&'static str),
-    Lent,
-    Unwrapped,
-}
-
-fn step(alloc: Global, row: Row) -> Result<Step, AllocError> {
-    Ok(match row {
-        Row::Parameter(place) => Step::Parameter(place),
-        Row::Unsigned => Step::ToUnsigned,
-        Row::Unsigned64 => Step::ToUnsigned64,
-        Row::NotZero => Step::IsNotZero,
-        Row::Export(name, params) => Step::CallExport {
-            name: Text::from_str(alloc, name)?,
-            params,
-            has_result: true,
-        },
-        Row::Helper(name) => Step::CallHelper {
-            helper: Text::from_str(alloc, name)?,
-            params: 1,
-        },
-        Row::Lent => Step::IndexFromBorrow,
-        Row::Unwrapped => Step::UnwrapResult {
-            helper: Text::from_str(alloc, "takeObject")?,
-        },
-    })
-}
-
-/// The steps, the arguments, the answers, and the trace with the end.
-type Vector = (
-    &'static [Row],
-    &'static [Value],
-    &'static [Answer],
-    &'static str,
-);
-
-fn trace_of(alloc: Global, vector: &Vector) -> Result<String, AllocError> {
-    let (steps, arguments, answers, _) = vector;
-    let mut made = Vec::new(alloc);
-    for row in steps.iter() {
-        made.push(step(alloc, *row)?)?;
-    }
-    let wanted = texts(alloc, &["a", "b"])?;
-    let function = bind::<IdentScope>(alloc, &made, wanted.as_slice())?;
-    evaluated(
-        alloc,
-        function.params.as_slice(),
-        function.tree.as_slice(),
-        arguments,
-        answers,
-    )
-}
-
-fn assert_vectors<H: Abort>(rt: &H, alloc: Global, vectors: &[Vector]) -> Result<(), AllocError> {
-    for vector in vectors {
-        let traced = trace_of(alloc, vector);
-        assert_told(rt, traced, vector.3)?;
-    }
-    Ok(())
-}
-
-const NUMBER: Answer = Answer::Gives(Value::Number(7));
-
-const DONE: Answer = Answer::Gives(Value::Undefined);
-
-const OBJECT: Value = Value::Other("object");
-
-const OTHER: Value = Value::Other("other");
-
-const FAULT: Answer = Answer::Throws(Value::Other("fault"));
+use crate::vectors::{DONE, FAULT, NUMBER, OBJECT, OTHER, Row, Vector, assert_vectors};
+use std::alloc::AllocError;
 
 const HEAP: Answer = Answer::Gives(Value::Other("heap"));
 
@@ -242,9 +155,9 @@ const PASSED: &[Vector] = &[
     (
         &[
             Row::Parameter(0),
-            Row::Helper("addHeapObject"),
+            Row::Helper("addHeapObject", 1),
             Row::Export("f", 1),
-            Row::Helper("takeObject"),
+            Row::Helper("takeObject", 1),
         ],
         &[OBJECT],
         &[HANDLE, NEXT, Answer::Gives(OTHER)],

@@ -102,6 +102,7 @@ pub fn value_of(run: &mut Run<'_>, alloc: Global, e: &Expr) -> Result<Came, Allo
         Expr::Local(name) => Ok(Came::Value(run.local(name.as_str()))),
         Expr::Host(name) => Ok(Came::Value(host_value(name.as_str()))),
         Expr::Module(name) => named(run, alloc, "read ", name.as_str()),
+        Expr::Wasm(name) => named(run, alloc, "read wasm.", name.as_str()),
         Expr::Unary(UnaryOperator::Increment, operand) => match operand.get() {
             Expr::Module(name) => increment(run, alloc, name.as_str()),
             _ => Ok(Came::Ended),
@@ -115,6 +116,16 @@ pub fn value_of(run: &mut Run<'_>, alloc: Global, e: &Expr) -> Result<Came, Allo
                 other => Ok(other),
             }
         }
+        Expr::Cond(test, first, second) => match value_of(run, alloc, test.get())? {
+            Came::Value(value) => {
+                if is_true(value) {
+                    value_of(run, alloc, first.get())
+                } else {
+                    value_of(run, alloc, second.get())
+                }
+            }
+            other => Ok(other),
+        },
         Expr::Call(f, arguments) => {
             let mut entry = String::new(alloc);
             let front = push_callee(run, alloc, f.get(), &mut entry)?;

@@ -12,4 +12,8 @@ mod compare;
 #[cfg(test)]
 mod evaluator;
 #[cfg(test)]
+mod memory;
+#[cfg(test)]
 mod run;
+#[cfg(test)]
+mod vectors;

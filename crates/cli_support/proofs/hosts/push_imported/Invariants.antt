@@ -1,6 +1,6 @@
 use Rattle.std.proofs.Common.{◌≡◌, ◌++◌, take}
 use Rattle.std.specs.List.{flat_map}
-use Rattle.glue_check.specs.Taken.{brought}
+use Rattle.glue_names.specs.Taken.{brought}
 use Rattle.cli_support.proofs.hosts.push_imported.Given as goal
 
 abbrev pub invariant-loop-import : goal.invariant-loop-import
