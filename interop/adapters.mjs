@@ -142,12 +142,279 @@ const checks = {
     },
 };
 
+/** Texts, what arrives where they went in, and their bytes in UTF-8 (Encoding, 8.2.2; a lone surrogate is U+FFFD). */
+const TEXTS = [
+    ["", "", []],
+    ["a", "a", [0x61]],
+    ["\0\x7f", "\0\x7f", [0x00, 0x7f]],
+    ["\x80\u07ff", "\x80\u07ff", [0xc2, 0x80, 0xdf, 0xbf]],
+    ["\u0800\uffff", "\u0800\uffff", [0xe0, 0xa0, 0x80, 0xef, 0xbf, 0xbf]],
+    ["\ud7ff\ue000", "\ud7ff\ue000", [0xed, 0x9f, 0xbf, 0xee, 0x80, 0x80]],
+    ["\u{10000}\u{10ffff}", "\u{10000}\u{10ffff}", [0xf0, 0x90, 0x80, 0x80, 0xf4, 0x8f, 0xbf, 0xbf]],
+    ["a\u{e9}\u{1f600}z", "a\u{e9}\u{1f600}z", [0x61, 0xc3, 0xa9, 0xf0, 0x9f, 0x98, 0x80, 0x7a]],
+    ["\u{20ac}a", "\u{20ac}a", [0xe2, 0x82, 0xac, 0x61]],
+    // A byte order mark is a character as any other.
+    ["\ufeffa\ufeff", "\ufeffa\ufeff", [0xef, 0xbb, 0xbf, 0x61, 0xef, 0xbb, 0xbf]],
+    ["\ud800", "\ufffd", [0xef, 0xbf, 0xbd]],
+    ["a\udc00b", "a\ufffdb", [0x61, 0xef, 0xbf, 0xbd, 0x62]],
+    ["\ude00\ud83d", "\ufffd\ufffd", [0xef, 0xbf, 0xbd, 0xef, 0xbf, 0xbd]],
+    ["\ud83d\ud83d\ude00", "\ufffd\u{1f600}", [0xef, 0xbf, 0xbd, 0xf0, 0x9f, 0x98, 0x80]],
+];
+
+/** Texts of 100,000 units of UTF-16, and how many bytes they have. */
+const LONG = [
+    ["x".repeat(100000), 100000],
+    ["\u{e9}".repeat(100000), 200000],
+    ["\u{20ac}".repeat(100000), 300000],
+    ["\u{1f600}".repeat(50000), 200000],
+    ["x".repeat(99999) + "\u{e9}", 100001],
+    ["\u{e9}" + "x".repeat(99999), 100001],
+];
+
+/** Of each kind of integers its arrays, how many bytes one takes, some of them, and the one whose bytes are all 255. */
+const KINDS = {
+    I8: [Int8Array, 1, [-128, -1, 0, 1, 127], -1],
+    U8: [Uint8Array, 1, [0, 1, 127, 128, 255], 255],
+    I16: [Int16Array, 2, [-32768, -1, 0, 258, 32767], -1],
+    U16: [Uint16Array, 2, [0, 1, 258, 65535], 65535],
+    I32: [Int32Array, 4, [-2147483648, -1, 0, 16909060, 2147483647], -1],
+    U32: [Uint32Array, 4, [0, 1, 16909060, 4294967295], 4294967295],
+    I64: [BigInt64Array, 8, [-9223372036854775808n, -1n, 0n, 72623859790382856n, 9223372036854775807n], -1n],
+    U64: [BigUint64Array, 8, [0n, 1n, 72623859790382856n, 18446744073709551615n], 18446744073709551615n],
+};
+
+/** Values of every kind. */
+const VALUES = [{ a: 1 }, "text", 1.5, -0, 3n, true, undefined, null, NaN, Symbol.iterator, () => 1, [1, 2]];
+
+const error = new Error("thrown");
+
+const throwing = () => {
+    throw error;
+};
+
+const isError = (thrown) => thrown === error;
+
+/** Nothing is in use. */
+function assertFreed(state, ...more) {
+    assert.deepEqual(state(), [0, 0, ...more]);
+}
+
+/** Vectors of any values, which leave no memory and no value in use. */
+function checkValues(pass, same, state, last) {
+    let seen;
+    globalThis.see = (all) => (seen = all);
+    const many = Array.from({ length: 5000 }, (_, place) => ({ place }));
+    for (const given of [[], [undefined], VALUES, [VALUES[0], VALUES[0]], many]) {
+        pass(given);
+        assert.ok(Array.isArray(seen));
+        assert.equal(seen.length, given.length);
+        assert.ok(seen.every((value, place) => Object.is(value, given[place])));
+        assertFreed(state, 0);
+        assert.deepEqual(last(), [given.length, 4]);
+        // It comes out as it went in.
+        const back = same(given, given.length);
+        assert.ok(Array.isArray(back));
+        assert.equal(back.length, given.length);
+        assert.ok(back.every((value, place) => Object.is(value, given[place])));
+        assertFreed(state, 0);
+        assert.deepEqual(last(), [given.length, 4]);
+    }
+    // The import takes what it is given, and may throw then.
+    globalThis.see = throwing;
+    assert.throws(() => pass(VALUES), isError);
+    assertFreed(state, 0);
+}
+
+/** Values in a table of references. The last of the three counts is that of its places in use. */
+function checkReferences({ pass, same, keep, seen, taken, used, looked, made, settled, state, last }) {
+    assertFreed(state, 0);
+    checkValues(pass, same, state, last);
+    // A given value stays, is seen as often as is asked, and is taken once; the table has a place more where none is free.
+    for (const value of VALUES) {
+        keep(value);
+        assertFreed(state, 1);
+        assert.ok(Object.is(seen(), value));
+        assert.ok(Object.is(seen(), value));
+        assertFreed(state, 1);
+        assert.ok(Object.is(taken(), value));
+        assertFreed(state, 0);
+    }
+    // An import takes what it is given, and may throw then.
+    const given = { given: true };
+    globalThis.use = (value) => calls.push([value, state()]);
+    used(given);
+    assert.deepEqual(calls.splice(0), [[given, [0, 0, 0]]]);
+    globalThis.use = throwing;
+    assert.throws(() => used(given), isError);
+    assertFreed(state, 0);
+    // Another one looks at it, and the module frees its place.
+    globalThis.look = (value) => (calls.push([value, state()]), 5);
+    assert.equal(looked(given), 5);
+    assert.deepEqual(calls.splice(0), [[given, [0, 0, 1]]]);
+    assertFreed(state, 0);
+    // A value goes in by itself, and what an import makes of it comes out of the table.
+    globalThis.make = (value) => [value];
+    assert.deepEqual(made(given), [given]);
+    for (const value of VALUES) {
+        globalThis.make = () => value;
+        assert.ok(Object.is(made(given), value));
+    }
+    globalThis.make = throwing;
+    assert.throws(() => made(given), isError);
+    assertFreed(state, 0);
+    // A value that is thrown is taken out of the table before.
+    assert.throws(() => settled(error, true), isError);
+    assert.throws(() => settled("a", true), (thrown) => thrown === "a");
+    assertFreed(state, 0);
+    // One that isn't thrown stays.
+    assert.equal(settled(error, false), 7);
+    assertFreed(state, 1);
+}
+
+/** The exports of the module, which stand before those that are added. */
+const OWN = [
+    ...["pass", "same", "keep", "kept", "used", "looked", "made", "settled"],
+    ...["bytes", "blocks", "length", "align", "placed", "memory", "free", "__wbindgen_export2"],
+];
+
+checks.strings = ({ size, say, short, show, both, option, made, state, last }) => {
+    const heard = [];
+    let bytes;
+    globalThis.hear = (text) => heard.push(text);
+    globalThis.see = (seen) => (bytes = seen);
+    assertFreed(state);
+    for (const [text, arrives, units] of TEXTS) {
+        say(text);
+        assertFreed(state);
+        assert.deepEqual(last(), [units.length, 1]);
+        short(text);
+        assertFreed(state);
+        assert.deepEqual(last(), [units.length, 1]);
+        assert.deepEqual(heard.splice(0), [arrives, arrives]);
+        show(text);
+        // A copy: the memory has other bytes now.
+        assert.deepEqual(bytes, Uint8Array.from(units));
+        assert.equal(size(text), units.length);
+        assertFreed(state);
+    }
+    for (const [text, count] of LONG) {
+        assert.equal(size(text), count);
+        say(text);
+        short(text);
+        assert.ok(heard.splice(0).every((other) => other === text));
+        assertFreed(state);
+        assert.deepEqual(last(), [count, 1]);
+    }
+    // Of what is absent the address is 0, whatever was passed before.
+    assert.equal(size("abc"), 3);
+    for (const [given, count] of [[undefined, -1], [null, -1], ["", 0], ["\u{e9}", 2], ["abc", 3], [undefined, -1]]) {
+        assert.equal(option(given), count);
+        assertFreed(state);
+    }
+    assert.equal(option(), -1);
+    // What is made in memory is read before it is freed. Bytes that are no UTF-8 are U+FFFD, each of them.
+    for (const [count, byte, text] of [[3, 0x61, "aaa"], [0, 0x61, ""], [2, 0xff, "\ufffd\ufffd"], [1, 0, "\0"]]) {
+        assert.equal(made(count, byte), text);
+        assertFreed(state);
+        assert.deepEqual(last(), [count, 1]);
+    }
+    assert.equal(made(300000, 0x78), "x".repeat(300000));
+    assertFreed(state);
+    // What was passed is freed where an import throws, at its first call and at its second one.
+    globalThis.hear = throwing;
+    assert.throws(() => say("a\u{e9}"), isError);
+    assertFreed(state);
+    assert.deepEqual(last(), [3, 1]);
+    assert.throws(() => both("a", "bc"), isError);
+    assertFreed(state);
+    // The one that was passed first is freed last.
+    assert.deepEqual(last(), [1, 1]);
+    let left = 1;
+    globalThis.hear = (text) => (left-- > 0 ? heard.push(text) : throwing());
+    assert.throws(() => both("a", "bc"), isError);
+    assert.deepEqual(heard.splice(0), ["a"]);
+    assertFreed(state);
+    // And where there is no memory for the second one: more than a mebibyte is refused.
+    globalThis.hear = (text) => heard.push(text);
+    assert.throws(() => both("a", "x".repeat(1048577)), WebAssembly.RuntimeError);
+    assert.deepEqual(heard, []);
+    assertFreed(state);
+    assert.deepEqual(last(), [1, 1]);
+    both("\u{e9}", "");
+    assert.deepEqual(heard.splice(0), ["\u{e9}", ""]);
+    assertFreed(state);
+};
+
+checks.vectors = (glue) => {
+    const { state, last } = glue;
+    assertFreed(state);
+    for (const [kind, [Elements, size, some, full]] of Object.entries(KINDS)) {
+        const [pass, made] = [glue[`pass${kind}`], glue[`made${kind}`]];
+        let seen;
+        globalThis[`see${kind}`] = (all) => (seen = all);
+        const many = Elements.from({ length: 100000 }, (_, place) => some[place % some.length]);
+        // A plain array goes in as well.
+        for (const given of [Elements.of(), Elements.from(some), some, many]) {
+            pass(given);
+            assert.equal(seen.constructor, Elements);
+            // A copy: the memory has other bytes now.
+            assert.deepEqual(seen, Elements.from(given));
+            assert.equal(seen.buffer.byteLength, given.length * size);
+            assertFreed(state);
+            // So many elements, as many as there are, and not so many bytes.
+            assert.deepEqual(last(), [given.length, size]);
+        }
+        for (const count of [0, 1, 5, 100000]) {
+            assert.deepEqual(made(count, 255), new Elements(count).fill(full));
+            assertFreed(state);
+            assert.deepEqual(last(), [count, size]);
+        }
+        globalThis[`see${kind}`] = throwing;
+        assert.throws(() => pass(some), isError);
+        assertFreed(state);
+    }
+    // Elements are converted as those of the array that they go into: modulo 256 (ECMAScript 7.1.10).
+    let seen;
+    globalThis.seeI8 = (all) => (seen = all);
+    glue.passI8([255, -129, 256, 1.9]);
+    assert.deepEqual(seen, Int8Array.of(-1, 127, 0, 1));
+    // No number is a big integer. The memory that was asked for before stays in use.
+    assert.throws(() => glue.passI64([1]), TypeError);
+    assert.deepEqual(state(), [8, 1]);
+};
+
+checks.values = ({ pass, same, state, last }) => {
+    assertFreed(state, 0);
+    checkValues(pass, same, state, last);
+};
+
+checks.references = checkReferences;
+
+checks.named = (glue, names) => {
+    checkReferences(glue);
+    // A function has its own name, made an identifier and fresh; functions come before tables, and these before memories.
+    const added = ["malloc", "free2", "alloc", "drop", "drop_slice", "__wbindgen_export", "memory2"];
+    assert.deepEqual(names, [...OWN, ...added]);
+};
+
+checks.unnamed = (glue, names) => {
+    checkReferences(glue);
+    const added = [3, 4, 5, 6, 7].map((number) => `__wbindgen_export${number}`);
+    assert.deepEqual(names, [...OWN, "__wbindgen_export", ...added, "memory2"]);
+};
+
+/** The names of the exports of the module that was written. */
+function exportNames(folder) {
+    const module = new WebAssembly.Module(readFileSync(join(folder, "out_bg.wasm")));
+    return WebAssembly.Module.exports(module).map(({ name }) => name);
+}
+
 try {
     mkdirSync(given, { recursive: true });
     const folder = realpathSync(given);
     unpackListing(readFileSync(listing), folder);
     appendFileSync(join(folder, "out.js"), appended);
-    checks[title](await import(pathToFileURL(join(folder, "out.js")).href));
+    checks[title](await import(pathToFileURL(join(folder, "out.js")).href), exportNames(folder));
 } catch (error) {
     console.error(error.message);
     process.exitCode = 1;

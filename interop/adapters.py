@@ -5,10 +5,20 @@
 - objects: values that are lent to a function, or given to it, through the object table: the table's length, its first free
   slot and its stack of lent objects are compared before and after, also where an import throws, at its first call and at a
   later one, and where a value that was given is thrown by an adapter.
+- strings: strings of every kind of character, in and out, also ones that may be absent.
+- vectors: vectors of each kind of integers, empty and large, in and out.
+- values: vectors of any values, by the object table.
+- references: values that are given, taken, looked at and thrown, and vectors of them, by a table of references of the module.
+- named, unnamed: the same, where the module exports neither its memory nor its table nor the functions that allocate and
+  free, and the functions have names, or none; the names of the exports that are added are compared.
 
-adapters.mjs says for each what the exports of its glue file have to do, worked out by hand. The state of the object table is
-read by a line that is appended to the glue file. Prints a line for each, and ends with status 1 where one does something
-else.
+The modules from the third on allocate memory by functions of their own, which count what is in use, fill what is freed with
+other bytes, and trap where something is freed twice. What is in use is compared before and after, also where an import
+throws in between.
+
+adapters.mjs says for each what the exports of its glue file have to do, worked out by hand. The state of the object table and
+of the memory is read by lines that are appended to the glue file. Prints a line for each, and ends with status 1 where one
+does something else.
 
 The program is the one that the environment variable GLUE names, or else the one that the script glue runs. Needs Python 3.9,
 node 18 or later and Debian's wabt. Where node or wabt is missing, it says so and tries nothing. It is no part of the gate.
@@ -20,9 +30,10 @@ import shutil
 import subprocess
 import sys
 import tempfile
+from dataclasses import dataclass
 from pathlib import Path
 
-from imports import HERE, name, section
+from imports import HERE, name, section, vector
 
 NUMBERS = """(module
   (import "__wbindgen_placeholder__" "next" (func $next (param i64) (result i64)))
@@ -50,6 +61,183 @@ OBJECTS = """(module
   (func (export "settled") (result i32) (i32.const 7)))"""
 
 
+# What allocates, behind the imports: its functions are the first of the module's own, in this order. A block stands behind
+# eight bytes, its size and a number that says that it is in use. The first page is kept for the places of references.
+ALLOCATOR = """
+  (memory $memory 2)
+  (global $top (mut i32) (i32.const 65536))
+  (global $bytes (mut i32) (i32.const 0))
+  (global $blocks (mut i32) (i32.const 0))
+  (global $length (mut i32) (i32.const 0))
+  (global $align (mut i32) (i32.const 0))
+  (func $malloc (param $size i32) (param $align i32) (result i32) (local $at i32) (local $end i32)
+    (if (i32.gt_u (local.get $size) (i32.const 1048576)) (then (unreachable)))
+    (local.set $at (i32.and (i32.add (global.get $top) (i32.const 31)) (i32.const -16)))
+    (local.set $end (i32.add (local.get $at) (local.get $size)))
+    (block $fits (loop $grows
+      (br_if $fits (i32.le_u (local.get $end) (i32.mul (memory.size) (i32.const 65536))))
+      (if (i32.eq (memory.grow (i32.const 1)) (i32.const -1)) (then (unreachable)))
+      (br $grows)))
+    (i32.store (i32.sub (local.get $at) (i32.const 8)) (local.get $size))
+    (i32.store (i32.sub (local.get $at) (i32.const 4)) (i32.const 12345678))
+    (global.set $top (local.get $end))
+    (global.set $bytes (i32.add (global.get $bytes) (local.get $size)))
+    (global.set $blocks (i32.add (global.get $blocks) (i32.const 1)))
+    (local.get $at))
+  (func $free (param $at i32) (param $size i32) (param $align i32)
+    (global.set $length (local.get $size))
+    (global.set $align (local.get $align))
+    (call $release (local.get $at)))
+  (func $re-alloc (param $at i32) (param $old i32) (param $size i32) (param $align i32) (result i32) (local $to i32)
+    (if (i32.ne (local.get $old) (i32.load (i32.sub (local.get $at) (i32.const 8)))) (then (unreachable)))
+    (local.set $to (call $malloc (local.get $size) (local.get $align)))
+    (memory.copy (local.get $to) (local.get $at)
+      (select (local.get $old) (local.get $size) (i32.lt_u (local.get $old) (local.get $size))))
+    (call $release (local.get $at))
+    (local.get $to))
+  (func $release (param $at i32) (local $size i32)
+    (if (i32.ne (i32.load (i32.sub (local.get $at) (i32.const 4))) (i32.const 12345678)) (then (unreachable)))
+    (local.set $size (i32.load (i32.sub (local.get $at) (i32.const 8))))
+    (i32.store (i32.sub (local.get $at) (i32.const 4)) (i32.const 0))
+    (memory.fill (local.get $at) (i32.const 0xAA) (local.get $size))
+    (global.set $bytes (i32.sub (global.get $bytes) (local.get $size)))
+    (global.set $blocks (i32.sub (global.get $blocks) (i32.const 1)))
+    (if (i32.eqz (global.get $blocks)) (then (global.set $top (i32.const 65536)))))"""
+
+# A table of references, and what gives and frees its places: a byte of the first page says whether a place is in use.
+REFERENCES = """
+  (table $table 4 externref)
+  (global $places (mut i32) (i32.const 0))
+  (func $alloc (result i32) (local $place i32)
+    (local.set $place (i32.const 1))
+    (block $found (loop $next
+      (br_if $found (i32.eqz (i32.load8_u (local.get $place))))
+      (local.set $place (i32.add (local.get $place) (i32.const 1)))
+      (br $next)))
+    (if (i32.ge_u (local.get $place) (i32.const 65536)) (then (unreachable)))
+    (if (i32.ge_u (local.get $place) (table.size $table))
+      (then (drop (table.grow $table (ref.null extern) (table.size $table)))))
+    (i32.store8 (local.get $place) (i32.const 1))
+    (global.set $places (i32.add (global.get $places) (i32.const 1)))
+    (local.get $place))
+  (func $drop (param $place i32)
+    (if (i32.eqz (i32.load8_u (local.get $place))) (then (unreachable)))
+    (i32.store8 (local.get $place) (i32.const 0))
+    (table.set $table (local.get $place) (ref.null extern))
+    (global.set $places (i32.sub (global.get $places) (i32.const 1))))
+  (func $drop.slice (param $at i32) (param $count i32)
+    (block $done (loop $next
+      (br_if $done (i32.eqz (local.get $count)))
+      (call $drop (i32.load (local.get $at)))
+      (local.set $at (i32.add (local.get $at) (i32.const 4)))
+      (local.set $count (i32.sub (local.get $count) (i32.const 1)))
+      (br $next))))"""
+
+# How much is in use, and what was freed last. The exports of what allocates stand behind all others.
+COUNTS = """
+  (func (export "bytes") (result i32) (global.get $bytes))
+  (func (export "blocks") (result i32) (global.get $blocks))
+  (func (export "length") (result i32) (global.get $length))
+  (func (export "align") (result i32) (global.get $align))"""
+
+EXPORTED = """
+  (export "memory" (memory $memory))
+  (export "malloc" (func $malloc))
+  (export "free" (func $free))
+  (export "realloc" (func $re-alloc))"""
+
+EXPORTED_REFERENCES = """
+  (export "table" (table $table))
+  (export "take place" (func $alloc))
+  (export "free place" (func $drop))
+  (export "free places" (func $drop.slice))"""
+
+
+def module(imports, *parts):
+    """The text of a module of functions that it imports, each with its type, and of parts."""
+    lines = [f'  (import "__wbindgen_placeholder__" "{title}" (func ${title} {kind}))' for title, kind in imports]
+    return "\n".join(["(module", *lines]) + "".join(parts) + ")"
+
+
+STRINGS = module(
+    [("hear", "(param i32 i32)"), ("see", "(param i32 i32)")],
+    ALLOCATOR,
+    """
+  (func (export "size") (param i32 i32) (result i32) (local.get 1))
+  (func (export "say") (param i32 i32) (call $hear (local.get 0) (local.get 1)))
+  (func (export "show") (param i32 i32) (call $see (local.get 0) (local.get 1)))
+  (func (export "both") (param i32 i32 i32 i32)
+    (call $hear (local.get 0) (local.get 1))
+    (call $hear (local.get 2) (local.get 3)))
+  (func (export "option") (param i32 i32) (result i32)
+    (if (i32.eqz (local.get 0)) (then (return (i32.const -1))))
+    (call $free (local.get 0) (local.get 1) (i32.const 1))
+    (local.get 1))
+  (func (export "made") (param i32 i32) (result i32) (local i32)
+    (local.set 2 (call $malloc (local.get 0) (i32.const 1)))
+    (memory.fill (local.get 2) (local.get 1) (local.get 0))
+    (local.get 2))""",
+    COUNTS,
+    EXPORTED,
+)
+
+# Of each kind of integers how many bytes one takes.
+KINDS = {"I8": 1, "U8": 1, "I16": 2, "U16": 2, "I32": 4, "U32": 4, "I64": 8, "U64": 8}
+
+VECTORS = module(
+    [(f"see{kind}", "(param i32 i32)") for kind in KINDS],
+    ALLOCATOR,
+    *(f'\n  (func (export "pass{kind}") (param i32 i32) (call $see{kind} (local.get 0) (local.get 1)))' for kind in KINDS),
+    """
+  (func (export "made") (param i32 i32) (result i32) (local i32 i32)
+    (local.set 3 (i32.mul (local.get 0) (i32.const 8)))
+    (local.set 2 (call $malloc (local.get 3) (i32.const 8)))
+    (memory.fill (local.get 2) (local.get 1) (local.get 3))
+    (local.get 2))""",
+    COUNTS,
+    EXPORTED,
+)
+
+PASSED = """
+  (func (export "pass") (param i32 i32) (call $see (local.get 0) (local.get 1)))
+  (func (export "same") (param i32 i32) (result i32) (local.get 0))"""
+
+VALUES = module([("see", "(param i32 i32)")], ALLOCATOR, PASSED, COUNTS, EXPORTED)
+
+# The functions of OBJECTS, less those that lend.
+HANDLED = """
+  (global $kept (mut i32) (i32.const 0))
+  (func (export "keep") (param i32) (global.set $kept (local.get 0)))
+  (func (export "kept") (result i32) (global.get $kept))
+  (func (export "used") (param i32) (call $use (local.get 0)))
+  (func (export "looked") (param i32) (result i32) (local i32)
+    (local.set 1 (call $look (local.get 0)))
+    (call $drop (local.get 0))
+    (local.get 1))
+  (func (export "made") (param externref) (result i32) (call $make (local.get 0)))
+  (func (export "settled") (result i32) (i32.const 7))"""
+
+HANDLING = [
+    ("see", "(param i32 i32)"),
+    ("use", "(param i32)"),
+    ("look", "(param i32) (result i32)"),
+    ("make", "(param externref) (result i32)"),
+]
+
+# Names that the exports to be added want: those of a memory and of `free`, and one of a function without a name.
+TAKEN = """
+  (func (export "memory"))
+  (func (export "free"))
+  (func (export "__wbindgen_export2"))"""
+
+PLACES = """
+  (func (export "placed") (result i32) (global.get $places))"""
+
+REFERRED = module(HANDLING, ALLOCATOR, REFERENCES, PASSED, HANDLED, COUNTS, PLACES, EXPORTED, EXPORTED_REFERENCES)
+
+HIDDEN = module(HANDLING, ALLOCATOR, REFERENCES, PASSED, HANDLED, COUNTS, PLACES, TAKEN)
+
+
 def adapter(number, args, results, code):
     return {"id": number, "args": args, "results": results, "code": code}
 
@@ -68,15 +256,17 @@ def described(number, title):
 
 def description(exports, imports):
     """Of each export its title, its place, the types, and its code with `call` for the call of the export; of each import
-    its title, its place, the types, and the code before and behind its call."""
+    its title, the types of its call, the code before and behind it, and the types of its own arguments where they are
+    others."""
     adapters, told, pairs, entries = [], [], [], []
     for number, (title, place, args, results, code) in enumerate(exports):
         steps = [["CallExport", place] if step == "call" else step for step in code]
         adapters.append(adapter(number, args, results, steps))
         told.append(published(number, title))
-    for place, (title, args, results, before, behind) in enumerate(imports):
+    for place, (title, args, results, before, behind, *own) in enumerate(imports):
         local, call = 100 + place, 200 + place
-        adapters.append(adapter(local, args, results, [*before, ["CallAdapter", call], *behind]))
+        given = own[0] if own else args
+        adapters.append(adapter(local, given, results, [*before, ["CallAdapter", call], *behind]))
         adapters.append(called(call, args, results))
         pairs.append([place, local])
         entries.append(described(call, title))
@@ -143,32 +333,206 @@ def objects():
     )
 
 
+# The functions that allocate, behind so many imports, and the memory.
+def allocating(imports):
+    return imports, imports + 1, imports + 2, 0
+
+
+def string_in(place, malloc, realloc, memory):
+    return [get(place), ["StringToMemory", malloc, realloc, memory]]
+
+
+def strings():
+    malloc, free, realloc, memory = allocating(2)
+    freed = ["DeferFree", free, 1]
+    text = string_in(0, malloc, realloc, memory)
+    return description(
+        [
+            ("size", 0, ["string"], ["u32"], [*text, freed, "call", ["WasmToInt32", True]]),
+            ("say", 1, ["string"], [], [*text, freed, "call"]),
+            # Without the function that moves what was allocated.
+            ("short", 1, ["string"], [], [*string_in(0, malloc, None, memory), freed, "call"]),
+            ("show", 2, ["string"], [], [*text, freed, "call"]),
+            (
+                "both",
+                3,
+                ["string", "string"],
+                [],
+                [*text, freed, *string_in(1, malloc, realloc, memory), freed, "call"],
+            ),
+            (
+                "option",
+                4,
+                [{"option": "string"}],
+                ["s32"],
+                [get(0), ["OptionStringToMemory", malloc, realloc, memory], "call", ["WasmToInt32", False]],
+            ),
+            # So many bytes of one value: the export gives the address, and the first argument is the length.
+            (
+                "made",
+                5,
+                ["u32", "u32"],
+                ["string"],
+                [
+                    *[get(0), step("Int32ToWasm"), get(1), step("Int32ToWasm"), "call"],
+                    *[get(0), step("Int32ToWasm"), freed, ["MemoryToString", memory]],
+                ],
+            ),
+        ],
+        [
+            ("hear", ["string"], [], [get(0), get(1), ["MemoryToString", memory]], [], ["i32", "i32"]),
+            ("see", [{"vec": "U8"}], [], [get(0), get(1), ["VecFromWasm", "U8", memory]], [], ["i32", "i32"]),
+        ],
+    )
+
+
+def vectors():
+    malloc, free, _, memory = allocating(len(KINDS))
+    exports, imports = [], []
+    for place, (kind, size) in enumerate(KINDS.items()):
+        vec, freed = {"vec": kind}, ["DeferFree", free, size]
+        read = ["VecFromWasm", kind, memory]
+        exports.append((f"pass{kind}", place, [vec], [], [get(0), ["VecToWasm", kind, malloc, memory], freed, "call"]))
+        exports.append(
+            (
+                f"made{kind}",
+                len(KINDS),
+                ["u32", "u32"],
+                [vec],
+                [
+                    *[get(0), step("Int32ToWasm"), get(1), step("Int32ToWasm"), "call"],
+                    *[get(0), step("Int32ToWasm"), freed, read],
+                ],
+            )
+        )
+        imports.append((f"see{kind}", [vec], [], [get(0), get(1), read], [], ["i32", "i32"]))
+    return description(exports, imports)
+
+
+def passing(imports):
+    """The exports that pass vectors of any values, and the import that is given one, where there are so many imports."""
+    malloc, free, _, memory = allocating(imports)
+    vec, freed = {"vec": "Value"}, ["DeferFree", free, 4]
+    given, read = [get(0), ["VecToWasm", "Value", malloc, memory]], ["VecFromWasm", "Value", memory]
+    return (
+        [
+            ("pass", 0, [vec], [], [*given, freed, "call"]),
+            # The vector comes out as it went in, where the second argument is its length.
+            ("same", 1, [vec, "u32"], [vec], [*given, "call", get(1), step("Int32ToWasm"), freed, read]),
+        ],
+        ("see", [vec], [], [get(0), get(1), read], [], ["i32", "i32"]),
+    )
+
+
+def values():
+    exports, see = passing(1)
+    return description(exports, [see])
+
+
+def references():
+    give, take, see = (step(text) for text in ["IndexFromOwned", "TakeIndex", "GetIndex"])
+    plain = ["WasmToInt32", False]
+    exports, shown = passing(4)
+    said = description(
+        [
+            *exports,
+            ("keep", 2, ["externref"], [], [get(0), give, "call"]),
+            ("seen", 3, [], ["externref"], ["call", see]),
+            ("taken", 3, [], ["externref"], ["call", take]),
+            ("used", 4, ["externref"], [], [get(0), give, "call"]),
+            ("looked", 5, ["externref"], ["s32"], [get(0), give, "call", plain]),
+            # A reference that goes in by itself, and one that an import makes of it and gives.
+            ("made", 6, ["externref"], ["externref"], [get(0), "call", take]),
+            (
+                "settled",
+                7,
+                ["externref", "bool"],
+                ["s32"],
+                [get(0), give, get(1), step("I32FromBool"), step("UnwrapResult"), "call", plain],
+            ),
+        ],
+        [
+            shown,
+            ("use", ["externref"], [], [get(0), take], []),
+            ("look", ["externref"], ["s32"], [get(0), see], [step("Int32ToWasm")]),
+            ("make", ["externref"], ["externref"], [get(0)], [give]),
+        ],
+    )
+    # The functions of the table stand behind the four that allocate.
+    parts = {"externref_table": 0, "externref_alloc": 8, "externref_drop": 9, "externref_drop_slice": 10}
+    return said | {"parts": parts}
+
+
+@dataclass
+class Case:
+    """A module in text form, its description, what is appended to its glue file, whether the functions have names, and
+    whether values are kept in a table of references."""
+
+    text: str
+    said: dict
+    appended: str = ""
+    has_names: bool = False
+    has_references: bool = False
+
+
 STATE = "export const state = () => [heap.length, heap_next, stack_pointer];\n"
 
-CASES = {"numbers": (NUMBERS, numbers(), ""), "objects": (OBJECTS, objects(), STATE)}
+IN_USE = """export const last = () => [wasm.length(), wasm.align()];
+export const state = () => [wasm.bytes(), wasm.blocks()];
+"""
+
+# The free places of the object table are a list: each holds the next one, and the last one the table's length.
+WITH_OBJECTS = """export const last = () => [wasm.length(), wasm.align()];
+export const state = () => {
+    let free = 0;
+    for (let place = heap_next; place < heap.length; place = heap[place]) free += 1;
+    return [wasm.bytes(), wasm.blocks(), heap.length - 1028 - free];
+};
+"""
+
+WITH_PLACES = """export const last = () => [wasm.length(), wasm.align()];
+export const state = () => [wasm.bytes(), wasm.blocks(), wasm.placed()];
+"""
+
+CASES = {
+    "numbers": Case(NUMBERS, numbers()),
+    "objects": Case(OBJECTS, objects(), STATE),
+    "strings": Case(STRINGS, strings(), IN_USE),
+    "vectors": Case(VECTORS, vectors(), IN_USE),
+    "values": Case(VALUES, values(), WITH_OBJECTS),
+    "references": Case(REFERRED, references(), WITH_PLACES, has_references=True),
+    "named": Case(HIDDEN, references(), WITH_PLACES, has_names=True, has_references=True),
+    "unnamed": Case(HIDDEN, references(), WITH_PLACES, has_references=True),
+}
+
+# The section that says that a module uses references: a list of features, each behind a plus sign.
+FEATURES = section(0, name("target_features") + vector([b"+" + name("reference-types")]))
 
 
-def assembled(text, folder):
-    """The bytes of a module in text form, or nothing where it is no module."""
+def assembled(case, folder):
+    """The bytes of the module of a case with its description, or nothing where its text is no module."""
     source, made = Path(folder) / "module.wat", Path(folder) / "module.wasm"
-    source.write_text(text)
-    done = subprocess.run(["wat2wasm", str(source), "-o", str(made)])
-    return made.read_bytes() if done.returncode == 0 else None
+    source.write_text(case.text)
+    names = ["--debug-names"] if case.has_names else []
+    done = subprocess.run(["wat2wasm", *names, str(source), "-o", str(made)])
+    if done.returncode != 0:
+        return None
+    told = section(0, name("__wbg_glue") + json.dumps(case.said).encode())
+    return made.read_bytes() + told + (FEATURES if case.has_references else b"")
 
 
-def fault(command, title, text, said, appended):
+def fault(command, title, case):
     """What is wrong with the glue file of a module, nothing where it does what it has to."""
     with tempfile.TemporaryDirectory() as folder:
-        module = assembled(text, folder)
-        if module is None:
+        content = assembled(case, folder)
+        if content is None:
             return "wat2wasm refuses the module"
-        content = module + section(0, name("__wbg_glue") + json.dumps(said).encode())
         done = subprocess.run([*command, "--target", "deno"], input=content, stdout=subprocess.PIPE)
         if done.returncode != 0:
             return f"the program ends with {done.returncode}: {done.stdout.decode(errors='replace').strip()}"
         listing = Path(folder) / "listing"
         listing.write_bytes(done.stdout)
-        words = ["node", str(HERE / "adapters.mjs"), str(listing), str(Path(folder) / "files"), title, appended]
+        words = ["node", str(HERE / "adapters.mjs"), str(listing), str(Path(folder) / "files"), title, case.appended]
         loaded = subprocess.run(words, capture_output=True)
     return "" if loaded.returncode == 0 else loaded.stderr.decode(errors="replace").strip()
 
@@ -179,7 +543,7 @@ def main():
         print(f"skipped: {' and '.join(missing)} missing")
         return
     command = [os.environ.get("GLUE", str(HERE.parent / "glue"))]
-    told = {title: fault(command, title, *case) for title, case in CASES.items()}
+    told = {title: fault(command, title, case) for title, case in CASES.items()}
     for title, said in told.items():
         print(f"{title}: {said or 'as it has to be'}")
     sys.exit(any(told.values()))

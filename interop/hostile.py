@@ -84,6 +84,18 @@ def published(key, entry):
     return lambda text: {"description": {key: [entry(text)]}}
 
 
+def allocating(key):
+    """A description with a string that goes in and is freed, whose module has this name for what allocates, or for its memory."""
+
+    def at(text):
+        code = [["ArgGet", 0], ["StringToMemory", 1, None, 0], ["DeferFree", 1, 1], ["CallExport", 0]]
+        adapter = {"id": 2, "args": ["string"], "results": [], "code": code}
+        entry = {"adapter": 2, "kind": "function", "name": "run", "args": ["a"]}
+        return {"description": {"adapters": [adapter], "exports": [entry]}, "allocator": {key: text}}
+
+    return at
+
+
 def enum(fields):
     """An enum with these fields too."""
     return published("enums", lambda text: {"name": "E", "variants": [["A", 1, ""]], **fields(text)})
@@ -175,11 +187,39 @@ PLACES = {
     "name of another import": lambda t: {"description": {}, "foreign": "env", "other": t},
     "name of a memory": lambda t: {"description": {}, "memory": t},
     "string constant": lambda t: {"description": {}, "string": t},
+    "name of an export that allocates": allocating("function"),
+    "name of an exported memory": allocating("memory"),
+    "name of a function that allocates": allocating("named"),
 }
+
+
+def allocator(names):
+    """A module of a function `run` that takes two integers, one that takes one, and a memory, with these names."""
+    types = [b"\x60" + vector([I32, I32]) + vector([]), b"\x60" + vector([I32]) + vector([])]
+    exports = [name("run") + b"\0\0"]
+    if "function" in names:
+        exports.append(name(names["function"]) + b"\0\1")
+    if "memory" in names:
+        exports.append(name(names["memory"]) + b"\2\0")
+    body = vector([]) + b"\x0b"
+    content = (
+        b"\0asm\x01\0\0\0"
+        + section(1, vector(types))
+        + section(3, vector([b"\0", b"\1"]))
+        + section(5, vector([b"\0\1"]))
+        + section(7, vector(exports))
+        + section(10, vector([leb128(len(body)) + body] * 2))
+    )
+    if "named" in names:
+        content += section(0, name("name") + section(1, vector([b"\1" + name(names["named"])])))
+    return content
 
 
 def module(case):
     """A module of these names with this description."""
+    glue = name("__wbg_glue") + json.dumps({"version": 1, **case["description"]}).encode()
+    if "allocator" in case:
+        return allocator(case["allocator"]) + section(0, glue)
     args, result = case.get("type", (0, False))
     types = [b"\x60" + vector([I32] * args) + vector([I32] * result), b"\x60" + vector([I32]) + vector([])]
     imports = [name("__wbindgen_placeholder__") + name(case.get("import", "f")) + b"\0\0"]
@@ -193,7 +233,6 @@ def module(case):
     if "string" in case:
         imports.append(name("wasm:js/string-constants") + name(case["string"]) + b"\3\x6f\0")
         exports.append(name("string") + b"\3\0")
-    glue = name("__wbg_glue") + json.dumps({"version": 1, **case["description"]}).encode()
     body = vector([]) + b"\x0b"
     return (
         b"\0asm\x01\0\0\0"

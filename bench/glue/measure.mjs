@@ -12,6 +12,7 @@ const { unpackListing } = await import(pathToFileURL(join(top, "examples/load.mj
 
 const ROUNDS = 7;
 const CALLS = 2_000_000;
+const LONG_CALLS = 200_000;
 let seen;
 globalThis.look = (value) => {
     seen = value;
@@ -31,6 +32,10 @@ const look = (handle) => {
 };
 const { instance } = await WebAssembly.instantiate(readFileSync(bare), { __wbindgen_placeholder__: { look } });
 const wasm = instance.exports;
+const bytes = new Uint8Array(wasm.memory.buffer);
+const words = new Int32Array(wasm.memory.buffer);
+const encoder = new TextEncoder();
+const decoder = new TextDecoder();
 const hand = {
     sum: (a, b) => wasm.sum(a, b) >>> 0,
     wide: (a) => BigInt.asUintN(64, wasm.wide(a)),
@@ -50,9 +55,24 @@ const hand = {
         free.push(handle);
         return taken;
     },
+    text(value) {
+        const at = wasm.malloc(value.length * 3, 1);
+        const { written } = encoder.encodeInto(value, bytes.subarray(at, at + value.length * 3));
+        wasm.touch();
+        const again = decoder.decode(bytes.subarray(at, at + written));
+        wasm.free(at, written, 1);
+        return again;
+    },
+    numbers(values) {
+        const at = wasm.malloc(values.length * 4, 4);
+        words.set(values, at / 4);
+        return wasm.total(at, values.length);
+    },
 };
 
 const object = {};
+const text = "the quick brown fox jumps over it";
+const values = Int32Array.from({ length: 100 }, (_, k) => k - 7);
 const calls = {
     sum: (f) => {
         let sum = 0;
@@ -73,7 +93,18 @@ const calls = {
         for (let k = 0; k < CALLS; k++) same = f(object) === object && same;
         return same;
     },
+    text: (f) => {
+        let same = true;
+        for (let k = 0; k < LONG_CALLS; k++) same = f(text) === text && same;
+        return same;
+    },
+    numbers: (f) => {
+        let sum = 0;
+        for (let k = 0; k < LONG_CALLS; k++) sum += f(values);
+        return sum;
+    },
 };
+const LONG = new Set(["text", "numbers"]);
 
 /** The least time of a round, in seconds, and what the calls come to. */
 function timed(loop, f) {
@@ -93,6 +124,7 @@ for (const [title, loop] of Object.entries(calls)) {
         best.hand = Math.min(best.hand, byHand);
         best.glue = Math.min(best.glue, byGlue);
     }
-    const rate = (seconds) => Math.round(CALLS / seconds).toLocaleString("en");
+    const count = LONG.has(title) ? LONG_CALLS : CALLS;
+    const rate = (seconds) => Math.round(count / seconds).toLocaleString("en");
     console.log(`| ${title} | ${rate(best.hand)} | ${rate(best.glue)} | ${(best.glue / best.hand).toFixed(2)} |`);
 }
