@@ -1,7 +1,7 @@
 -- Items that have a property, in lists and in stacks.
 use Rattle.std.proofs.Common.{ℕ, zero, suc, ◌<◌, List, [], ◌∷◌, ◌++◌, length, inl, inr, refl, arith}
 use Rattle.values.specs.Lists.{IsIn}
-use Rattle.glue_steps.specs.Stack.{top, below, item_at, operands, without}
+use Rattle.glue_steps.specs.Stack.{top, below, item_at, last_of, operands, without}
 
 -- each item has it
 abbrev pub Each : {A : Type 0} → (A → Type 0) → List A → Type 0
@@ -33,6 +33,14 @@ module _ {A : Type 0} (P : A → Type 0) where
     each_item [] n h = d
     each_item (x ∷ xs) zero h = h.0
     each_item (x ∷ xs) (suc n) h = each_item xs n h.1
+
+    pub each_last : (xs : List A) → Each P xs → P (last_of default xs)
+    each_last [] h = d
+    each_last (x ∷ xs) h = last_one x xs h.0 h.1
+      where
+        last_one : (x : A) (xs : List A) → P x → Each P xs → P (last_of x xs)
+        last_one x [] k h = k
+        last_one x (y ∷ xs) k h = last_one y xs h.0 h.1
 
     pub each_top : (stack : List A) → Each P stack → P (top default stack)
     each_top [] h = d

@@ -10,7 +10,7 @@ use Rattle.glue_tree.specs.Term.{Export, Lines, NoLines}
 use Rattle.glue_tree.specs.Plainly.{terms_of}
 use Rattle.glue_tree.proofs.Fit.{fit, all_fit, line_fit, lines_fit}
 use Rattle.glue_steps.specs.declared.step.Step.{Step}
-use Rattle.glue_binding.specs.Spelling.{Plain, Missing, Local, Unsigned, NotZero, term_of, terms, write_call, address_term, Piece, Ahead, Cleanup, pieces_of, nested, tree_of, temporaries}
+use Rattle.glue_binding.specs.Spelling.{Plain, Missing, Local, Unsigned, NotZero, term_of, terms, write_call, address_term, load_call, store_call, Piece, Ahead, Cleanup, pieces_of, nested, tree_of, temporaries}
 use Rattle.glue_binding.proofs.Each.{Each}
 use Rattle.glue_binding.proofs.Standing.{IsNamed, step_fit, fitting, steps_each, run_stands, bound_stands}
 use Rattle.glue_binding.proofs.Rowwise.{IsRowwise, AllHave, pieces_have}
@@ -48,6 +48,23 @@ address_fit false helper exports p f h = write_fit helper exports p f h
 address_fit true helper exports p f h =
     and_true _ _ (rw (ascii_ident (codes "isLikeNone") refl) (terms_fit (p ∷ []) (h, tt))) (write_fit helper exports p f h)
 
+-- what is read from room for results, and written there
+load_fit : (view : List ℕ) (offset : ℕ) (is_wide : Bool) (p : Plain) → (is_ident view && not (is_wasm view)) ≡ true → IsNamed p
+    → fit (load_call view offset is_wide p) ≡ true
+load_fit view offset false p f h =
+    and_true _ _ (and_true _ _ (and_true _ _ f refl) (ascii_prop (codes "getInt32") refl)) (and_true _ _ (and_true _ _ (plain_fit p h) refl) refl)
+load_fit view offset true p f h =
+    and_true _ _ (and_true _ _ (and_true _ _ f refl) (ascii_prop (codes "getBigInt64") refl)) (and_true _ _ (and_true _ _ (plain_fit p h) refl) refl)
+
+store_fit : (view : List ℕ) (offset : ℕ) (is_wide : Bool) (p q : Plain) → (is_ident view && not (is_wasm view)) ≡ true → IsNamed p → IsNamed q
+    → fit (store_call view offset is_wide p q) ≡ true
+store_fit view offset false p q f h k =
+    and_true _ _ (and_true _ _ (and_true _ _ f refl) (ascii_prop (codes "setInt32") refl))
+    (and_true _ _ (and_true _ _ (plain_fit p h) refl) (and_true _ _ (plain_fit q k) refl))
+store_fit view offset true p q f h k =
+    and_true _ _ (and_true _ _ (and_true _ _ f refl) (ascii_prop (codes "setBigInt64") refl))
+    (and_true _ _ (and_true _ _ (plain_fit p h) refl) (and_true _ _ (plain_fit q k) refl))
+
 fits : IsRowwise (λ l. line_fit l ≡ true) IsNamed IsName (λ s. step_fit s ≡ true)
 fits = record {
   missing = tt;
@@ -77,6 +94,12 @@ fits = record {
   frees = λ free align f p q h k. terms_fit (p ∷ q ∷ []) (h, (k, tt));
   copies = λ helper f x d args h. and_true _ _ d (and_true _ _ (and_true _ _ (and_true _ _ f (terms_fit args h))
       (ascii_prop (codes "slice") refl)) refl);
+  takes_room = λ size f x d. and_true _ _ d refl;
+  gives_room_back = λ size f. refl;
+  loads = λ view offset is_wide f x d p h. and_true _ _ d (load_fit view offset is_wide p f h);
+  stores = λ view offset is_wide f p q h k. store_fit view offset is_wide p q f h k;
+  finds = λ list f x d p h. and_true _ _ d (and_true _ _ (and_true _ _ f (ascii_prop (codes "indexOf") refl)) (terms_fit (p ∷ []) (h, tt)));
+  picks = λ list f x d p h. and_true _ _ d (and_true _ _ f (plain_fit p h));
 }
 
 nested_fit : (pieces : List Piece) (rest : Lines) → AllHave (λ l. line_fit l ≡ true) pieces → lines_fit rest ≡ true

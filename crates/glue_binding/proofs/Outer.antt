@@ -17,10 +17,11 @@ use Rattle.glue_tree.proofs.Functions.{used_kind, hosted_kind}
 use Rattle.glue_imports.specs.declared.part.Part.{Part}
 use Rattle.glue_imports.specs.declared.part.Expression.{Expression}
 use Rattle.glue_binding.proofs.Parts.{parts_found}
-use Rattle.glue_steps.specs.Stack.{top, below, operands, without}
+use Rattle.glue_steps.specs.Stack.{top, below, item_at, last_of, operands, without}
+use Rattle.glue_steps.specs.AdapterMeaning.{reading_method, writing_method, known}
 use Rattle.glue_steps.specs.declared.step.Step.{Step}
-use Rattle.glue_steps.specs.declared.step.Step.TheVariants.{Parameter, Unchanged, CallExport, CallImport, ToUnsigned, IsNotZero, ToUnsigned64, CallHelper, IndexFromBorrow, UnwrapResult, PassToMemory, DeferFree, CopyOut}
-use Rattle.glue_binding.specs.Spelling.{Plain, Missing, Local, Unsigned, NotZero, term_of, terms, first, later, next_names, write_call, address_term, written_length, copy_call, parts_words, import_line_words, Piece, Ahead, Cleanup, ending, import_row, row, pieces_of, nested, tree_of}
+use Rattle.glue_steps.specs.declared.step.Step.TheVariants.{Parameter, Unchanged, CallExport, CallImport, ToUnsigned, IsNotZero, ToUnsigned64, CallHelper, IndexFromBorrow, UnwrapResult, PassToMemory, DeferFree, CopyOut, ReturnPointer, LoadReturn, StoreReturn, IndexOf, ItemAt}
+use Rattle.glue_binding.specs.Spelling.{Plain, Missing, Local, Unsigned, NotZero, term_of, terms, first, later, next_names, write_call, address_term, written_length, copy_call, view_method, load_call, store_call, parts_words, import_line_words, Piece, Ahead, Cleanup, ending, import_row, row, pieces_of, nested, tree_of}
 use Rattle.glue_binding.specs.Outer.{outer_in, seed_words}
 
 -- operands have no names of a kind that locals have none of
@@ -84,6 +85,11 @@ row_many (UnwrapResult helper) p t p' t' n n' h = without_many 2 t t' h
 row_many (PassToMemory helper exports optional) p t p' t' n n' h = below_many t t' h
 row_many (DeferFree free align) p t p' t' n n' h = h
 row_many (CopyOut helper) p t p' t' n n' h = without_many 2 t t' h
+row_many (ReturnPointer size) p t p' t' n n' h = h
+row_many (LoadReturn view offset is_wide) p t p' t' n n' h = h
+row_many (StoreReturn view offset is_wide) p t p' t' n n' h = below_many t t' h
+row_many (IndexOf list) p t p' t' n n' h = below_many t t' h
+row_many (ItemAt list) p t p' t' n n' h = below_many t t' h
 
 module _ (kind : Word → Option (List ℕ)) (outer : IsOuter kind) where
   abbrev found : List Word → List (List ℕ)
@@ -147,6 +153,18 @@ module _ (kind : Word → Option (List ℕ)) (outer : IsOuter kind) where
   -- `helper(args).slice()`
   copy_same : (helper : List ℕ) (ps qs : List Plain) → Alike (leaves (copy_call helper ps)) (leaves (copy_call helper qs))
   copy_same helper ps qs = beside (beside (helper_same helper ps qs) (equal (w.Prop (codes "slice") ∷ []))) (equal [])
+
+  -- `view().getInt32(p + offset, true)` and `view().setInt32(p + offset, q, true)`
+  load_same : (view : List ℕ) (offset : ℕ) (is_wide : Bool) (p q : Plain)
+      → Alike (leaves (load_call view offset is_wide p)) (leaves (load_call view offset is_wide q))
+  load_same view offset is_wide p q =
+      beside (equal (leaves (view_method view (reading_method is_wide)))) (beside (beside (operand p q) (equal [])) (equal []))
+
+  store_same : (view : List ℕ) (offset : ℕ) (is_wide : Bool) (p q p' q' : Plain)
+      → Alike (leaves (store_call view offset is_wide p q)) (leaves (store_call view offset is_wide p' q'))
+  store_same view offset is_wide p q p' q' =
+      beside (equal (leaves (view_method view (writing_method is_wide))))
+      (beside (beside (operand p p') (equal [])) (beside (operand q q') (equal [])))
 
   -- the same pieces, but for the locals
   abbrev AllAlike : List Piece → List Piece → Type 0
@@ -213,6 +231,24 @@ module _ (kind : Word → Option (List ℕ)) (outer : IsOuter kind) where
     bind (first n) (first n') (copy_same helper (operands Missing 2 t []) (operands Missing 2 t' [])),
     tt,
   )
+  row_same (ReturnPointer size) p t p' t' n n' = (bind (first n) (first n') (equal _), (equal _, tt))
+  row_same (LoadReturn view offset is_wide) p t p' t' n n' = (
+    bind (first n) (first n') (load_same view offset is_wide (last_of Missing p) (last_of Missing p')),
+    tt,
+  )
+  row_same (StoreReturn view offset is_wide) p t p' t' n n' = (
+    store_same view offset is_wide (item_at Missing p 0) (top Missing t) (item_at Missing p' 0) (top Missing t'),
+    tt,
+  )
+  row_same (IndexOf list) p t p' t' n n' = (
+    bind (first n) (first n') (kept (w.Refer list false) (kept (w.Prop (codes "indexOf"))
+        (passed (top Missing t ∷ []) (top Missing t' ∷ [])))),
+    tt,
+  )
+  row_same (ItemAt list) p t p' t' n n' = (
+    bind (first n) (first n') (kept (w.Refer list false) (operand (top Missing t) (top Missing t'))),
+    tt,
+  )
 
   -- ---- all rows: this part knows no step
 
@@ -251,9 +287,11 @@ module _ (kind : Word → Option (List ℕ)) (outer : IsOuter kind) where
   pieces_same (s ∷ steps) p t p' t' n n' h =
       let r = row s p t n in
       let r' = row s p' t' n' in
-      both_alike r.pieces r'.pieces (pieces_of steps p r.stack r.names) (pieces_of steps p' r'.stack r'.names)
+      let after = known Missing s p r.stack in
+      let after' = known Missing s p' r'.stack in
+      both_alike r.pieces r'.pieces (pieces_of steps after r.stack r.names) (pieces_of steps after' r'.stack r'.names)
       (row_same s p t p' t' n n')
-      (pieces_same steps p r.stack p' r'.stack r.names r'.names (row_many s p t p' t' n n' h))
+      (pieces_same steps after r.stack after' r'.stack r.names r'.names (row_many s p t p' t' n n' h))
 
   tree_same : (steps : List Step) (params temps others more : List (List ℕ))
       → Alike (lines_leaves (tree_of steps params temps)) (lines_leaves (tree_of steps others more))

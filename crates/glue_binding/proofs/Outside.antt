@@ -26,10 +26,11 @@ use Rattle.glue_words.specs.Words.{space}
 use Rattle.glue_tree.specs.Leaves.{leaves, leaves_of, line_leaves, lines_leaves, function_leaves}
 use Rattle.glue_tree.proofs.Names.{IsKind, Has, function_names}
 use Rattle.glue_tree.proofs.Functions.{local_kind, local_bound_kind}
-use Rattle.glue_steps.specs.Stack.{top, below, item_at, operands, without}
+use Rattle.glue_steps.specs.Stack.{top, below, item_at, last_of, operands, without}
+use Rattle.glue_steps.specs.AdapterMeaning.{stack_mover, reading_method, writing_method}
 use Rattle.glue_steps.specs.declared.step.Step.{Step}
-use Rattle.glue_steps.specs.declared.step.Step.TheVariants.{Parameter, Unchanged, CallExport, CallImport, ToUnsigned, IsNotZero, ToUnsigned64, CallHelper, IndexFromBorrow, UnwrapResult, PassToMemory, DeferFree, CopyOut}
-use Rattle.glue_binding.specs.Spelling.{Plain, Missing, Local, Unsigned, NotZero, term_of, terms, is_comparison, word_if, plain_words, guarded_words, argument_words, arguments_words, next_names, write_call, address_term, copy_call, part_words, parts_words, start_words, import_line_words, Piece, Ahead, Cleanup, ending, import_row, pieces_of, nested, tree_of, result_of, counted, wanted_from, temporaries}
+use Rattle.glue_steps.specs.declared.step.Step.TheVariants.{Parameter, Unchanged, CallExport, CallImport, ToUnsigned, IsNotZero, ToUnsigned64, CallHelper, IndexFromBorrow, UnwrapResult, PassToMemory, DeferFree, CopyOut, ReturnPointer, LoadReturn, StoreReturn, IndexOf, ItemAt}
+use Rattle.glue_binding.specs.Spelling.{Plain, Missing, Local, Unsigned, NotZero, term_of, terms, is_comparison, word_if, plain_words, guarded_words, argument_words, arguments_words, next_names, write_call, address_term, copy_call, load_call, store_call, part_words, parts_words, start_words, import_line_words, Piece, Ahead, Cleanup, ending, import_row, pieces_of, nested, tree_of, result_of, counted, wanted_from, temporaries}
 use Rattle.glue_binding.proofs.Each.{Each, each_by, each_there, each_item, each_below}
 use Rattle.glue_binding.proofs.Coming.{next_count, next_rest, first_enough, left_exact}
 use Rattle.glue_binding.proofs.Standing.{part_good, expression_fits, step_fit, fitting, fitting_good, steps_each, prelude_places, value_places}
@@ -59,6 +60,11 @@ outside_words (PassToMemory helper exports optional) =
     absent_words optional ++ (w.Refer helper false ∷ w.Refer (codes "WASM_VECTOR_LEN") false ∷ exports_words exports)
 outside_words (DeferFree free align) = w.Refer (codes "wasm") false ∷ w.Wasm free ∷ []
 outside_words (CopyOut helper) = w.Refer helper false ∷ w.Prop (codes "slice") ∷ []
+outside_words (ReturnPointer size) = w.Refer (codes "wasm") false ∷ w.Wasm stack_mover ∷ []
+outside_words (LoadReturn view offset is_wide) = w.Refer view false ∷ w.Prop (reading_method is_wide) ∷ []
+outside_words (StoreReturn view offset is_wide) = w.Refer view false ∷ w.Prop (writing_method is_wide) ∷ []
+outside_words (IndexOf list) = w.Refer list false ∷ w.Prop (codes "indexOf") ∷ []
+outside_words (ItemAt list) = w.Refer list false ∷ []
 outside_words other = []
 
 -- those of steps, in order
@@ -303,6 +309,12 @@ module _ (kind : Word → Option (List ℕ)) (is : IsKind kind) where
       lengths = λ helper exports optional f x d. merge d.declared (of_passed helper exports optional f.0).length;
       frees = λ free align f p q h k. merge f.0 (terms_hold (p ∷ q ∷ []) (h, (k, tt)));
       copies = λ helper f x d args h. merge d.declared (copy_holds helper f.0 args h);
+      takes_room = λ size f x d. merge d.declared f.0;
+      gives_room_back = λ size f. f.0;
+      loads = λ view offset is_wide f x d p h. merge d.declared (merge f.0 (merge (merge (plain_holds p h) none) none));
+      stores = λ view offset is_wide f p q h k. merge f.0 (merge (merge (plain_holds p h) none) (merge (plain_holds q k) none));
+      finds = λ list f x d p h. merge d.declared (merge f.0 (terms_hold (p ∷ []) (h, tt)));
+      picks = λ list f x d p h. merge d.declared (merge f.0 (plain_holds p h));
     }
 
     nested_holds : (pieces : List Piece) (rest : Lines) → AllHave (λ l. Holds (line_leaves l)) pieces
@@ -494,6 +506,19 @@ copy_declares helper args =
     ap local_bound_in (append-nil (leaves_of (terms args) ++ w.Prop (codes "slice") ∷ []))
     ∙ none_declared (leaves_of (terms args)) (w.Prop (codes "slice") ∷ []) (terms_declare args) refl
 
+-- so is what is read from room for results, and written there
+place_declares : (p : Plain) (rest : List Word) → local_bound_in rest ≡ [] → local_bound_in ((leaves (term_of p) ++ []) ++ rest) ≡ []
+place_declares p rest h = none_declared (leaves (term_of p) ++ []) rest
+    (none_declared (leaves (term_of p)) [] (plain_none local_bound_name (λ n. refl) p) refl) h
+
+load_declares : (view : List ℕ) (offset : ℕ) (is_wide : Bool) (p : Plain) → local_bound_in (leaves (load_call view offset is_wide p)) ≡ []
+load_declares view offset is_wide p = place_declares p [] refl
+
+store_declares : (view : List ℕ) (offset : ℕ) (is_wide : Bool) (p q : Plain)
+    → local_bound_in (leaves (store_call view offset is_wide p q)) ≡ []
+store_declares view offset is_wide p q = place_declares p (leaves (term_of q) ++ [])
+    (none_declared (leaves (term_of q)) [] (plain_none local_bound_name (λ n. refl) q) refl)
+
 ending_declares : (stack : List Plain) → declared_in (ending stack) ≡ []
 ending_declares [] = refl
 ending_declares (p ∷ stack) = after_none (leaves (term_of p)) [] [] (plain_none local_bound_name (λ n. refl) p) refl
@@ -565,6 +590,29 @@ pieces_declare (CopyOut helper ∷ steps) params stack (x ∷ names) count g e =
     ap (λ (ns : List (List ℕ)). x ∷ ns) (after_none (leaves (copy_call helper (operands Missing 2 stack []))) _ names
     (copy_declares helper (operands Missing 2 stack [])) (pieces_declare steps params _ names (counted (CopyOut helper) count) g.1
     (omega (arith, e))))
+pieces_declare (ReturnPointer size ∷ steps) params stack [] count g e = absurd (omega (arith, e))
+pieces_declare (ReturnPointer size ∷ steps) params stack (x ∷ names) count g e =
+    let after = params ++ Local x ∷ [] in
+    ap (λ (ns : List (List ℕ)). x ∷ ns) (append-nil (declared_in (pieces_of steps after (Local x ∷ stack) names))
+    ∙ pieces_declare steps after (Local x ∷ stack) names count g.1 (omega (arith, e)))
+pieces_declare (LoadReturn view offset is_wide ∷ steps) params stack [] count g e = absurd (omega (arith, e))
+pieces_declare (LoadReturn view offset is_wide ∷ steps) params stack (x ∷ names) count g e =
+    ap (λ (ns : List (List ℕ)). x ∷ ns) (after_none (leaves (load_call view offset is_wide (last_of Missing params))) _ names
+    (load_declares view offset is_wide (last_of Missing params))
+    (pieces_declare steps params _ names (counted (LoadReturn view offset is_wide) count) g.1 (omega (arith, e))))
+pieces_declare (StoreReturn view offset is_wide ∷ steps) params stack names count g e =
+    after_none (leaves (store_call view offset is_wide (item_at Missing params 0) (top Missing stack))) _ names
+    (store_declares view offset is_wide (item_at Missing params 0) (top Missing stack)) (pieces_declare steps params _ names count g.1 e)
+pieces_declare (IndexOf list ∷ steps) params stack [] count g e = absurd (omega (arith, e))
+pieces_declare (IndexOf list ∷ steps) params stack (x ∷ names) count g e =
+    ap (λ (ns : List (List ℕ)). x ∷ ns) (after_none (leaves_of (terms (top Missing stack ∷ []))) _ names
+    (terms_declare (top Missing stack ∷ [])) (pieces_declare steps params _ names (counted (IndexOf list) count) g.1
+    (omega (arith, e))))
+pieces_declare (ItemAt list ∷ steps) params stack [] count g e = absurd (omega (arith, e))
+pieces_declare (ItemAt list ∷ steps) params stack (x ∷ names) count g e =
+    ap (λ (ns : List (List ℕ)). x ∷ ns) (after_none (leaves (term_of (top Missing stack))) _ names
+    (plain_none local_bound_name (λ n. refl) (top Missing stack))
+    (pieces_declare steps params _ names (counted (ItemAt list) count) g.1 (omega (arith, e))))
 
 params_declare : (names : List (List ℕ)) → local_bound_in (map w.LocalBind names) ≡ names
 params_declare [] = refl

@@ -1,13 +1,14 @@
 -- What holds of the statements of each row holds of the pieces of any steps.
 use Rattle.std.proofs.Common.{◌≡◌, ℕ, ◌≤◌, List, [], ◌∷◌, ◌++◌, length, Some, None, Bool, true, false, subst, arith, append_assoc}
-use Rattle.std.specs.Prelude.{codes}
+use Rattle.std.specs.Prelude.{codes, pos, neg_ℤ}
 use Rattle.glue_tree.specs.Term.{Line, Bind, Run, Leave}
 use Rattle.glue_imports.specs.declared.part.Expression.{Expression}
-use Rattle.glue_steps.specs.Stack.{top, below, operands, without}
+use Rattle.glue_steps.specs.Stack.{top, below, item_at, last_of, operands, without}
+use Rattle.glue_steps.specs.AdapterMeaning.{known}
 use Rattle.glue_steps.specs.declared.step.Step.{Step}
-use Rattle.glue_steps.specs.declared.step.Step.TheVariants.{Parameter, Unchanged, CallExport, CallImport, ToUnsigned, IsNotZero, ToUnsigned64, CallHelper, IndexFromBorrow, UnwrapResult, PassToMemory, DeferFree, CopyOut}
-use Rattle.glue_binding.specs.Spelling.{Plain, Missing, Local, Unsigned, NotZero, term_of, export_call, helper_call, unsigned_64_call, import_call, gives_back_line, throw_line, address_term, written_length, free_line, copy_call, next_names, Piece, Ahead, Cleanup, ending, import_row, row, pieces_of, result_of, wanted_by, counted, wanted_from}
-use Rattle.glue_binding.proofs.Each.{Each, each_item, each_top, each_below, each_without, each_operands}
+use Rattle.glue_steps.specs.declared.step.Step.TheVariants.{Parameter, Unchanged, CallExport, CallImport, ToUnsigned, IsNotZero, ToUnsigned64, CallHelper, IndexFromBorrow, UnwrapResult, PassToMemory, DeferFree, CopyOut, ReturnPointer, LoadReturn, StoreReturn, IndexOf, ItemAt}
+use Rattle.glue_binding.specs.Spelling.{Plain, Missing, Local, Unsigned, NotZero, term_of, export_call, helper_call, unsigned_64_call, import_call, gives_back_line, throw_line, address_term, written_length, free_line, copy_call, mover_call, load_call, store_call, index_call, item_term, next_names, Piece, Ahead, Cleanup, ending, import_row, row, pieces_of, result_of, wanted_by, counted, wanted_from}
+use Rattle.glue_binding.proofs.Each.{Each, each_both, each_item, each_last, each_top, each_below, each_without, each_operands}
 use Rattle.glue_binding.proofs.Coming.{next_count, first_enough, left_enough, next_each, left_each}
 
 -- a property of statements, by one of operands, one of names and one of steps: a line or two a step
@@ -39,6 +40,14 @@ pub record IsRowwise (D : Line → Type 0) (S : Plain → Type 0) (N : List ℕ 
       → D (Bind x written_length)
   pub frees : (free : List ℕ) (align : ℕ) → F (DeferFree free align) → (p q : Plain) → S p → S q → D (free_line free align (p ∷ q ∷ []))
   pub copies : (helper : List ℕ) → F (CopyOut helper) → (x : List ℕ) → N x → (args : List Plain) → Each S args → D (Bind x (copy_call helper args))
+  pub takes_room : (size : ℕ) → F (ReturnPointer size) → (x : List ℕ) → N x → D (Bind x (mover_call (neg_ℤ (pos size))))
+  pub gives_room_back : (size : ℕ) → F (ReturnPointer size) → D (Run (mover_call (pos size)))
+  pub loads : (view : List ℕ) (offset : ℕ) (is_wide : Bool) → F (LoadReturn view offset is_wide) → (x : List ℕ) → N x → (p : Plain) → S p
+      → D (Bind x (load_call view offset is_wide p))
+  pub stores : (view : List ℕ) (offset : ℕ) (is_wide : Bool) → F (StoreReturn view offset is_wide) → (p q : Plain) → S p → S q
+      → D (Run (store_call view offset is_wide p q))
+  pub finds : (list : List ℕ) → F (IndexOf list) → (x : List ℕ) → N x → (p : Plain) → S p → D (Bind x (index_call list p))
+  pub picks : (list : List ℕ) → F (ItemAt list) → (x : List ℕ) → N x → (p : Plain) → S p → D (Bind x (item_term list p))
 
 -- the statement of each piece has the property
 abbrev pub AllHave : (Line → Type 0) → List Piece → Type 0
@@ -85,6 +94,15 @@ row_enough (PassToMemory helper exports optional) params stack (x ∷ y ∷ name
 row_enough (DeferFree free align) params stack names count rest le = le
 row_enough (CopyOut helper) params stack [] count rest le = absurd (omega (arith, le))
 row_enough (CopyOut helper) params stack (x ∷ names) count rest le = omega (arith, le)
+row_enough (ReturnPointer size) params stack [] count rest le = absurd (omega (arith, le))
+row_enough (ReturnPointer size) params stack (x ∷ names) count rest le = omega (arith, le)
+row_enough (LoadReturn view offset is_wide) params stack [] count rest le = absurd (omega (arith, le))
+row_enough (LoadReturn view offset is_wide) params stack (x ∷ names) count rest le = omega (arith, le)
+row_enough (StoreReturn view offset is_wide) params stack names count rest le = le
+row_enough (IndexOf list) params stack [] count rest le = absurd (omega (arith, le))
+row_enough (IndexOf list) params stack (x ∷ names) count rest le = omega (arith, le)
+row_enough (ItemAt list) params stack [] count rest le = absurd (omega (arith, le))
+row_enough (ItemAt list) params stack (x ∷ names) count rest le = omega (arith, le)
 
 module _ {D : Line → Type 0} {S : Plain → Type 0} {N : List ℕ → Type 0} {F : Step → Type 0}
     (is : IsRowwise D S N F) where
@@ -246,6 +264,45 @@ module _ {D : Line → Type 0} {S : Plain → Type 0} {N : List ℕ → Type 0} 
     stack_has = (is.local x m.0, each_without S Missing is.missing 2 stack t);
     names_have = m.1;
   }
+  row_has (ReturnPointer size) params stack [] count rest f le p t m = absurd (omega (arith, le))
+  row_has (ReturnPointer size) params stack (x ∷ names) count rest f le p t m = record {
+    pieces_have = (is.takes_room size f x m.0, (is.gives_room_back size f, tt));
+    stack_has = (is.local x m.0, t);
+    names_have = m.1;
+  }
+  row_has (LoadReturn view offset is_wide) params stack [] count rest f le p t m = absurd (omega (arith, le))
+  row_has (LoadReturn view offset is_wide) params stack (x ∷ names) count rest f le p t m = record {
+    pieces_have = (is.loads view offset is_wide f x m.0 (last_of Missing params) (each_last S Missing is.missing params p), tt);
+    stack_has = (is.local x m.0, t);
+    names_have = m.1;
+  }
+  row_has (StoreReturn view offset is_wide) params stack names count rest f le p t m = record {
+    pieces_have = (
+      is.stores view offset is_wide f (item_at Missing params 0) (top Missing stack)
+          (each_item S Missing is.missing params 0 p) (each_top S Missing is.missing stack t),
+      tt,
+    );
+    stack_has = each_below S Missing is.missing stack t;
+    names_have = m;
+  }
+  row_has (IndexOf list) params stack [] count rest f le p t m = absurd (omega (arith, le))
+  row_has (IndexOf list) params stack (x ∷ names) count rest f le p t m = record {
+    pieces_have = (is.finds list f x m.0 (top Missing stack) (each_top S Missing is.missing stack t), tt);
+    stack_has = (is.local x m.0, each_below S Missing is.missing stack t);
+    names_have = m.1;
+  }
+  row_has (ItemAt list) params stack [] count rest f le p t m = absurd (omega (arith, le))
+  row_has (ItemAt list) params stack (x ∷ names) count rest f le p t m = record {
+    pieces_have = (is.picks list f x m.0 (top Missing stack) (each_top S Missing is.missing stack t), tt);
+    stack_has = (is.local x m.0, each_below S Missing is.missing stack t);
+    names_have = m.1;
+  }
+
+  -- what later steps know has the property too
+  known_has : (s : Step) (params stack : List Plain) → Each S params → Each S stack → Each S (known Missing s params stack)
+  known_has (ReturnPointer size) params stack p t =
+      each_both S params (top Missing stack ∷ []) p (each_top S Missing is.missing stack t, tt)
+  known_has other params stack p t = p
 
   -- ---- all rows: this part knows no step
 
@@ -266,6 +323,7 @@ module _ {D : Line → Type 0} {S : Plain → Type 0} {N : List ℕ → Type 0} 
       let rest = wanted_from (counted s count) steps in
       let r = row s params stack names in
       let here : RowHas r.pieces r.stack r.names = row_has s params stack names count rest f.0 le p t m in
-      all_both r.pieces (pieces_of steps params r.stack r.names) here.pieces_have
-      (pieces_have steps params r.stack r.names (counted s count) f.1
-      (row_enough s params stack names count rest le) p here.stack_has here.names_have)
+      let after = known Missing s params r.stack in
+      all_both r.pieces (pieces_of steps after r.stack r.names) here.pieces_have
+      (pieces_have steps after r.stack r.names (counted s count) f.1
+      (row_enough s params stack names count rest le) (known_has s params r.stack p here.stack_has) here.stack_has here.names_have)

@@ -4,21 +4,22 @@ use Rattle.std.specs.Prelude.{pos, nat_eq, if◌then◌else◌, codes}
 use Rattle.std.specs.Bool.{Decides}
 use Rattle.std.specs.List.{flat_map}
 use Rattle.std.specs.Cmp.Lexicographic.{pointwise}
+use Rattle.std.proofs.lemmas.List.{map-append}
 use Rattle.std.proofs.lemmas.Slice.Eq.{bytes_eq-Decides}
 use Rattle.values.specs.Lists.{IsIn, IsAway, AreDistinct}
 use Rattle.values.proofs.Members.{in_left, in_right}
-use Rattle.values.specs.Value.{Thing, Helper, OfExport, Value, Undefined, Null, Number, Entry, Reads, Calls, CallsOn, CallsAdapter, Answer, Ran, Went, Threw, Ended, Act, goes_on, step, and_then_cleans, is_true, unsigned, is_not_zero}
-use Rattle.glue_tree.specs.Term.{Export, Line, Fail, Lines, NoLines, AndLine}
+use Rattle.values.specs.Value.{Thing, Helper, OfExport, Value, Undefined, Null, Number, Entry, Reads, ReadsAt, Calls, CallsOn, CallsAdapter, Answer, Ran, Went, Threw, Ended, Act, goes_on, step, and_then_cleans, is_true, unsigned, is_not_zero, sum_of, Truth}
+use Rattle.glue_tree.specs.Term.{Export, Line, Run, Fail, Lines, NoLines, AndLine}
 use Rattle.glue_tree.specs.Plainly.{terms_of}
 use Rattle.glue_tree.specs.TreeMeaning.{Locals, locals_of, value_in, if_true, value_of, values_of, unless_left, and_always, runs, tree_meaning}
-use Rattle.glue_steps.specs.Stack.{top, below, item_at, operands, without}
-use Rattle.glue_steps.specs.AdapterMeaning.{Left, gives_back, throws_if, unsigned_64, exports_of, writes, unless_absent, address_of, frees, copies, helpers_of, act, cleans, after_act, newest, means, seen, adapter_meaning}
+use Rattle.glue_steps.specs.Stack.{top, below, item_at, last_of, operands, without}
+use Rattle.glue_steps.specs.AdapterMeaning.{Left, gives_back, throws_if, unsigned_64, exports_of, writes, unless_absent, address_of, frees, copies, takes_room, gives_room_back, loads, stores, index_of, item_of, known, helpers_of, act, cleans, after_act, newest, means, seen, adapter_meaning}
 use Rattle.glue_steps.specs.declared.step.Step.{Step}
-use Rattle.glue_steps.specs.declared.step.Step.TheVariants.{Parameter, Unchanged, CallExport, CallImport, ToUnsigned, IsNotZero, ToUnsigned64, CallHelper, IndexFromBorrow, UnwrapResult, PassToMemory, DeferFree, CopyOut}
-use Rattle.glue_binding.specs.Spelling.{Plain, Missing, Local, Unsigned, NotZero, term_of, plain_value, terms, helper_call, unsigned_64_call, next_names, gives_back_line, write_call, address_term, free_line, copy_call, import_row, pieces_of, cleaned_by, nested, tree_of, result_of, wanted_from, counted, temporaries}
+use Rattle.glue_steps.specs.declared.step.Step.TheVariants.{Parameter, Unchanged, CallExport, CallImport, ToUnsigned, IsNotZero, ToUnsigned64, CallHelper, IndexFromBorrow, UnwrapResult, PassToMemory, DeferFree, CopyOut, ReturnPointer, LoadReturn, StoreReturn, IndexOf, ItemAt}
+use Rattle.glue_binding.specs.Spelling.{Plain, Missing, Local, Unsigned, NotZero, term_of, plain_value, terms, helper_call, unsigned_64_call, next_names, gives_back_line, write_call, address_term, free_line, copy_call, mover_call, load_call, store_call, index_call, item_term, import_row, pieces_of, cleaned_by, nested, tree_of, result_of, wanted_from, counted, temporaries}
 use Rattle.glue_binding.specs.Binding.{KnowsHelpers}
 use Rattle.glue_imports.specs.declared.part.Expression.{Expression}
-use Rattle.glue_binding.proofs.Each.{Each, each_item, each_top, each_below, each_without}
+use Rattle.glue_binding.proofs.Each.{Each, each_both, each_item, each_top, each_below, each_without}
 use Rattle.glue_binding.proofs.Coming.{left_enough}
 
 -- ---- laws of runs, each by the three ways that a run can come to
@@ -90,7 +91,8 @@ means_last : (steps : List Step) (args stack : List Value) (cleanups : List (Act
     ≡ and_then_cleans (means steps args stack cleanups trace answers) c
 means_last [] args stack cleanups c trace answers = cleans_last cleanups c (Went (newest stack) trace answers)
 means_last (s ∷ steps) args stack cleanups c trace answers =
-    act_last (act s args stack trace answers) cleanups c (means steps args) (λ left ds. means_last steps args left ds c)
+    act_last (act s args stack trace answers) cleanups c (λ left. means steps (known Null s args left) left)
+    (λ left ds. means_last steps (known Null s args left) left ds c)
 
 -- ---- locals
 
@@ -159,6 +161,16 @@ fresh_push {y} {names} {params} {stack} f = record {
   from_stack = λ x k. (λ e. f.distinct.0 (subst (λ (z : List ℕ). IsIn z names) e k), f.from_stack x (inr k));
 }
 
+-- and is known from then on
+fresh_known : {y : List ℕ} {names : List (List ℕ)} {params stack : List Plain} → IsFresh (y ∷ names) params stack
+    → IsFresh names (params ++ Local y ∷ []) (Local y ∷ stack)
+fresh_known {y} {names} {params} {stack} f = record {
+  distinct = f.distinct.1;
+  from_params = λ x k. each_both (Avoids x) params (Local y ∷ []) (f.from_params x (inr k))
+      (λ e. f.distinct.0 (subst (λ (z : List ℕ). IsIn z names) e k), tt);
+  from_stack = (fresh_push f).from_stack;
+}
+
 -- the first names are taken, so many
 fresh_left : (k : ℕ) (names : List (List ℕ)) (params stack : List Plain) → IsFresh names params stack → IsFresh (without k names) params stack
 fresh_left zero names params stack f = f
@@ -191,7 +203,19 @@ pushed : (stack : List Plain) (x : List ℕ) (v : Value) (env : Locals) → Each
 pushed stack x v env h =
     ap (λ w. w ∷ map (plain_value ((x, v) ∷ env)) stack) (hit x v env) ∙ ap (λ ws. v ∷ ws) (keep stack x v env h)
 
+-- a new local behind others
+known_is : (params : List Plain) (x : List ℕ) (v : Value) (env : Locals) → Each (Avoids x) params
+    → map (plain_value ((x, v) ∷ env)) (params ++ Local x ∷ []) ≡ map (plain_value env) params ++ v ∷ []
+known_is params x v env h =
+    map-append (plain_value ((x, v) ∷ env)) params (Local x ∷ [])
+    ∙ ap (λ vs. vs ++ value_in ((x, v) ∷ env) x ∷ []) (keep params x v env h)
+    ∙ ap (λ w. map (plain_value env) params ++ w ∷ []) (hit x v env)
+
 module _ (env : Locals) where
+  last_is : (p : Plain) (ps : List Plain) → plain_value env (last_of p ps) ≡ last_of (plain_value env p) (map (plain_value env) ps)
+  last_is p [] = refl
+  last_is p (q ∷ ps) = last_is q ps
+
   top_is : (stack : List Plain) → plain_value env (top Missing stack) ≡ top Null (map (plain_value env) stack)
   top_is [] = refl
   top_is (p ∷ stack) = refl
@@ -311,6 +335,35 @@ module _ (thing_of : List ℕ → Thing) where
       ap (λ r. goes_on r (λ view. step (CallsOn view (codes "slice") [])))
       (helper_is helper (operands Missing 2 stack []) env e trace answers
       ∙ ap (λ vs. step (Calls (Helper helper) vs) trace answers) (operands_are env 2 stack []))
+
+  -- an integer is read from room, or written there, by two steps
+  loads_is : (view : List ℕ) (offset : ℕ) (is_wide : Bool) (p : Plain) (env : Locals) → thing_of view ≡ Helper view
+      → (trace : List Entry) (answers : List Answer) → value_of thing_of (load_call view offset is_wide p) env trace answers
+      ≡ loads view offset is_wide (plain_value env p) trace answers
+  loads_is view offset is_wide p env e trace answers =
+      rw (helper_is view [] env e trace answers)
+      (goes_alike (step (Calls (Helper view) []) trace answers) _ _ (λ v trace answers. rw (value_is p env trace answers) refl))
+
+  stores_is : (view : List ℕ) (offset : ℕ) (is_wide : Bool) (p q : Plain) (env : Locals) → thing_of view ≡ Helper view
+      → (trace : List Entry) (answers : List Answer) → value_of thing_of (store_call view offset is_wide p q) env trace answers
+      ≡ stores view offset is_wide (plain_value env p) (plain_value env q) trace answers
+  stores_is view offset is_wide p q env e trace answers =
+      rw (helper_is view [] env e trace answers)
+      (goes_alike (step (Calls (Helper view) []) trace answers) _ _
+      (λ v trace answers. rw (value_is p env trace answers, value_is q env trace answers) refl))
+
+  -- so is a text found in a list, or taken from it
+  index_is : (list : List ℕ) (p : Plain) (env : Locals) → thing_of list ≡ Helper list
+      → (trace : List Entry) (answers : List Answer) → value_of thing_of (index_call list p) env trace answers
+      ≡ index_of list (plain_value env p) trace answers
+  index_is list p env e trace answers =
+      rw e (goes_alike (step (Reads (Helper list)) trace answers) _ _ (λ texts trace answers. rw (value_is p env trace answers) refl))
+
+  item_taken : (list : List ℕ) (p : Plain) (env : Locals) → thing_of list ≡ Helper list
+      → (trace : List Entry) (answers : List Answer) → value_of thing_of (item_term list p) env trace answers
+      ≡ item_of list (plain_value env p) trace answers
+  item_taken list p env e trace answers =
+      rw e (goes_alike (step (Reads (Helper list)) trace answers) _ _ (λ texts trace answers. rw (value_is p env trace answers) refl))
 
   gives_back_is : (env : Locals) → thing_of (codes "heap") ≡ Helper (codes "heap")
       → thing_of (codes "stack_pointer") ≡ Helper (codes "stack_pointer") → (trace : List Entry) (answers : List Answer)
@@ -512,6 +565,50 @@ module _ (thing_of : List ℕ → Thing) where
       (λ key at. k key (inr at)) (fresh_push (fresh_without 2 f)) (omega (arith, le)) trace answers
       ∙ bound steps params (without 2 stack) x v env _ (without_is env 2 stack) (f.from_params x (inl refl))
       ((fresh_without 2 f).from_stack x (inl refl)) trace answers))
+  same (ReturnPointer size ∷ steps) params stack [] env count k f le trace answers = absurd (omega (arith, le))
+  same (ReturnPointer size ∷ steps) params stack (x ∷ names) env count k f le trace answers =
+      one_step (takes_room size trace answers) _ _ _ (λ v trace answers.
+      cleaned_is steps (Run (mover_call (pos size))) (nested (pieces_of steps (params ++ Local x ∷ []) (Local x ∷ stack) names) NoLines)
+      (gives_room_back size) ((x, v) ∷ env) (map (plain_value env) params ++ v ∷ []) (v ∷ map (plain_value env) stack)
+      (λ trace answers. refl) trace answers
+      (same steps (params ++ Local x ∷ []) (Local x ∷ stack) names ((x, v) ∷ env) count k (fresh_known f) (omega (arith, le)) trace answers
+      ∙ ap (λ l. means steps l (map (plain_value ((x, v) ∷ env)) (Local x ∷ stack)) [] trace answers)
+      (known_is params x v env (f.from_params x (inl refl)))
+      ∙ ap (λ l. means steps (map (plain_value env) params ++ v ∷ []) l [] trace answers)
+      (pushed stack x v env (f.from_stack x (inl refl)))))
+  same (LoadReturn view offset is_wide ∷ steps) params stack [] env count k f le trace answers = absurd (omega (arith, le))
+  same (LoadReturn view offset is_wide ∷ steps) params stack (x ∷ names) env count k f le trace answers =
+      rw (loads_is view offset is_wide (last_of Missing params) env (k view (inl refl)) trace answers, last_is env Missing params)
+      (one_step (loads view offset is_wide (last_of Null (map (plain_value env) params)) trace answers) _ _ _ (λ v trace answers.
+      same steps params (Local x ∷ stack) names ((x, v) ∷ env) (counted (LoadReturn view offset is_wide) count)
+      (λ key at. k key (inr at)) (fresh_push f) (omega (arith, le)) trace answers
+      ∙ bound steps params stack x v env _ refl (f.from_params x (inl refl)) (f.from_stack x (inl refl)) trace answers))
+  same (StoreReturn view offset is_wide ∷ steps) params stack names env count k f le trace answers =
+      rw (
+        stores_is view offset is_wide (item_at Missing params 0) (top Missing stack) env (k view (inl refl)) trace answers,
+        item_is env params 0,
+        top_is env stack,
+      )
+      (one_step (stores view offset is_wide (item_at Null (map (plain_value env) params) 0) (top Null (map (plain_value env) stack)) trace answers)
+      _ _ _ (λ v trace answers.
+      same steps params (below stack) names env count (λ key at. k key (inr at)) (fresh_without 1 f) le trace answers
+      ∙ ap (λ s. means steps (map (plain_value env) params) s [] trace answers) (below_is env stack)))
+  same (IndexOf list ∷ steps) params stack [] env count k f le trace answers = absurd (omega (arith, le))
+  same (IndexOf list ∷ steps) params stack (x ∷ names) env count k f le trace answers =
+      rw (index_is list (top Missing stack) env (k list (inl refl)) trace answers, top_is env stack)
+      (one_step (index_of list (top Null (map (plain_value env) stack)) trace answers) _ _ _ (λ v trace answers.
+      same steps params (Local x ∷ below stack) names ((x, v) ∷ env) (counted (IndexOf list) count)
+      (λ key at. k key (inr at)) (fresh_push (fresh_without 1 f)) (omega (arith, le)) trace answers
+      ∙ bound steps params (below stack) x v env _ (below_is env stack) (f.from_params x (inl refl))
+      ((fresh_without 1 f).from_stack x (inl refl)) trace answers))
+  same (ItemAt list ∷ steps) params stack [] env count k f le trace answers = absurd (omega (arith, le))
+  same (ItemAt list ∷ steps) params stack (x ∷ names) env count k f le trace answers =
+      rw (item_taken list (top Missing stack) env (k list (inl refl)) trace answers, top_is env stack)
+      (one_step (item_of list (top Null (map (plain_value env) stack)) trace answers) _ _ _ (λ v trace answers.
+      same steps params (Local x ∷ below stack) names ((x, v) ∷ env) (counted (ItemAt list) count)
+      (λ key at. k key (inr at)) (fresh_push (fresh_without 1 f)) (omega (arith, le)) trace answers
+      ∙ bound steps params (below stack) x v env _ (below_is env stack) (f.from_params x (inl refl))
+      ((fresh_without 1 f).from_stack x (inl refl)) trace answers))
 
 -- ---- the whole function
 

@@ -6,7 +6,8 @@ use Rattle.std.proofs.Math.Seq.{drop-cons}
 use Rattle.glue_tree.specs.Term.{Lines, AndLine}
 use Rattle.glue_tree.specs.Plainly.{plain_stmt, plain_stmts}
 use Rattle.glue_tree.specs.declared.tree.Stmt.{Stmt}
-use Rattle.glue_steps.specs.Stack.{top, below, item_at, operands, without}
+use Rattle.glue_steps.specs.Stack.{top, below, item_at, last_of, operands, without}
+use Rattle.glue_steps.specs.AdapterMeaning.{known}
 use Rattle.glue_steps.specs.declared.step.Step.{Step}
 use Rattle.glue_binding.specs.Spelling.{Plain, Missing, Local, Piece, Ahead, Cleanup, row, pieces_of, cleaned_by, nested, wanted_by, counted, wanted_from}
 use Rattle.glue_binding.specs.Body.{newest_first, stack_of, plain_operand, plain_piece, plain_pieces, behind}
@@ -59,6 +60,17 @@ pub param_missing : (params : List (List ℕ)) (n : ℕ) → length params ≤ n
 param_missing [] n h = refl
 param_missing (x ∷ params) zero h = absurd (omega arith)
 param_missing (x ∷ params) (suc n) h = param_missing params n (omega arith)
+
+-- the last parameter
+last_behind : (x : List ℕ) (params : List (List ℕ)) → item_at Missing (map Local (x ∷ params)) (length params) ≡ last_of (Local x) (map Local params)
+last_behind x [] = refl
+last_behind x (y ∷ params) = last_behind y params
+
+pub last_found : (params : List (List ℕ)) → item_at Missing (map Local params) (length params - 1) ≡ last_of Missing (map Local params)
+last_found [] = refl
+last_found (x ∷ params) =
+    let e : length (x ∷ params) - 1 ≡ length params = omega arith in
+    ap (item_at Missing (map Local (x ∷ params))) e ∙ last_behind x params
 
 -- the name at a place, and past the end
 pub name_found : (names : List (List ℕ)) (n : ℕ) → n < length names → get_or names n [] ≡ item_at [] names n
@@ -120,16 +132,19 @@ operand_absent operands n le =
 -- ---- pieces
 
 -- one step of the loop over the steps
-pub pieces_next : (steps rest : List Step) (s : Step) (params stack stack' : List Plain) (names names' : List (List ℕ))
-    (old new total : List Piece) → steps ≡ s ∷ rest → new ≡ old ++ (row s params stack names).pieces
+pub pieces_next : (steps rest : List Step) (s : Step) (params params' stack stack' : List Plain) (names names' : List (List ℕ))
+    (old new total : List Piece) → steps ≡ s ∷ rest → params' ≡ known Missing s params (row s params stack names).stack
+    → new ≡ old ++ (row s params stack names).pieces
     → stack' ≡ (row s params stack names).stack → names' ≡ (row s params stack names).names
-    → old ++ pieces_of steps params stack names ≡ total → new ++ pieces_of rest params stack' names' ≡ total
-pieces_next steps rest s params stack stack' names names' old new total e p q n inv =
-    ap (λ l. l ++ pieces_of rest params stack' names') p
-    ∙ ap (λ t. (old ++ (row s params stack names).pieces) ++ pieces_of rest params t names') q
-    ∙ ap (λ l. (old ++ (row s params stack names).pieces) ++ pieces_of rest params (row s params stack names).stack l) n
-    ∙ append_assoc old (row s params stack names).pieces
-    (pieces_of rest params (row s params stack names).stack (row s params stack names).names)
+    → old ++ pieces_of steps params stack names ≡ total → new ++ pieces_of rest params' stack' names' ≡ total
+pieces_next steps rest s params params' stack stack' names names' old new total e k p q n inv =
+    let r = row s params stack names in
+    let after = known Missing s params r.stack in
+    ap (λ l. l ++ pieces_of rest params' stack' names') p
+    ∙ ap (λ ps. (old ++ r.pieces) ++ pieces_of rest ps stack' names') k
+    ∙ ap (λ t. (old ++ r.pieces) ++ pieces_of rest after t names') q
+    ∙ ap (λ l. (old ++ r.pieces) ++ pieces_of rest after r.stack l) n
+    ∙ append_assoc old r.pieces (pieces_of rest after r.stack r.names)
     ∙ ap (λ c. old ++ pieces_of c params stack names) (sym e)
     ∙ inv
 

@@ -1,5 +1,5 @@
 -- The statements that the steps of an adapter are spelled by.
-use Rattle.std.specs.Prelude.{ℕ, zero, suc, ◌+◌, ◌==◌, pos, Bool, true, false, ◌&&◌, List, [], ◌∷◌, ◌++◌, length, map, Option, Some, None, codes, if◌then◌else◌}
+use Rattle.std.specs.Prelude.{ℕ, zero, suc, ◌+◌, ◌==◌, ℤ, pos, neg_ℤ, Bool, true, false, ◌&&◌, List, [], ◌∷◌, ◌++◌, length, map, Option, Some, None, codes, if◌then◌else◌}
 use Rattle.std.specs.List.{flat_map}
 use Rattle.glue_words.specs.declared.word.Word.{Word}
 use Rattle.glue_words.specs.declared.word.Word.TheVariants as w
@@ -22,9 +22,10 @@ use Rattle.glue_tree.specs.Term.{Term, Lit, Const, Var, Name, Outside, Export, F
 use Rattle.glue_tree.specs.Plainly.{terms_of}
 use Rattle.glue_tree.specs.Spelling.{const_start, comma_unless, is_none}
 use Rattle.glue_tree.specs.FixedWords.{semicolon}
-use Rattle.glue_steps.specs.Stack.{top, below, item_at, operands, without}
+use Rattle.glue_steps.specs.Stack.{top, below, item_at, last_of, operands, without}
+use Rattle.glue_steps.specs.AdapterMeaning.{stack_mover, reading_method, writing_method, known}
 use Rattle.glue_steps.specs.declared.step.Step.{Step}
-use Rattle.glue_steps.specs.declared.step.Step.TheVariants.{Parameter, Unchanged, CallExport, CallImport, ToUnsigned, IsNotZero, ToUnsigned64, CallHelper, IndexFromBorrow, UnwrapResult, PassToMemory, DeferFree, CopyOut}
+use Rattle.glue_steps.specs.declared.step.Step.TheVariants.{Parameter, Unchanged, CallExport, CallImport, ToUnsigned, IsNotZero, ToUnsigned64, CallHelper, IndexFromBorrow, UnwrapResult, PassToMemory, DeferFree, CopyOut, ReturnPointer, LoadReturn, StoreReturn, IndexOf, ItemAt}
 
 -- ---- operands
 
@@ -234,6 +235,37 @@ free_line free align args = Run (Apply (Export free) (terms_of (map term_of args
 abbrev pub copy_call : (helper : List ℕ) → (args : List Plain) → Term
 copy_call helper args = Apply (Field (helper_call helper args) (codes "slice")) NoTerms
 
+-- `wasm.__wbindgen_add_to_stack_pointer(amount)`
+abbrev pub mover_call : (amount : ℤ) → Term
+mover_call amount = Apply (Export stack_mover) (AndTerm (Lit amount) NoTerms)
+
+-- `address + offset`
+abbrev pub place_term : (address : Plain) → (offset : ℕ) → Term
+place_term address offset = Two binary.Add (term_of address) (Lit (pos offset))
+
+-- `view().method`
+abbrev pub view_method : (view method : List ℕ) → Term
+view_method view method = Field (helper_call view []) method
+
+-- `view().getInt32(address + offset, true)`
+abbrev pub load_call : (view : List ℕ) → (offset : ℕ) → (is_wide : Bool) → (address : Plain) → Term
+load_call view offset is_wide address =
+    Apply (view_method view (reading_method is_wide)) (AndTerm (place_term address offset) (AndTerm (Const constant.True) NoTerms))
+
+-- `view().setInt32(address + offset, value, true)`
+abbrev pub store_call : (view : List ℕ) → (offset : ℕ) → (is_wide : Bool) → (address stored : Plain) → Term
+store_call view offset is_wide address stored =
+    Apply (view_method view (writing_method is_wide))
+    (AndTerm (place_term address offset) (AndTerm (term_of stored) (AndTerm (Const constant.True) NoTerms)))
+
+-- `list.indexOf(p)`
+abbrev pub index_call : (list : List ℕ) → Plain → Term
+index_call list p = Apply (Field (Name list) (codes "indexOf")) (terms (p ∷ []))
+
+-- `list[p]`
+abbrev pub item_term : (list : List ℕ) → Plain → Term
+item_term list p = Index (Name list) (term_of p)
+
 -- ---- the table of steps
 
 -- what a step adds to the statements: a statement, or a cleanup of all that comes after
@@ -260,7 +292,7 @@ import_row adapter n true e locals stack names =
 import_row adapter n false e locals stack names =
     made (Ahead (import_call adapter None e locals (operands Missing n stack [])) ∷ []) (without n stack) names
 
--- the table of steps
+-- the table of steps; what a step knows beside the stack are the parameters, and behind them the address of room that was taken
 abbrev pub row : Step → (params stack : List Plain) → (names : List (List ℕ)) → Row
 row (Parameter n) params stack names = made [] (item_at Missing params n ∷ stack) names
 row Unchanged params stack names = made [] (top Missing stack ∷ below stack) names
@@ -293,6 +325,18 @@ row (DeferFree free align) params stack names = made (Cleanup (free_line free al
 row (CopyOut helper) params stack names =
     made (Ahead (Bind (first names) (copy_call helper (operands Missing 2 stack []))) ∷ [])
     (Local (first names) ∷ without 2 stack) (later names)
+row (ReturnPointer size) params stack names =
+    made (Ahead (Bind (first names) (mover_call (neg_ℤ (pos size)))) ∷ Cleanup (Run (mover_call (pos size))) ∷ [])
+    (Local (first names) ∷ stack) (later names)
+row (LoadReturn view offset is_wide) params stack names =
+    made (Ahead (Bind (first names) (load_call view offset is_wide (last_of Missing params))) ∷ [])
+    (Local (first names) ∷ stack) (later names)
+row (StoreReturn view offset is_wide) params stack names =
+    made (Ahead (Run (store_call view offset is_wide (item_at Missing params 0) (top Missing stack))) ∷ []) (below stack) names
+row (IndexOf list) params stack names =
+    made (Ahead (Bind (first names) (index_call list (top Missing stack))) ∷ []) (Local (first names) ∷ below stack) (later names)
+row (ItemAt list) params stack names =
+    made (Ahead (Bind (first names) (item_term list (top Missing stack))) ∷ []) (Local (first names) ∷ below stack) (later names)
 
 -- at the end the newest operand is returned, where there is one
 abbrev pub ending : List Plain → List Piece
@@ -303,8 +347,8 @@ ending (p ∷ stack) = Ahead (Leave (Some (term_of p))) ∷ []
 abbrev pub pieces_of : List Step → (params stack : List Plain) → (names : List (List ℕ)) → List Piece
 pieces_of [] params stack names = ending stack
 pieces_of (s ∷ steps) params stack names =
-    (row s params stack names).pieces ++ pieces_of steps params (row s params stack names).stack
-    (row s params stack names).names
+    (row s params stack names).pieces ++ pieces_of steps (known Missing s params (row s params stack names).stack)
+    (row s params stack names).stack (row s params stack names).names
 
 -- `try { rest } finally { last }`
 abbrev pub cleaned_by : Line → Lines → Lines
@@ -327,8 +371,8 @@ abbrev pub result_of : Bool → List (List ℕ)
 result_of true = codes "ret" ∷ []
 result_of false = []
 
--- the temporaries that a step wants: the locals of the statements before it and `ret` for a call, `ptr` and `len` for what is written to memory,
--- else `v`, each with how many steps before it have such a one
+-- the temporaries that a step wants: the locals of the statements before it and `ret` for a call, `retptr` for room, `ptr` and `len` for what is
+-- written to memory, else `v`, each but `ret` and `retptr` with how many steps before it have such a one
 abbrev pub wanted_by : Step → (count : ℕ) → List (List ℕ)
 wanted_by (CallExport name n has_result) count = result_of has_result
 wanted_by (CallImport adapter n has_result e) count = e.locals ++ result_of has_result
@@ -337,6 +381,10 @@ wanted_by (CallHelper helper n) count = numbered (codes "v") count ∷ []
 wanted_by IndexFromBorrow count = numbered (codes "v") count ∷ []
 wanted_by (PassToMemory helper exports optional) count = numbered (codes "ptr") count ∷ numbered (codes "len") count ∷ []
 wanted_by (CopyOut helper) count = numbered (codes "v") count ∷ []
+wanted_by (ReturnPointer size) count = codes "retptr" ∷ []
+wanted_by (LoadReturn view offset is_wide) count = numbered (codes "v") count ∷ []
+wanted_by (IndexOf list) count = numbered (codes "v") count ∷ []
+wanted_by (ItemAt list) count = numbered (codes "v") count ∷ []
 wanted_by other count = []
 
 -- how many have one after the step
@@ -346,6 +394,9 @@ counted (CallHelper helper n) count = count + 1
 counted IndexFromBorrow count = count + 1
 counted (PassToMemory helper exports optional) count = count + 1
 counted (CopyOut helper) count = count + 1
+counted (LoadReturn view offset is_wide) count = count + 1
+counted (IndexOf list) count = count + 1
+counted (ItemAt list) count = count + 1
 counted other count = count
 
 -- the temporaries that steps want, where so many before them have a numbered one

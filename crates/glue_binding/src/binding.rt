@@ -28,7 +28,7 @@ pub fn bind<N: Names>(
     let params = draw(alloc, &mut scope, wanted)?;
     let others = temporaries_of(alloc, steps)?;
     let temps = draw(alloc, &mut scope, others.as_slice())?;
-    let tree = body_of(alloc, steps, params.as_slice(), temps)?;
+    let tree = body_of(alloc, steps, &params, temps)?;
     let words = function_words_of(alloc, params.as_slice(), tree.as_slice())?;
     Ok(JsFunction {
         params,

@@ -4,14 +4,17 @@ ghost use Rattle.glue_tree.specs.Plainly.{plain_expr, plain_stmt, plain_stmts};
 ghost use Rattle.glue_tree.specs.Term as t;
 ghost use Rattle.glue_binding.specs.Body.{IsAfter, plain_operand, plain_pieces, stack_of, newest_first, row_of};
 ghost use Rattle.glue_binding.specs.Spelling as s;
+ghost use Rattle.glue_steps.specs.AdapterMeaning.{known};
 ghost use Rattle.glue_steps.specs.Stack.{item_at};
 
 use crate::calls::{call_export, call_import};
+use crate::lists::{index_of, item_at};
 use crate::memory::{copy_out, defer_free, pass_to_memory};
 use crate::numbers::{is_not_zero, to_unsigned, to_unsigned_64};
 use crate::objects::{borrow_index, call_helper, unwrap_result};
 use crate::operand::{Operand, to_expr};
 use crate::piece::{Piece, join};
+use crate::room::{load_return, store_return, take_room};
 use crate::stack::{next_name, pop, push};
 use glue_steps::Step;
 use glue_tree::{Expr, Stmt};
@@ -33,7 +36,7 @@ pub struct Body {
 pub fn body_of(
     alloc: Global,
     steps: &[Step],
-    params: &[Text],
+    params: &Seq<Text>,
     temps: Seq<Text>,
 ) -> Result<Seq<Stmt>, AllocError>
     ensures tree { IfOk result (λ tree. plain_stmts tree ≡ s.tree_of steps.now params.now temps) }
@@ -46,24 +49,25 @@ pub fn body_of(
 fn pieces_of(
     alloc: Global,
     steps: &[Step],
-    params: &[Text],
+    params: &Seq<Text>,
     temps: Seq<Text>,
 ) -> Result<Seq<Piece>, AllocError>
     ensures pieces { IfOk result (λ pieces. plain_pieces pieces
         ≡ s.pieces_of steps.now (map s.Local params.now) [] temps) }
 {
     let mut body = Body::new(alloc, temps);
+    let mut names = params.copy(alloc)?;
     for step in steps {
-        body.add(alloc, step, params)?;
+        body.add(alloc, step, &mut names)?;
     }
     body.finish(alloc)
 }
 
-// The parameter at a place, or the operand that stands for a lacking one.
-fn param(alloc: Global, params: &[Text], place: u32) -> Result<Operand, AllocError>
+/// The parameter at a place, or the operand that stands for a lacking one.
+pub fn param(alloc: Global, params: &[Text], place: usize) -> Result<Operand, AllocError>
     ensures operand { IfOk result (λ o. plain_operand o ≡ item_at s.Missing (map s.Local params.now) place) }
 {
-    match params.get(place as usize) {
+    match params.get(place) {
         Some(name) => Ok(Operand::Local(name.copy(alloc)?)),
         None => Ok(Operand::Missing),
     }
@@ -135,12 +139,18 @@ impl Body {
         self.ahead(Stmt::Let(name, value))
     }
 
-    // The row of a step.
-    fn add(&mut self, alloc: Global, step: &Step, params: &[Text]) -> Result<(), AllocError>
-        ensures after { OnOk result (IsAfter (row_of step.now params.now self.old) self.old self.new) }
+    // The row of a step. The names are those of the parameters, and behind them that of room, from the step on that takes it.
+    fn add(&mut self, alloc: Global, step: &Step, names: &mut Seq<Text>) -> Result<(), AllocError>
+        ensures after { OnOk result (IsAfter (row_of step.now names.old self.old) self.old self.new) }
+        ensures known { OnOk result (map s.Local names.new ≡ known s.Missing step.now (map s.Local names.old) (row_of step.now names.old self.old).stack) }
     {
         match step {
-            Step::Parameter(place) => push(&mut self.stack, param(alloc, params, *place)?),
+            Step::Parameter(place) => {
+                push(
+                    &mut self.stack,
+                    param(alloc, names.as_slice(), *place as usize)?,
+                )
+            }
             Step::Unchanged => {
                 let operand = pop(&mut self.stack);
                 push(&mut self.stack, operand)
@@ -169,6 +179,19 @@ impl Body {
             } => pass_to_memory(alloc, self, helper, exports.as_slice(), *optional),
             Step::DeferFree { free, align } => defer_free(alloc, self, free, *align),
             Step::CopyOut { helper } => copy_out(alloc, self, helper),
+            Step::ReturnPointer { size } => take_room(alloc, self, *size, names),
+            Step::LoadReturn {
+                view,
+                offset,
+                is_wide,
+            } => load_return(alloc, self, view, *offset, *is_wide, names.as_slice()),
+            Step::StoreReturn {
+                view,
+                offset,
+                is_wide,
+            } => store_return(alloc, self, view, *offset, *is_wide, names.as_slice()),
+            Step::IndexOf { list } => index_of(alloc, self, list),
+            Step::ItemAt { list } => item_at(alloc, self, list),
         }
     }
 

@@ -69,6 +69,14 @@ fn push_numbered(alloc: Global, count: usize, wanted: &mut Seq<Text>) -> Result<
     Ok(())
 }
 
+// `retptr`
+fn push_room(alloc: Global, wanted: &mut Seq<Text>) -> Result<(), AllocError>
+    ensures wanted { OnOk result (wanted.new ≡ wanted.old ++ codes "retptr" ∷ []) }
+{
+    wanted.push(Text::from_str(alloc, "retptr")?)?;
+    Ok(())
+}
+
 // `ptr` and `len`, each with the number.
 fn push_pair(alloc: Global, count: usize, wanted: &mut Seq<Text>) -> Result<(), AllocError>
     ensures wanted { OnOk result (wanted.new ≡ wanted.old ++ numbered (codes "ptr") count
@@ -101,12 +109,17 @@ fn push_wanted(
         Step::IndexFromBorrow => push_numbered(alloc, count, wanted),
         Step::PassToMemory { .. } => push_pair(alloc, count, wanted),
         Step::CopyOut { .. } => push_numbered(alloc, count, wanted),
+        Step::ReturnPointer { .. } => push_room(alloc, wanted),
+        Step::LoadReturn { .. } => push_numbered(alloc, count, wanted),
+        Step::IndexOf { .. } => push_numbered(alloc, count, wanted),
+        Step::ItemAt { .. } => push_numbered(alloc, count, wanted),
         Step::Parameter(_) => Ok(()),
         Step::Unchanged => Ok(()),
         Step::ToUnsigned => Ok(()),
         Step::IsNotZero => Ok(()),
         Step::UnwrapResult { .. } => Ok(()),
         Step::DeferFree { .. } => Ok(()),
+        Step::StoreReturn { .. } => Ok(()),
     }
 }
 
@@ -122,6 +135,9 @@ fn counted(step: &Step, count: usize) -> usize
         Step::IndexFromBorrow => count + 1,
         Step::PassToMemory { .. } => count + 1,
         Step::CopyOut { .. } => count + 1,
+        Step::LoadReturn { .. } => count + 1,
+        Step::IndexOf { .. } => count + 1,
+        Step::ItemAt { .. } => count + 1,
         _ => count,
     }
 }

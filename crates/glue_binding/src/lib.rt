@@ -12,11 +12,13 @@ mod body;
 mod calls;
 mod draw;
 mod import;
+mod lists;
 mod memory;
 mod numbers;
 mod objects;
 mod operand;
 mod piece;
+mod room;
 mod seed;
 mod stack;
 

@@ -47,7 +47,7 @@ pub fn reserve_seed<N: Names>(
 ) -> Result<(), AllocError>
     ensures bound { OnOk result (N.bound scope.new ≡ with_texts (N.bound scope.old) (outer_names steps.now)) }
 {
-    let body = body_of(alloc, steps, &[], Seq::new(alloc))?;
+    let body = body_of(alloc, steps, &Seq::new(alloc), Seq::new(alloc))?;
     let words = function_words_of(alloc, &[], body.as_slice())?;
     reserve_words(scope, words.as_slice())
 }

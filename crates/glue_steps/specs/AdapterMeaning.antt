@@ -1,9 +1,9 @@
 -- What an adapter does: its steps run over a stack of operands.
-use Rattle.std.specs.Prelude.{ℕ, zero, suc, pos, Bool, true, false, List, [], ◌∷◌, ◌++◌, Option, Some, None, codes}
-use Rattle.values.specs.Value.{Helper, OfExport, OfHost, Value, Undefined, Null, Number, Itself, Reads, WritesAt, Calls, CallsOn, CallsAdapter, Answer, Ran, Went, Threw, Ended, Act, goes_on, step, and_then_cleans, is_true, unsigned, is_not_zero, bump}
-use Rattle.glue_steps.specs.Stack.{top, below, item_at, operands, without}
+use Rattle.std.specs.Prelude.{ℕ, zero, suc, pos, neg_ℤ, Bool, true, false, List, [], ◌∷◌, ◌++◌, Option, Some, None, codes}
+use Rattle.values.specs.Value.{Helper, OfExport, OfHost, Value, Undefined, Null, Truth, Number, Itself, Reads, ReadsAt, WritesAt, Calls, CallsOn, CallsAdapter, Answer, Ran, Went, Threw, Ended, Act, goes_on, step, and_then_cleans, is_true, unsigned, is_not_zero, sum_of, bump}
+use Rattle.glue_steps.specs.Stack.{top, below, item_at, last_of, operands, without}
 use Rattle.glue_steps.specs.declared.step.Step.{Step}
-use Rattle.glue_steps.specs.declared.step.Step.TheVariants.{Parameter, Unchanged, CallExport, CallImport, ToUnsigned, IsNotZero, ToUnsigned64, CallHelper, IndexFromBorrow, UnwrapResult, PassToMemory, DeferFree, CopyOut}
+use Rattle.glue_steps.specs.declared.step.Step.TheVariants.{Parameter, Unchanged, CallExport, CallImport, ToUnsigned, IsNotZero, ToUnsigned64, CallHelper, IndexFromBorrow, UnwrapResult, PassToMemory, DeferFree, CopyOut, ReturnPointer, LoadReturn, StoreReturn, IndexOf, ItemAt}
 
 -- ---- steps. Where an operand or a parameter is lacking, `null` stands for it; a checked adapter never comes there
 
@@ -71,6 +71,55 @@ copies helper stack trace answers =
     goes_on (step (Calls (Helper helper) (operands Null 2 stack [])) trace answers) (λ view.
     step (CallsOn view (codes "slice") []))
 
+-- the export that moves the stack of the module by so many bytes, and answers the address where it then ends
+abbrev pub stack_mover : List ℕ
+stack_mover = codes "__wbindgen_add_to_stack_pointer"
+
+-- room of so many bytes on the stack of the module is taken, and given back
+abbrev pub takes_room : (size : ℕ) → Act Value
+takes_room size = step (Calls (OfExport stack_mover) (Number (neg_ℤ (pos size)) ∷ []))
+
+abbrev pub gives_room_back : (size : ℕ) → Act Value
+gives_room_back size = step (Calls (OfExport stack_mover) (Number (pos size) ∷ []))
+
+-- the methods of a view of memory that read and write an integer of 32 bits, or of 64
+abbrev pub reading_method : (is_wide : Bool) → List ℕ
+reading_method false = codes "getInt32"
+reading_method true = codes "getBigInt64"
+
+abbrev pub writing_method : (is_wide : Bool) → List ℕ
+writing_method false = codes "setInt32"
+writing_method true = codes "setBigInt64"
+
+-- `view().getInt32(address + offset, true)`
+abbrev pub loads : (view : List ℕ) → (offset : ℕ) → (is_wide : Bool) → (address : Value) → Act Value
+loads view offset is_wide address trace answers =
+    goes_on (step (Calls (Helper view) []) trace answers) (λ v.
+    step (CallsOn v (reading_method is_wide) (sum_of address (Number (pos offset)) ∷ Truth true ∷ [])))
+
+-- `view().setInt32(address + offset, value, true)`
+abbrev pub stores : (view : List ℕ) → (offset : ℕ) → (is_wide : Bool) → (address stored : Value) → Act Value
+stores view offset is_wide address stored trace answers =
+    goes_on (step (Calls (Helper view) []) trace answers) (λ v.
+    step (CallsOn v (writing_method is_wide) (sum_of address (Number (pos offset)) ∷ stored ∷ Truth true ∷ [])))
+
+-- `list.indexOf(v)`
+abbrev pub index_of : (list : List ℕ) → Value → Act Value
+index_of list v trace answers =
+    goes_on (step (Reads (Helper list)) trace answers) (λ texts.
+    step (CallsOn texts (codes "indexOf") (v ∷ [])))
+
+-- `list[v]`
+abbrev pub item_of : (list : List ℕ) → Value → Act Value
+item_of list v trace answers =
+    goes_on (step (Reads (Helper list)) trace answers) (λ texts.
+    step (ReadsAt texts v))
+
+-- what later steps know beside the stack: the parameters, and behind them the address of room, from the step on that takes it
+abbrev pub known : {A : Type 0} → A → Step → (known stack : List A) → List A
+known default (ReturnPointer size) before stack = before ++ top default stack ∷ []
+known default other before stack = before
+
 -- what a step does
 abbrev pub act : Step → List Value → List Value → Act Left
 act (Parameter n) args stack trace answers = pushes (item_at Null args n ∷ stack) trace answers
@@ -102,8 +151,23 @@ act (DeferFree free align) args stack trace answers = Went (stack, frees free al
 act (CopyOut helper) args stack trace answers =
     goes_on (copies helper stack trace answers) (λ v.
     pushes (v ∷ without 2 stack))
+act (ReturnPointer size) args stack trace answers =
+    goes_on (takes_room size trace answers) (λ v.
+    Went (v ∷ stack, gives_room_back size ∷ []))
+act (LoadReturn view offset is_wide) args stack trace answers =
+    goes_on (loads view offset is_wide (last_of Null args) trace answers) (λ v.
+    pushes (v ∷ stack))
+act (StoreReturn view offset is_wide) args stack trace answers =
+    goes_on (stores view offset is_wide (item_at Null args 0) (top Null stack) trace answers) (λ v.
+    pushes (below stack))
+act (IndexOf list) args stack trace answers =
+    goes_on (index_of list (top Null stack) trace answers) (λ v.
+    pushes (v ∷ below stack))
+act (ItemAt list) args stack trace answers =
+    goes_on (item_of list (top Null stack) trace answers) (λ v.
+    pushes (v ∷ below stack))
 
--- the helpers that a step calls, reads or writes, by their names
+-- the helpers, and the lists of string enums, that a step calls, reads or writes, by their names
 abbrev pub helpers_of : Step → List (List ℕ)
 helpers_of (CallHelper helper n) = helper ∷ []
 helpers_of IndexFromBorrow = codes "addBorrowedObject" ∷ codes "heap" ∷ codes "stack_pointer" ∷ []
@@ -111,6 +175,10 @@ helpers_of (UnwrapResult helper) = helper ∷ []
 helpers_of (PassToMemory helper exports false) = helper ∷ codes "WASM_VECTOR_LEN" ∷ []
 helpers_of (PassToMemory helper exports true) = codes "isLikeNone" ∷ helper ∷ codes "WASM_VECTOR_LEN" ∷ []
 helpers_of (CopyOut helper) = helper ∷ []
+helpers_of (LoadReturn view offset is_wide) = view ∷ []
+helpers_of (StoreReturn view offset is_wide) = view ∷ []
+helpers_of (IndexOf list) = list ∷ []
+helpers_of (ItemAt list) = list ∷ []
 helpers_of other = []
 
 -- ---- adapters
@@ -136,7 +204,7 @@ after_act (Ended trace) cleanups next = Ended trace
 abbrev pub means : List Step → List Value → List Value → List (Act Value) → Act (Option Value)
 means [] args stack cleanups trace answers = cleans cleanups (Went (newest stack) trace answers)
 means (s ∷ steps) args stack cleanups trace answers = after_act (act s args stack trace answers) cleanups
-    (means steps args)
+    (λ left. means steps (known Null s args left) left)
 
 -- the arguments as so many parameters see them: one that isn't given is `undefined`, and further ones aren't seen
 abbrev pub seen : ℕ → List Value → List Value

@@ -2,4 +2,5 @@ pub mod AdapterMeaning
 pub mod Exported
 pub mod Needed
 pub mod Resolving
+pub mod Room
 pub mod Stack

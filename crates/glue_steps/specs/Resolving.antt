@@ -5,6 +5,8 @@ use Rattle.std.specs.Ordering.{nat_cmp}
 use Rattle.std.specs.declared.cmp.Ordering.{Ordering}
 use Rattle.values.specs.Map.{look_up}
 use Rattle.wasm_core.specs.types.FuncType.{FuncType}
+use Rattle.wasm_core.specs.types.ValType.{ValType}
+use Rattle.wasm_core.specs.types.ValType.TheVariants as types
 use Rattle.wasm_core.specs.entries.Export.{Export}
 use Rattle.wasm_core.specs.entries.ExportItem.{ExportItem}
 use Rattle.wasm_core.specs.entries.ExportItem.TheVariants as items
@@ -188,6 +190,26 @@ abbrev pub vector_written : NameMap → VectorKind → (malloc : FuncId) → Mem
 vector_written names kind malloc memory =
     steps.PassToMemory (writing_helper kind memory) (functions_named names (malloc ∷ [])) false
 
+-- the helper that gives a view of a memory
+abbrev pub view_helper : MemoryId → List ℕ
+view_helper memory = codes "getDataViewMemory" ++ decimal memory.0
+
+-- a type is that of integers of 64 bits
+abbrev pub is_wide : ValType → Bool
+is_wide types.I64 = true
+is_wide other = false
+
+-- a result is read from the room that was taken for it, and one is written to the room that a caller took
+abbrev pub result_read : (offset : ℕ) → ValType → MemoryId → Step
+result_read offset ty memory = steps.LoadReturn (view_helper memory) offset (is_wide ty)
+
+abbrev pub result_written : (offset : ℕ) → ValType → MemoryId → Step
+result_written offset ty memory = steps.StoreReturn (view_helper memory) offset (is_wide ty)
+
+-- the list of the texts of a string enum
+abbrev pub list_named : (enum : List ℕ) → List ℕ
+list_named enum = codes "__wbindgen_enum_" ++ enum
+
 -- the step that an instruction is, where it is built
 abbrev pub step_of : Settings → NameMap → Lowered → Instruction → Option Step
 step_of s names l (instr.ArgGet n) = Some (steps.Parameter n)
@@ -207,6 +229,11 @@ step_of s names l (instr.MemoryToString memory) = Some (steps.CallHelper (codes 
 step_of s names l (instr.DeferFree free align) = Some (steps.DeferFree (export_named names (Some (items.Func free))) align)
 step_of s names l (instr.VecFromWasm kind memory) = Some (vector_read kind memory)
 step_of s names l (instr.VecToWasm kind malloc memory) = Some (vector_written names kind malloc memory)
+step_of s names l (instr.Retptr size) = Some (steps.ReturnPointer size)
+step_of s names l (instr.LoadRetptr offset ty memory) = Some (result_read offset ty memory)
+step_of s names l (instr.StoreRetptr offset ty memory) = Some (result_written offset ty memory)
+step_of s names l (instr.EnumIndex name) = Some (steps.IndexOf (list_named name))
+step_of s names l (instr.EnumText name) = Some (steps.ItemAt (list_named name))
 step_of s names l other = handle_step s l other
 
 abbrev pub with_step : Option Step → Option (List Step) → Option (List Step)
@@ -239,4 +266,6 @@ helper_of s l (instr.OptionStringToMemory malloc realloc memory) = Some (codes "
 helper_of s l (instr.MemoryToString memory) = Some (codes "getStringFromWasm" ++ decimal memory.0)
 helper_of s l (instr.VecFromWasm kind memory) = Some (reading_helper kind memory)
 helper_of s l (instr.VecToWasm kind malloc memory) = Some (writing_helper kind memory)
+helper_of s l (instr.LoadRetptr offset ty memory) = Some (view_helper memory)
+helper_of s l (instr.StoreRetptr offset ty memory) = Some (view_helper memory)
 helper_of s l other = None

@@ -26,3 +26,8 @@ operands default (suc n) stack taken = operands default n (below stack) (top def
 abbrev pub without : {A : Type 0} → ℕ → List A → List A
 without zero stack = stack
 without (suc n) stack = without n (below stack)
+
+-- the last item of a list
+abbrev pub last_of : {A : Type 0} → A → List A → A
+last_of default [] = default
+last_of default (x ∷ xs) = last_of x xs

@@ -6,7 +6,8 @@
 //! (`proofs/Named.antt`). `specs/AdapterMeaning.antt` says what steps mean: a run over a
 //! stack of operands, with a trace of all that it does to the outside. `specs/Exported.antt` has the names under which a module exports,
 //! of which a call names one. `needed_items` tells which items of the module an instruction takes, by its ids and by the parts of the
-//! description that it goes by (`specs/Needed.antt`).
+//! description that it goes by (`specs/Needed.antt`); `makes_room` tells whether code takes room for results on the stack of the module
+//! (`specs/Room.antt`).
 //!
 //! Stands on `wasm_core`, `glue_shared`, `glue_imports` and `values`. It draws no names, and of an import's text it knows nothing.
 #![tactic(auto)]
@@ -15,9 +16,11 @@ mod indexed;
 mod memory;
 mod needed;
 mod resolving;
+mod room;
 mod step;
 
 pub use indexed::Indexed;
 pub use needed::{REFERENCE_PARTS, ReferencePart, goes_by, needed_items, part_item};
 pub use resolving::{adapter_steps, function_type};
+pub use room::{has_stack, is_room, makes_room};
 pub use step::Step;

@@ -1,4 +1,4 @@
-//! Steps of what passes through a memory of the module: strings, vectors, and what is freed.
+//! Steps of what passes through a memory of the module: strings, vectors, results in room that is taken for them, and what is freed.
 ghost use Rattle.std.specs.Prelude.{◌≡◌, ◌++◌, ◌∷◌, [], Some, IfOk, OnOk, codes};
 ghost use Rattle.std.specs.Fmt.{decimal};
 ghost use Rattle.wasm_core.specs.entries.ExportItem.TheVariants as items;
@@ -10,7 +10,7 @@ use crate::step::Step;
 use glue_shared::{NameMap, VectorKind};
 use std::alloc::{AllocError, Global};
 use values::{Seq, Text};
-use wasm_core::{ExportItem, FuncId, MemoryId};
+use wasm_core::{ExportItem, FuncId, MemoryId, ValType};
 
 // What the names of helpers call the elements of vectors.
 fn element_letters(kind: VectorKind) -> &'static str
@@ -157,5 +157,52 @@ pub fn freed(alloc: Global, names: &NameMap, free: FuncId, align: u32) -> Result
     Ok(Step::DeferFree {
         free: Text::from_str(alloc, name)?,
         align,
+    })
+}
+
+// The helper that gives a view of a memory.
+fn view_helper(alloc: Global, memory: MemoryId) -> Result<Text, AllocError>
+    ensures name { IfOk result (λ name. name ≡ spec.view_helper memory) }
+{
+    let place = memory.0;
+    Ok(Text::new(format!(in alloc; "getDataViewMemory{place}")?))
+}
+
+// Whether a type is that of integers of 64 bits.
+fn is_wide(ty: ValType) -> bool
+    ensures test { result ≡ spec.is_wide ty }
+{
+    matches!(ty, ValType::I64)
+}
+
+/// The step of a result that is read from the room that was taken for it.
+pub fn result_read(
+    alloc: Global,
+    offset: u32,
+    ty: ValType,
+    memory: MemoryId,
+) -> Result<Step, AllocError>
+    ensures step { IfOk result (λ step. step ≡ spec.result_read offset ty memory) }
+{
+    Ok(Step::LoadReturn {
+        view: view_helper(alloc, memory)?,
+        offset,
+        is_wide: is_wide(ty),
+    })
+}
+
+/// The step of a result that is written to the room that a caller took.
+pub fn result_written(
+    alloc: Global,
+    offset: u32,
+    ty: ValType,
+    memory: MemoryId,
+) -> Result<Step, AllocError>
+    ensures step { IfOk result (λ step. step ≡ spec.result_written offset ty memory) }
+{
+    Ok(Step::StoreReturn {
+        view: view_helper(alloc, memory)?,
+        offset,
+        is_wide: is_wide(ty),
     })
 }

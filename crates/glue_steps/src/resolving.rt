@@ -4,7 +4,9 @@ ghost use Rattle.std.specs.Option.{option_copied};
 ghost use Rattle.glue_steps.specs.Resolving as spec;
 
 use crate::indexed::Indexed;
-use crate::memory::{freed, string_read, string_written, vector_read, vector_written};
+use crate::memory::{
+    freed, result_read, result_written, string_read, string_written, vector_read, vector_written,
+};
 use crate::step::Step;
 use glue_imports::{Basis, Expression, Given, expression, given_item};
 use glue_shared::{
@@ -264,6 +266,15 @@ fn handle_step(
     }
 }
 
+// The list of the texts of a string enum.
+fn list_named(alloc: Global, name: &Text) -> Result<Text, AllocError>
+    ensures name { IfOk result (λ list. list ≡ spec.list_named name.now) }
+{
+    let mut list = Text::from_str(alloc, "__wbindgen_enum_")?;
+    list.push_str(name.as_str())?;
+    Ok(list)
+}
+
 // The step that an instruction is, where it is built.
 fn step_of(
     alloc: Global,
@@ -310,6 +321,19 @@ fn step_of(
             *malloc,
             *memory,
         )?)),
+        Instruction::Retptr(size) => Ok(Some(Step::ReturnPointer { size: *size })),
+        Instruction::LoadRetptr(offset, ty, memory) => {
+            Ok(Some(result_read(alloc, *offset, *ty, *memory)?))
+        }
+        Instruction::StoreRetptr(offset, ty, memory) => {
+            Ok(Some(result_written(alloc, *offset, *ty, *memory)?))
+        }
+        Instruction::EnumIndex(name) => Ok(Some(Step::IndexOf {
+            list: list_named(alloc, name)?,
+        })),
+        Instruction::EnumText(name) => Ok(Some(Step::ItemAt {
+            list: list_named(alloc, name)?,
+        })),
         other => handle_step(alloc, basis.settings, indexed.lowered(), other),
     }
 }

@@ -72,4 +72,38 @@ pub enum Step {
         /// The helper's name.
         helper: Text,
     },
+    /// Takes room for results on the stack of the module until the adapter ends, and pushes its address, which later steps know.
+    ReturnPointer {
+        /// How much, in bytes.
+        size: u32,
+    },
+    /// Pushes an integer that is read from that room, by a helper that gives a view of memory.
+    LoadReturn {
+        /// The helper's name.
+        view: Text,
+        /// Where it stands in the room, in bytes from its address.
+        offset: u32,
+        /// Whether it has 64 bits, and not 32.
+        is_wide: bool,
+    },
+    /// Pops an integer and writes it to the room that a caller took, whose address is the first parameter, by a helper that gives a view of
+    /// memory.
+    StoreReturn {
+        /// The helper's name.
+        view: Text,
+        /// Where it stands in the room, in bytes from its address.
+        offset: u32,
+        /// Whether it has 64 bits, and not 32.
+        is_wide: bool,
+    },
+    /// Pops a text of a string enum, and pushes its place in the enum's list, counted from 0, or -1 where it doesn't stand there.
+    IndexOf {
+        /// The list's name.
+        list: Text,
+    },
+    /// Pops a place, and pushes the text that stands there in the list of a string enum, or `undefined`.
+    ItemAt {
+        /// The list's name.
+        list: Text,
+    },
 }

@@ -10,7 +10,7 @@ loop-step-preserved c =
     let i = c.loop-step.step-index in
     let body = c.loop-step.body in
     let after = c.in_ok-add.ensures.after in
-    pieces_next (drop i steps) (drop (i + 1) steps) c.step-item.result (map Local c.args.params.now)
+    pieces_next (drop i steps) (drop (i + 1) steps) c.step-item.result (map Local c.loop-step.names) _
     (stack_of body.stack) _ (newest_first body.coming) _ _ _ _
-    (drop_next steps i _ c.loop-step-test.true c.step-item.is) after.pieces after.stack after.names
+    (drop_next steps i _ c.loop-step-test.true c.step-item.is) c.in_ok-add.ensures.known after.pieces after.stack after.names
     c.loop-step.invariant

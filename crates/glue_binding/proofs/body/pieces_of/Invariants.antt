@@ -5,6 +5,6 @@ use Rattle.glue_binding.proofs.body.pieces_of.Given as goal
 
 abbrev pub invariant-loop-step : goal.invariant-loop-step
 invariant-loop-step l =
-    plain_pieces l.body.pieces ++ pieces_of (drop l.step-index l.steps) (map Local l.params) (stack_of l.body.stack)
+    plain_pieces l.body.pieces ++ pieces_of (drop l.step-index l.steps) (map Local l.names) (stack_of l.body.stack)
     (newest_first l.body.coming)
     ≡ pieces_of l.steps (map Local l.params) [] l.fn.temps
