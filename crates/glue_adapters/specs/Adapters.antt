@@ -88,22 +88,22 @@ calls_one_import code = count_by is_import_call code == 1 && not (list_any is_ex
 abbrev pub calls_import : Lowered → List ℕ → List Instruction → Bool
 calls_import l entries code = calls_one_import code && list_all (is_described_call l entries) code
 
--- JavaScript values are passed to an export, and its result comes back as one
-unfoldable pub fits_outward : Lowered → Adapter → Bool
-fits_outward l a =
-    (is_few a.results && calls_export (code_of a.kind)) && is_well_stacked l (js_kinds a.args) (js_kinds a.results) (code_of a.kind)
+-- JavaScript values are passed to an export, and its result comes back as one, where these string enums are described
+unfoldable pub fits_outward : Lowered → (enums : List (List ℕ)) → Adapter → Bool
+fits_outward l enums a =
+    (is_few a.results && calls_export (code_of a.kind)) && is_well_stacked l enums (js_kinds a.args) (js_kinds a.results) (code_of a.kind)
 
 -- the same of values of these kinds
-abbrev pub passes_kinds : Lowered → List Instruction → Option (List Kind) → Option (List Kind) → Bool
-passes_kinds l code (Some params) (Some results) = is_well_stacked l params results code
-passes_kinds l code params results = false
+abbrev pub passes_kinds : Lowered → (enums : List (List ℕ)) → List Instruction → (params results : Option (List Kind)) → Bool
+passes_kinds l enums code (Some params) (Some results) = is_well_stacked l enums params results code
+passes_kinds l enums code params results = false
 
 -- as many arguments and results as the type of the import has
 abbrev pub has_counts : Adapter → FuncType → Bool
 has_counts a ty = (length a.args == length ty.params && length a.results == length ty.results) && is_few ty.results
 
 -- the values of an import's type are passed to what is described, and its result comes back as one of that type
-unfoldable pub fits_inward : Lowered → List ℕ → Adapter → FuncType → Bool
-fits_inward l entries a ty =
+unfoldable pub fits_inward : Lowered → (enums : List (List ℕ)) → (entries : List ℕ) → Adapter → FuncType → Bool
+fits_inward l enums entries a ty =
     ((has_code a.kind && has_counts a ty) && calls_import l entries (code_of a.kind))
-    && passes_kinds l (code_of a.kind) (kinds_of ty.params) (kinds_of ty.results)
+    && passes_kinds l enums (code_of a.kind) (kinds_of ty.params) (kinds_of ty.results)

@@ -29,7 +29,7 @@ use Rattle.glue_faults.specs.declared.fault.Fault.TheVariants as faults
 use Rattle.glue_faults.specs.First.{first_some, first_after}
 use Rattle.glue_adapters.specs.Adapters.{adapter_at, has_code, is_local, is_import, fits_outward, fits_inward}
 use Rattle.glue_adapters.specs.Called.{fits_import}
-use Rattle.glue_adapters.specs.Stack.{export_type}
+use Rattle.glue_adapters.specs.Stack.{enum_names, export_type}
 
 -- ---- the lists in which adapters stand
 
@@ -48,8 +48,8 @@ described l = map (λ entry. entry.0) l.aux.imports
 -- ---- adapters with code
 
 -- an adapter with code that stands for no import isn't one that an export could have
-unfoldable pub is_bad_code : Lowered → List ℕ → ℕ × Adapter → Bool
-is_bad_code l pairs entry = has_code entry.1.kind && (not (has_number entry.0 pairs) && not (fits_outward l entry.1))
+unfoldable pub is_bad_code : Lowered → (enums : List (List ℕ)) → (pairs : List ℕ) → ℕ × Adapter → Bool
+is_bad_code l enums pairs entry = has_code entry.1.kind && (not (has_number entry.0 pairs) && not (fits_outward l enums entry.1))
 
 -- ---- adapters that stand for imports
 
@@ -62,21 +62,22 @@ import_type m other = None
 abbrev pub imported_type : Contents → ℕ → Option FuncType
 imported_type m place = option_and_then (λ (i : Import). import_type m i.kind) (entry_at m.imports place)
 
-abbrev pub fits_type : Lowered → List ℕ → Option FuncType → Option Adapter → Bool
-fits_type l entries (Some ty) (Some a) = fits_inward l entries a ty
-fits_type l entries ty a = false
+abbrev pub fits_type : Lowered → (enums : List (List ℕ)) → (entries : List ℕ) → Option FuncType → Option Adapter → Bool
+fits_type l enums entries (Some ty) (Some a) = fits_inward l enums entries a ty
+fits_type l enums entries ty a = false
 
 -- the adapter passes the values of the function that is imported
-unfoldable pub fits_pair : Lowered → List ℕ → ImportId × ℕ → Bool
-fits_pair l entries pair = fits_type l entries (imported_type l.«module» pair.0.0) (adapter_at l pair.1)
+unfoldable pub fits_pair : Lowered → (enums : List (List ℕ)) → (entries : List ℕ) → ImportId × ℕ → Bool
+fits_pair l enums entries pair = fits_type l enums entries (imported_type l.«module» pair.0.0) (adapter_at l pair.1)
 
 -- the import or the adapter is one of these, or the two don't fit
-abbrev pub is_repeated_pair : Lowered → List ℕ → List ℕ → List ℕ → ImportId × ℕ → Bool
-is_repeated_pair l entries places ids pair = (has_number pair.0.0 places || has_number pair.1 ids) || not (fits_pair l entries pair)
+abbrev pub is_repeated_pair : Lowered → (enums : List (List ℕ)) → (entries places ids : List ℕ) → ImportId × ℕ → Bool
+is_repeated_pair l enums entries places ids pair =
+    (has_number pair.0.0 places || has_number pair.1 ids) || not (fits_pair l enums entries pair)
 
 -- the import or the adapter stands in an earlier pair, or the two don't fit
-unfoldable pub is_bad_pair : Lowered → List ℕ → List (ImportId × ℕ) → ImportId × ℕ → Bool
-is_bad_pair l entries before pair = is_repeated_pair l entries (map (λ p. p.0.0) before) (map (λ p. p.1) before) pair
+unfoldable pub is_bad_pair : Lowered → (enums : List (List ℕ)) → (entries : List ℕ) → (before : List (ImportId × ℕ)) → ImportId × ℕ → Bool
+is_bad_pair l enums entries before pair = is_repeated_pair l enums entries (map (λ p. p.0.0) before) (map (λ p. p.1) before) pair
 
 -- ---- adapters that closures call
 
@@ -143,11 +144,11 @@ lacks_call l id = not (is_import (adapter_at l id))
 
 -- the first of the adapters
 unfoldable pub bad_local : Lowered → Option ℕ
-bad_local l = option_map (λ entry. entry.0) (find (is_bad_code l (paired l)) l.wit.adapters)
+bad_local l = option_map (λ entry. entry.0) (find (is_bad_code l (enum_names l) (paired l)) l.wit.adapters)
 
 -- of the pairs
 unfoldable pub bad_paired : Lowered → Option ℕ
-bad_paired l = option_map (λ pair. pair.1) (first_after (is_bad_pair l (described l)) [] l.wit.implements)
+bad_paired l = option_map (λ pair. pair.1) (first_after (is_bad_pair l (enum_names l) (described l)) [] l.wit.implements)
 
 -- of the adapters that closures call
 unfoldable pub bad_called : Lowered → Option ℕ

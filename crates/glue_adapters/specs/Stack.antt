@@ -1,5 +1,5 @@
--- The kinds of values that an adapter's code keeps on its stack.
-use Rattle.std.specs.Prelude.{ℕ, ◌-◌, nat_le, Bool, true, false, ◌&&◌, if◌then◌else◌, List, [], ◌∷◌, ◌++◌, length, map, take, drop, slice_get, Option, Some, None, option_map, option_and_then}
+-- The kinds of values that an adapter's code keeps on its stack, and the room for results that it takes.
+use Rattle.std.specs.Prelude.{ℕ, ◌-◌, nat_le, Bool, true, false, not, ◌&&◌, ◌||◌, if◌then◌else◌, List, [], ◌∷◌, ◌++◌, length, map, take, drop, slice_get, Option, Some, None, option_map, option_and_then}
 use Rattle.std.specs.List.{list_all}
 use Rattle.std.specs.Ordering.{nat_cmp}
 use Rattle.values.specs.Map.{look_up}
@@ -16,8 +16,10 @@ use Rattle.glue_shared.specs.declared.adapter.AdapterType.TheVariants as adapter
 use Rattle.glue_shared.specs.declared.adapter.Instruction.{Instruction}
 use Rattle.glue_shared.specs.declared.adapter.Instruction.TheVariants as instr
 use Rattle.glue_shared.specs.declared.description.Lowered.{Lowered}
+use Rattle.glue_shared.specs.Names.{is_one_of}
 use Rattle.glue_shared.specs.Roots.{instruction_items, is_live_item}
 use Rattle.glue_steps.specs.Resolving.{entry_at, type_of}
+use Rattle.glue_steps.specs.Room.{is_room}
 use Rattle.glue_adapters.specs.declared.kind.Kind.{Kind}
 use Rattle.glue_adapters.specs.declared.kind.Kind.TheVariants as kind
 use Rattle.glue_adapters.specs.declared.stack.Effect.{Effect}
@@ -57,6 +59,12 @@ kind_of other = None
 abbrev pub with_kind : Option Kind → Option (List Kind) → Option (List Kind)
 with_kind None kinds = None
 with_kind (Some k) kinds = option_map (λ ks. k ∷ ks) kinds
+
+-- the kind of a result that is passed in room
+abbrev pub number_kind : ValType → Option Kind
+number_kind types.I32 = Some kind.I32
+number_kind types.I64 = Some kind.I64
+number_kind other = None
 
 -- the kinds of WebAssembly types, where JavaScript can pass each
 abbrev pub kinds_of : List ValType → Option (List Kind)
@@ -110,33 +118,65 @@ adapter_effect a = effect_of (map argument_kind a.args) (answer_kinds a.results)
 abbrev pub names_live : Lowered → Instruction → Bool
 names_live l i = list_all (is_live_item l.«module») (instruction_items i)
 
--- what passes through memory: a string or a vector for its address and its length, or the other way; what is freed in the end stays
-abbrev pub memory_effect : Instruction → Option Effect
-memory_effect (instr.StringToMemory malloc realloc memory) = Some (effect_of (kind.Js ∷ []) (kind.I32 ∷ kind.I32 ∷ []))
-memory_effect (instr.OptionStringToMemory malloc realloc memory) = Some (effect_of (kind.Js ∷ []) (kind.I32 ∷ kind.I32 ∷ []))
-memory_effect (instr.VecToWasm element malloc memory) = Some (effect_of (kind.Js ∷ []) (kind.I32 ∷ kind.I32 ∷ []))
-memory_effect (instr.MemoryToString memory) = Some (effect_of (kind.I32 ∷ kind.I32 ∷ []) (kind.Js ∷ []))
-memory_effect (instr.VecFromWasm element memory) = Some (effect_of (kind.I32 ∷ kind.I32 ∷ []) (kind.Js ∷ []))
-memory_effect (instr.DeferFree free align) = Some (effect_of (kind.I32 ∷ kind.I32 ∷ []) (kind.I32 ∷ kind.I32 ∷ []))
-memory_effect other = None
+-- a result is read from the room that was taken for it
+abbrev pub loaded : ValType → Option Effect
+loaded ty = option_map (λ k. effect_of [] (k ∷ [])) (number_kind ty)
 
--- what an instruction pops and pushes in an adapter whose parameters are of these kinds; none where it isn't built or names nothing
-unfoldable pub effect : Lowered → List Kind → Instruction → Option Effect
-effect l params (instr.ArgGet n) = option_map (λ k. effect_of [] (k ∷ [])) (slice_get params n)
-effect l params instr.Int32ToWasm = Some (effect_of (kind.Js ∷ []) (kind.I32 ∷ []))
-effect l params instr.Int64ToWasm = Some (effect_of (kind.Js ∷ []) (kind.I64 ∷ []))
-effect l params instr.I32FromBool = Some (effect_of (kind.Js ∷ []) (kind.I32 ∷ []))
-effect l params (instr.WasmToInt32 unsigned) = Some (effect_of (kind.I32 ∷ []) (kind.Js ∷ []))
-effect l params (instr.WasmToInt64 unsigned) = Some (effect_of (kind.I64 ∷ []) (kind.Js ∷ []))
-effect l params instr.BoolFromI32 = Some (effect_of (kind.I32 ∷ []) (kind.Js ∷ []))
-effect l params (instr.CallExport id) = option_and_then call_effect (export_type l.«module» id.0)
-effect l params (instr.CallAdapter id) = option_map adapter_effect (look_up nat_cmp l.wit.adapters id)
-effect l params instr.IndexFromOwned = Some (effect_of (kind.Js ∷ []) (kind.I32 ∷ []))
-effect l params instr.IndexFromBorrow = Some (effect_of (kind.Js ∷ []) (kind.I32 ∷ []))
-effect l params instr.TakeIndex = Some (effect_of (kind.I32 ∷ []) (kind.Js ∷ []))
-effect l params instr.GetIndex = Some (effect_of (kind.I32 ∷ []) (kind.Js ∷ []))
-effect l params instr.UnwrapResult = Some (effect_of (kind.I32 ∷ kind.I32 ∷ []) [])
-effect l params other = if names_live l other then memory_effect other else None
+-- the first parameter is an address
+abbrev pub is_addressed : (params : List Kind) → Bool
+is_addressed [] = false
+is_addressed (k ∷ params) = same_kind k kind.I32
+
+-- one is written to the room that a caller took, whose address is the first parameter
+abbrev pub stored : (params : List Kind) → ValType → Option Effect
+stored params ty = if is_addressed params then option_map (λ k. effect_of (k ∷ []) []) (number_kind ty) else None
+
+-- what passes through memory: a string or a vector for its address and its length, or the other way, and results in room; what is freed in the
+-- end stays
+abbrev pub memory_effect : (params : List Kind) → Instruction → Option Effect
+memory_effect params (instr.StringToMemory malloc realloc memory) = Some (effect_of (kind.Js ∷ []) (kind.I32 ∷ kind.I32 ∷ []))
+memory_effect params (instr.OptionStringToMemory malloc realloc memory) = Some (effect_of (kind.Js ∷ []) (kind.I32 ∷ kind.I32 ∷ []))
+memory_effect params (instr.VecToWasm element malloc memory) = Some (effect_of (kind.Js ∷ []) (kind.I32 ∷ kind.I32 ∷ []))
+memory_effect params (instr.MemoryToString memory) = Some (effect_of (kind.I32 ∷ kind.I32 ∷ []) (kind.Js ∷ []))
+memory_effect params (instr.VecFromWasm element memory) = Some (effect_of (kind.I32 ∷ kind.I32 ∷ []) (kind.Js ∷ []))
+memory_effect params (instr.DeferFree free align) = Some (effect_of (kind.I32 ∷ kind.I32 ∷ []) (kind.I32 ∷ kind.I32 ∷ []))
+memory_effect params (instr.LoadRetptr offset ty memory) = loaded ty
+memory_effect params (instr.StoreRetptr offset ty memory) = stored params ty
+memory_effect params other = None
+
+-- the names of the string enums that are described
+abbrev pub enum_names : Lowered → List (List ℕ)
+enum_names l = map (λ e. e.name) l.aux.string_enums
+
+-- a string enum of this name is described
+abbrev pub is_described_enum : Lowered → List ℕ → Bool
+is_described_enum l name = is_one_of (enum_names l) name
+
+-- a text of a string enum is passed for its place, or the other way, where the enum is one of these
+abbrev pub enum_effect : (enums : List (List ℕ)) → (name : List ℕ) → (popped pushed : Kind) → Option Effect
+enum_effect enums name popped pushed = if is_one_of enums name then Some (effect_of (popped ∷ []) (pushed ∷ [])) else None
+
+-- what an instruction pops and pushes in an adapter whose parameters are of these kinds, where these string enums are described; none where it
+-- isn't built or names nothing
+unfoldable pub effect : Lowered → (enums : List (List ℕ)) → (params : List Kind) → Instruction → Option Effect
+effect l enums params (instr.ArgGet n) = option_map (λ k. effect_of [] (k ∷ [])) (slice_get params n)
+effect l enums params instr.Int32ToWasm = Some (effect_of (kind.Js ∷ []) (kind.I32 ∷ []))
+effect l enums params instr.Int64ToWasm = Some (effect_of (kind.Js ∷ []) (kind.I64 ∷ []))
+effect l enums params instr.I32FromBool = Some (effect_of (kind.Js ∷ []) (kind.I32 ∷ []))
+effect l enums params (instr.WasmToInt32 unsigned) = Some (effect_of (kind.I32 ∷ []) (kind.Js ∷ []))
+effect l enums params (instr.WasmToInt64 unsigned) = Some (effect_of (kind.I64 ∷ []) (kind.Js ∷ []))
+effect l enums params instr.BoolFromI32 = Some (effect_of (kind.I32 ∷ []) (kind.Js ∷ []))
+effect l enums params (instr.CallExport id) = option_and_then call_effect (export_type l.«module» id.0)
+effect l enums params (instr.CallAdapter id) = option_map adapter_effect (look_up nat_cmp l.wit.adapters id)
+effect l enums params instr.IndexFromOwned = Some (effect_of (kind.Js ∷ []) (kind.I32 ∷ []))
+effect l enums params instr.IndexFromBorrow = Some (effect_of (kind.Js ∷ []) (kind.I32 ∷ []))
+effect l enums params instr.TakeIndex = Some (effect_of (kind.I32 ∷ []) (kind.Js ∷ []))
+effect l enums params instr.GetIndex = Some (effect_of (kind.I32 ∷ []) (kind.Js ∷ []))
+effect l enums params instr.UnwrapResult = Some (effect_of (kind.I32 ∷ kind.I32 ∷ []) [])
+effect l enums params (instr.Retptr size) = Some (effect_of [] (kind.I32 ∷ []))
+effect l enums params (instr.EnumIndex name) = enum_effect enums name kind.Js kind.I32
+effect l enums params (instr.EnumText name) = enum_effect enums name kind.I32 kind.Js
+effect l enums params other = if names_live l other then memory_effect params other else None
 
 -- ---- the whole code
 
@@ -151,5 +191,20 @@ leaves results None = false
 leaves results (Some stack) = same_kinds stack results
 
 -- the stack never lacks a value nor has another kind, and holds the results in the end
-abbrev pub is_well_stacked : Lowered → List Kind → List Kind → List Instruction → Bool
-is_well_stacked l params results code = leaves results (stack_after (effect l params) [] code)
+abbrev pub keeps_stack : Lowered → (enums : List (List ℕ)) → (params results : List Kind) → List Instruction → Bool
+keeps_stack l enums params results code = leaves results (stack_after (effect l enums params) [] code)
+
+-- an instruction that takes room stands where none was taken, and one that reads a result from room where some was
+abbrev pub fits_room : (taken : Bool) → Instruction → Bool
+fits_room taken (instr.Retptr size) = not taken
+fits_room taken (instr.LoadRetptr offset ty memory) = taken
+fits_room taken other = true
+
+-- room is taken at most once, and results are read from it only behind that, where some was taken before or not
+abbrev pub uses_room : (taken : Bool) → List Instruction → Bool
+uses_room taken [] = true
+uses_room taken (i ∷ code) = fits_room taken i && uses_room (taken || is_room i) code
+
+-- room and stack are used so
+abbrev pub is_well_stacked : Lowered → (enums : List (List ℕ)) → (params results : List Kind) → List Instruction → Bool
+is_well_stacked l enums params results code = uses_room false code && keeps_stack l enums params results code

@@ -10,6 +10,7 @@ use crate::kind::{Kind, js_kinds, kinds_of};
 use crate::stack::is_well_stacked;
 use glue_faults::{Fault, IdSet};
 use glue_shared::{Adapter, AdapterId, AdapterKind, Instruction, Lowered, NonstandardWitSection};
+use name_set::NameSet;
 use std::alloc::{AllocError, Global};
 use values::{Duplicate, Seq, Text};
 use wasm_core::FuncType;
@@ -181,10 +182,15 @@ fn calls_import(lowered: &Lowered, entries: &IdSet, code: &[Instruction]) -> boo
     calls_one_import(code) && calls_described(lowered, entries, code)
 }
 
-// Whether an adapter passes JavaScript values to an export, and its result back as one.
+// Whether an adapter passes JavaScript values to an export, and its result back as one, where these string enums are described.
 #[tactic(auto, unfolding(crate::specs::Adapters::fits_outward))]
-fn fits_outward(alloc: Global, lowered: &Lowered, adapter: &Adapter) -> Result<bool, AllocError>
-    ensures test { IfOk result (λ fits. fits ≡ spec.fits_outward lowered.now adapter.now) }
+fn fits_outward(
+    alloc: Global,
+    lowered: &Lowered,
+    enums: &NameSet,
+    adapter: &Adapter,
+) -> Result<bool, AllocError>
+    ensures test { IfOk result (λ fits. fits ≡ spec.fits_outward lowered.now enums.now adapter.now) }
 {
     let code = code_of(&adapter.kind);
     if !(adapter.results.len() <= 1 && calls_export(code)) {
@@ -192,26 +198,39 @@ fn fits_outward(alloc: Global, lowered: &Lowered, adapter: &Adapter) -> Result<b
     }
     let params = js_kinds(alloc, adapter.args.as_slice())?;
     let results = js_kinds(alloc, adapter.results.as_slice())?;
-    is_well_stacked(alloc, lowered, params.as_slice(), results.as_slice(), code)
+    is_well_stacked(
+        alloc,
+        lowered,
+        enums,
+        params.as_slice(),
+        results.as_slice(),
+        code,
+    )
 }
 
 // Whether a code passes values of these kinds.
 fn passes_kinds(
     alloc: Global,
     lowered: &Lowered,
+    enums: &NameSet,
     code: &[Instruction],
     params: Option<Seq<Kind>>,
     results: Option<Seq<Kind>>,
 ) -> Result<bool, AllocError>
-    ensures test { IfOk result (λ fits. fits ≡ spec.passes_kinds lowered.now code.now params results) }
+    ensures test { IfOk result (λ fits. fits ≡ spec.passes_kinds lowered.now enums.now code.now params results) }
 {
     match params {
         None => Ok(false),
         Some(params) => match results {
             None => Ok(false),
-            Some(results) => {
-                is_well_stacked(alloc, lowered, params.as_slice(), results.as_slice(), code)
-            }
+            Some(results) => is_well_stacked(
+                alloc,
+                lowered,
+                enums,
+                params.as_slice(),
+                results.as_slice(),
+                code,
+            ),
         },
     }
 }
@@ -230,11 +249,12 @@ fn has_counts(adapter: &Adapter, ty: &FuncType) -> bool
 pub(crate) fn fits_inward(
     alloc: Global,
     lowered: &Lowered,
+    enums: &NameSet,
     entries: &IdSet,
     adapter: &Adapter,
     ty: &FuncType,
 ) -> Result<bool, AllocError>
-    ensures test { IfOk result (λ fits. fits ≡ spec.fits_inward lowered.now entries.now adapter.now ty.now) }
+    ensures test { IfOk result (λ fits. fits ≡ spec.fits_inward lowered.now enums.now entries.now adapter.now ty.now) }
 {
     let code = code_of(&adapter.kind);
     if !(has_code(&adapter.kind)
@@ -245,7 +265,7 @@ pub(crate) fn fits_inward(
     }
     let params = kinds_of(alloc, ty.params.as_slice())?;
     let results = kinds_of(alloc, ty.results.as_slice())?;
-    passes_kinds(alloc, lowered, code, params, results)
+    passes_kinds(alloc, lowered, enums, code, params, results)
 }
 
 // Whether an adapter has code, stands for no import, and isn't one that an export could have.
@@ -253,28 +273,30 @@ pub(crate) fn fits_inward(
 fn is_bad_code(
     alloc: Global,
     lowered: &Lowered,
+    enums: &NameSet,
     pairs: &IdSet,
     id: AdapterId,
     adapter: &Adapter,
 ) -> Result<bool, AllocError>
-    ensures test { IfOk result (λ bad. bad ≡ pairs_spec.is_bad_code lowered.now pairs.now (id, adapter.now)) }
+    ensures test { IfOk result (λ bad. bad ≡ pairs_spec.is_bad_code lowered.now enums.now pairs.now (id, adapter.now)) }
 {
     if !has_code(&adapter.kind) || pairs.has(id.0) {
         return Ok(false);
     }
-    Ok(!fits_outward(alloc, lowered, adapter)?)
+    Ok(!fits_outward(alloc, lowered, enums, adapter)?)
 }
 
 // The first such adapter.
 pub(crate) fn bad_code(
     alloc: Global,
     lowered: &Lowered,
+    enums: &NameSet,
     pairs: &IdSet,
 ) -> Result<Option<AdapterId>, AllocError>
-    ensures bad { IfOk result (λ bad. bad ≡ option_map (λ entry. entry.0) (find (pairs_spec.is_bad_code lowered.now pairs.now) lowered.now.wit.adapters)) }
+    ensures bad { IfOk result (λ bad. bad ≡ option_map (λ entry. entry.0) (find (pairs_spec.is_bad_code lowered.now enums.now pairs.now) lowered.now.wit.adapters)) }
 {
     for (id, adapter) in lowered.wit.adapters.iter() {
-        if is_bad_code(alloc, lowered, pairs, *id, adapter)? {
+        if is_bad_code(alloc, lowered, enums, pairs, *id, adapter)? {
             return Ok(Some(*id));
         }
     }

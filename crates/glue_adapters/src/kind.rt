@@ -61,6 +61,17 @@ fn kind_of(ty: ValType) -> Option<Kind>
     }
 }
 
+// The kind of a result that is passed in room.
+pub(crate) fn number_kind(ty: ValType) -> Option<Kind>
+    ensures kind { result ≡ spec.number_kind ty }
+{
+    match ty {
+        ValType::I32 => Some(Kind::I32),
+        ValType::I64 => Some(Kind::I64),
+        _ => None,
+    }
+}
+
 /// The kinds of WebAssembly types, where JavaScript can pass each. Want of memory is the only error.
 pub fn kinds_of(alloc: Global, types: &[ValType]) -> Result<Option<Seq<Kind>>, AllocError>
     ensures kinds { IfOk result (λ kinds. kinds ≡ spec.kinds_of types.now) }

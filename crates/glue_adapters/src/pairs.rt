@@ -8,6 +8,7 @@ use crate::adapters::fits_inward;
 use glue_faults::IdSet;
 use glue_shared::{Adapter, AdapterId, Lowered};
 use glue_steps::function_type;
+use name_set::NameSet;
 use std::alloc::{AllocError, Global};
 use wasm_core::{FuncType, ImportId, ImportKind, Module};
 
@@ -32,17 +33,18 @@ fn imported_type(module: &Module, id: ImportId) -> Option<&FuncType>
 fn fits_type(
     alloc: Global,
     lowered: &Lowered,
+    enums: &NameSet,
     entries: &IdSet,
     ty: Option<&FuncType>,
     adapter: Option<&Adapter>,
 ) -> Result<bool, AllocError>
-    ensures test { IfOk result (λ fits. fits ≡ spec.fits_type lowered.now entries.now (option_copied ty.entry) (option_copied adapter.entry)) }
+    ensures test { IfOk result (λ fits. fits ≡ spec.fits_type lowered.now enums.now entries.now (option_copied ty.entry) (option_copied adapter.entry)) }
 {
     match ty {
         None => Ok(false),
         Some(ty) => match adapter {
             None => Ok(false),
-            Some(adapter) => fits_inward(alloc, lowered, entries, adapter, ty),
+            Some(adapter) => fits_inward(alloc, lowered, enums, entries, adapter, ty),
         },
     }
 }
@@ -52,15 +54,17 @@ fn fits_type(
 fn fits_pair(
     alloc: Global,
     lowered: &Lowered,
+    enums: &NameSet,
     entries: &IdSet,
     pair: &(ImportId, AdapterId),
 ) -> Result<bool, AllocError>
-    ensures test { IfOk result (λ fits. fits ≡ spec.fits_pair lowered.now entries.now pair.now) }
+    ensures test { IfOk result (λ fits. fits ≡ spec.fits_pair lowered.now enums.now entries.now pair.now) }
 {
     let ty = imported_type(&lowered.module, pair.0);
     fits_type(
         alloc,
         lowered,
+        enums,
         entries,
         ty,
         lowered.wit.adapters.get(&pair.1),
@@ -71,33 +75,35 @@ fn fits_pair(
 fn is_bad_pair(
     alloc: Global,
     lowered: &Lowered,
+    enums: &NameSet,
     entries: &IdSet,
     imports: &IdSet,
     adapters: &IdSet,
     pair: &(ImportId, AdapterId),
 ) -> Result<bool, AllocError>
-    ensures test { IfOk result (λ bad. bad ≡ spec.is_repeated_pair lowered.now entries.now imports.now adapters.now pair.now) }
+    ensures test { IfOk result (λ bad. bad ≡ spec.is_repeated_pair lowered.now enums.now entries.now imports.now adapters.now pair.now) }
 {
     if imports.has(pair.0.0) || adapters.has(pair.1.0) {
         return Ok(true);
     }
-    Ok(!fits_pair(alloc, lowered, entries, pair)?)
+    Ok(!fits_pair(alloc, lowered, enums, entries, pair)?)
 }
 
 /// The adapter of the first pair whose import or adapter stands in an earlier pair, or whose adapter doesn't fit its import.
-/// `entries` are the adapters that are described. Want of memory is the only error.
+/// `enums` are the string enums that are described, `entries` the adapters that are. Want of memory is the only error.
 #[tactic(auto, unfolding(crate::specs::Pairs::is_bad_pair))]
 pub fn bad_pair(
     alloc: Global,
     lowered: &Lowered,
+    enums: &NameSet,
     entries: &IdSet,
 ) -> Result<Option<AdapterId>, AllocError>
-    ensures bad { IfOk result (λ bad. bad ≡ option_map (λ pair. pair.1) (first_after (spec.is_bad_pair lowered.now entries.now) [] lowered.now.wit.implements)) }
+    ensures bad { IfOk result (λ bad. bad ≡ option_map (λ pair. pair.1) (first_after (spec.is_bad_pair lowered.now enums.now entries.now) [] lowered.now.wit.implements)) }
 {
     let mut imports = IdSet::new(alloc);
     let mut adapters = IdSet::new(alloc);
     for pair in lowered.wit.implements.as_slice() {
-        if is_bad_pair(alloc, lowered, entries, &imports, &adapters, pair)? {
+        if is_bad_pair(alloc, lowered, enums, entries, &imports, &adapters, pair)? {
             return Ok(Some(pair.1));
         }
         imports = imports.with(pair.0.0)?;

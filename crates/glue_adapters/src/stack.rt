@@ -1,16 +1,17 @@
-//! What instructions pop and push, and what a whole code leaves.
-ghost use Rattle.std.specs.Prelude.{◌≡◌, [], ◌∷◌, Some, None, IfOk, if◌then◌else◌, option_map, option_and_then};
+//! What instructions pop and push, what a whole code leaves, and the room for results that it takes.
+ghost use Rattle.std.specs.Prelude.{◌≡◌, [], ◌∷◌, Some, None, IfOk, false, if◌then◌else◌, option_map, option_and_then};
 ghost use Rattle.std.specs.List.{list_all};
 ghost use Rattle.std.specs.Option.{option_copied};
 ghost use Rattle.glue_shared.specs.Roots.{instruction_items, is_live_item};
 ghost use Rattle.glue_adapters.specs.Stack as spec;
 
-use crate::kind::{Kind, are_same, argument_kinds, js_kinds, kinds_of};
+use crate::kind::{Kind, are_same, argument_kinds, js_kinds, kinds_of, number_kind};
 use glue_shared::{Adapter, AdapterType, Instruction, Lowered, is_live_item, push_instruction};
-use glue_steps::function_type;
+use glue_steps::{function_type, is_room};
+use name_set::NameSet;
 use std::alloc::{AllocError, Global};
-use values::Seq;
-use wasm_core::{ExportId, ExportItem, FuncType, Module};
+use values::{Seq, Text};
+use wasm_core::{ExportId, ExportItem, FuncType, Module, ValType};
 
 /// What an instruction does to the stack: the kinds that it pops and those that it pushes, the top last.
 #[derive(Drop)]
@@ -130,9 +131,43 @@ fn names_live(alloc: Global, module: &Module, instruction: &Instruction) -> Resu
     Ok(named.iter().all(|item| is_live_item(module, *item)))
 }
 
+// What a result pushes that is read from room.
+fn loaded(alloc: Global, ty: ValType) -> Result<Option<Effect>, AllocError>
+    ensures effect { IfOk result (λ e. e ≡ spec.loaded ty) }
+{
+    match number_kind(ty) {
+        None => Ok(None),
+        Some(kind) => effect_of(alloc, &[], &[kind]),
+    }
+}
+
+// Whether the first parameter is an address.
+fn is_addressed(params: &[Kind]) -> bool
+    ensures test { result ≡ spec.is_addressed params.now }
+{
+    matches!(params.first(), Some(Kind::I32))
+}
+
+// What a result pops that is written to room that a caller took.
+fn stored(alloc: Global, params: &[Kind], ty: ValType) -> Result<Option<Effect>, AllocError>
+    ensures effect { IfOk result (λ e. e ≡ spec.stored params.now ty) }
+{
+    if !is_addressed(params) {
+        return Ok(None);
+    }
+    match number_kind(ty) {
+        None => Ok(None),
+        Some(kind) => effect_of(alloc, &[kind], &[]),
+    }
+}
+
 // What passes through memory.
-fn memory_effect(alloc: Global, instruction: &Instruction) -> Result<Option<Effect>, AllocError>
-    ensures effect { IfOk result (λ e. e ≡ spec.memory_effect instruction.now) }
+fn memory_effect(
+    alloc: Global,
+    params: &[Kind],
+    instruction: &Instruction,
+) -> Result<Option<Effect>, AllocError>
+    ensures effect { IfOk result (λ e. e ≡ spec.memory_effect params.now instruction.now) }
 {
     match instruction {
         Instruction::StringToMemory(..)
@@ -144,19 +179,38 @@ fn memory_effect(alloc: Global, instruction: &Instruction) -> Result<Option<Effe
         Instruction::DeferFree(..) => {
             effect_of(alloc, &[Kind::I32, Kind::I32], &[Kind::I32, Kind::I32])
         }
+        Instruction::LoadRetptr(_, ty, _) => loaded(alloc, *ty),
+        Instruction::StoreRetptr(_, ty, _) => stored(alloc, params, *ty),
         _ => Ok(None),
     }
 }
 
-// What an instruction pops and pushes, where the parameters are of these kinds.
+// What is popped and pushed where a text of a string enum is passed for its place, or the other way.
+fn enum_effect(
+    alloc: Global,
+    enums: &NameSet,
+    name: &Text,
+    popped: Kind,
+    pushed: Kind,
+) -> Result<Option<Effect>, AllocError>
+    ensures effect { IfOk result (λ e. e ≡ spec.enum_effect enums.now name.now popped pushed) }
+{
+    if !enums.has(name.as_str()) {
+        return Ok(None);
+    }
+    effect_of(alloc, &[popped], &[pushed])
+}
+
+// What an instruction pops and pushes, where the parameters are of these kinds and these string enums are described.
 #[tactic(auto, unfolding(crate::specs::Stack::effect))]
 fn instruction_effect(
     alloc: Global,
     lowered: &Lowered,
+    enums: &NameSet,
     params: &[Kind],
     instruction: &Instruction,
 ) -> Result<Option<Effect>, AllocError>
-    ensures effect { IfOk result (λ e. e ≡ spec.effect lowered.now params.now instruction.now) }
+    ensures effect { IfOk result (λ e. e ≡ spec.effect lowered.now enums.now params.now instruction.now) }
 {
     match instruction {
         Instruction::ArgGet(n) => parameter_effect(alloc, params.get(*n as usize)),
@@ -173,9 +227,12 @@ fn instruction_effect(
         Instruction::UnwrapResult => effect_of(alloc, &[Kind::I32, Kind::I32], &[]),
         Instruction::CallExport(id) => export_effect(alloc, export_type(&lowered.module, *id)),
         Instruction::CallAdapter(id) => adapter_effect(alloc, lowered.wit.adapters.get(id)),
+        Instruction::Retptr(_) => effect_of(alloc, &[], &[Kind::I32]),
+        Instruction::EnumIndex(name) => enum_effect(alloc, enums, name, Kind::Js, Kind::I32),
+        Instruction::EnumText(name) => enum_effect(alloc, enums, name, Kind::I32, Kind::Js),
         other => {
             if names_live(alloc, &lowered.module, other)? {
-                memory_effect(alloc, other)
+                memory_effect(alloc, params, other)
             } else {
                 Ok(None)
             }
@@ -187,33 +244,78 @@ fn instruction_effect(
 fn step(
     alloc: Global,
     lowered: &Lowered,
+    enums: &NameSet,
     params: &[Kind],
     stack: &mut Vec<Kind>,
     instruction: &Instruction,
 ) -> Result<bool, AllocError>
-    ensures after { IfOk result (λ fits. option_and_then (λ e. spec.after e stack.old.items) (spec.effect lowered.now params.now instruction.now) ≡ (if fits then Some stack.new.items else None)) }
+    ensures after { IfOk result (λ fits. option_and_then (λ e. spec.after e stack.old.items) (spec.effect lowered.now enums.now params.now instruction.now) ≡ (if fits then Some stack.new.items else None)) }
 {
-    match instruction_effect(alloc, lowered, params, instruction)? {
+    match instruction_effect(alloc, lowered, enums, params, instruction)? {
         None => Ok(false),
         Some(effect) => apply(stack, &effect),
     }
 }
 
-/// Whether the stack never lacks a value nor has another kind, and holds the results in the end. Want of memory is the only error.
-pub fn is_well_stacked(
+// Whether the stack never lacks a value nor has another kind, and holds the results in the end.
+fn keeps_stack(
     alloc: Global,
     lowered: &Lowered,
+    enums: &NameSet,
     params: &[Kind],
     results: &[Kind],
     code: &[Instruction],
 ) -> Result<bool, AllocError>
-    ensures test { IfOk result (λ test. test ≡ spec.is_well_stacked lowered.now params.now results.now code.now) }
+    ensures test { IfOk result (λ test. test ≡ spec.keeps_stack lowered.now enums.now params.now results.now code.now) }
 {
     let mut stack = Vec::new(alloc);
     for instruction in code {
-        if !step(alloc, lowered, params, &mut stack, instruction)? {
+        if !step(alloc, lowered, enums, params, &mut stack, instruction)? {
             return Ok(false);
         }
     }
     Ok(are_same(stack.as_slice(), results))
+}
+
+// Whether an instruction takes room where none was taken, or reads a result from it where some was.
+fn fits_room(taken: bool, instruction: &Instruction) -> bool
+    ensures test { result ≡ spec.fits_room taken instruction.now }
+{
+    match instruction {
+        Instruction::Retptr(_) => !taken,
+        Instruction::LoadRetptr(_, _, _) => taken,
+        _ => true,
+    }
+}
+
+// Whether room is taken at most once, and results are read from it only behind that.
+fn uses_room(code: &[Instruction]) -> bool
+    ensures test { result ≡ spec.uses_room false code.now }
+{
+    let mut taken = false;
+    for instruction in code {
+        if !fits_room(taken, instruction) {
+            return false;
+        }
+        taken = taken || is_room(instruction);
+    }
+    true
+}
+
+/// Whether the stack never lacks a value nor has another kind, and holds the results in the end, and room for results is taken at most once and
+/// read only behind that, where these string enums are described. Want of memory is the only error.
+pub fn is_well_stacked(
+    alloc: Global,
+    lowered: &Lowered,
+    enums: &NameSet,
+    params: &[Kind],
+    results: &[Kind],
+    code: &[Instruction],
+) -> Result<bool, AllocError>
+    ensures test { IfOk result (λ test. test ≡ spec.is_well_stacked lowered.now enums.now params.now results.now code.now) }
+{
+    if !uses_room(code) {
+        return Ok(false);
+    }
+    keeps_stack(alloc, lowered, enums, params, results, code)
 }

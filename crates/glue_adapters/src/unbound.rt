@@ -9,7 +9,8 @@ use crate::called::bad_entry;
 use crate::exports::{bad_callback, bad_export, first_not_import, first_not_local};
 use crate::pairs::bad_pair;
 use glue_faults::{Fault, IdSet};
-use glue_shared::{AdapterId, AuxImport, Lowered, Settings, own_imports};
+use glue_shared::{AdapterId, AuxImport, AuxStringEnum, Lowered, Settings, own_imports};
+use name_set::NameSet;
 use std::alloc::{AllocError, Global};
 use wasm_core::{ExportId, FuncId, Import, ImportId, ImportKind, Memory, MemoryId, TagId};
 
@@ -57,13 +58,25 @@ fn described(alloc: Global, entries: &[(AdapterId, AuxImport)]) -> Result<IdSet,
     Ok(ids)
 }
 
+// The names of the string enums that are described.
+fn enum_names(alloc: Global, enums: &[AuxStringEnum]) -> Result<NameSet, AllocError>
+    ensures names { IfOk result (λ names. names ≡ map (λ e. e.name) enums.now) }
+{
+    let mut names = NameSet::new(alloc);
+    for texts in enums {
+        names = names.with(alloc, texts.name.as_str())?;
+    }
+    Ok(names)
+}
+
 // The first adapter that isn't what its place asks for: of the adapters.
 #[tactic(auto, unfolding(crate::specs::Pairs::bad_local))]
 fn bad_local(alloc: Global, lowered: &Lowered) -> Result<Option<AdapterId>, AllocError>
     ensures bad { IfOk result (λ bad. bad ≡ spec.bad_local lowered.now) }
 {
+    let enums = enum_names(alloc, lowered.aux.string_enums.as_slice())?;
     let pairs = paired(alloc, lowered.wit.implements.as_slice())?;
-    bad_code(alloc, lowered, &pairs)
+    bad_code(alloc, lowered, &enums, &pairs)
 }
 
 // Of the pairs.
@@ -71,8 +84,9 @@ fn bad_local(alloc: Global, lowered: &Lowered) -> Result<Option<AdapterId>, Allo
 fn bad_paired(alloc: Global, lowered: &Lowered) -> Result<Option<AdapterId>, AllocError>
     ensures bad { IfOk result (λ bad. bad ≡ spec.bad_paired lowered.now) }
 {
+    let enums = enum_names(alloc, lowered.aux.string_enums.as_slice())?;
     let entries = described(alloc, lowered.aux.imports.as_slice())?;
-    bad_pair(alloc, lowered, &entries)
+    bad_pair(alloc, lowered, &enums, &entries)
 }
 
 // Of the adapters that closures call.

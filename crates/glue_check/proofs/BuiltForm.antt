@@ -1,5 +1,5 @@
 -- What is known of a description of which all is built.
-use Rattle.std.proofs.Common.{◌≡◌, ℕ, List, [], ◌∷◌, Bool, true, false, not, ◌&&◌, ◌||◌, Option, Some, None, true≢false, refl, sym, ◌∙◌, inl, inr, rules}
+use Rattle.std.proofs.Common.{◌≡◌, ℕ, List, [], ◌∷◌, Bool, true, false, not, ◌&&◌, ◌||◌, Option, Some, None, true≢false, refl, sym, ap, ◌∙◌, inl, inr, rules}
 use Rattle.std.specs.List.{list_any, list_all}
 use Rattle.std.specs.Option.{is_some}
 use Rattle.std.proofs.lemmas.Slice.Eq.{bytes_eq-Decides}
@@ -24,6 +24,7 @@ use Rattle.glue_check.specs.declared.verdict.Condition.TheVariants as conditions
 use Rattle.glue_check.specs.Answers.{answer}
 use Rattle.glue_check.specs.Unbuilt as spec
 use Rattle.glue_imports.specs.Expressions.{has_expression}
+use Rattle.glue_names.proofs.Called.{or_last}
 use Rattle.glue_check.specs.Unbuilt.{is_told, is_unbuilt_entry, is_unbuilt_adapter}
 use Rattle.glue_check.specs.Verdict.{unbuilt}
 use Rattle.glue_check.proofs.Conditions.{none_unbuilt}
@@ -55,6 +56,12 @@ away_case name other names false e h rest (inr k) = rest h k
 pub away : (name : List ℕ) (names : List (List ℕ)) → is_one_of names name ≡ false → IsAway name names
 away name [] h k = k
 away name (other ∷ names) h k = away_case name other names (bytes_eq other name) refl h (away name names) k
+
+-- and one of them is found
+pub one_found : (name : List ℕ) (names : List (List ℕ)) → IsIn name names → is_one_of names name ≡ true
+one_found name [] i = absurd i
+one_found name (other ∷ names) (inl same) = ap (λ (b : Bool). b || is_one_of names name) ((bytes_eq-Decides other name).1 (sym same))
+one_found name (other ∷ names) (inr i) = or_last (bytes_eq other name) (is_one_of names name) (one_found name names i)
 
 -- ---- the target and the settings
 

@@ -17,7 +17,7 @@ use Rattle.glue_published.specs.Reexports.{bad_reexport}
 use Rattle.glue_check.specs.Links.{link_not_embedded}
 use Rattle.glue_check.specs.Missing.{missing_part}
 use Rattle.glue_names.specs.Modules.{module_clash}
-use Rattle.glue_names.specs.Naming.{bad_name, global_twice, import_clash, given_clash, wasm_clash, start_clash, name_clash, written_clash}
+use Rattle.glue_names.specs.Naming.{bad_name, global_twice, import_clash, given_clash, wasm_clash, shim_clash, start_clash, name_clash, written_clash}
 use Rattle.glue_check.specs.TargetValues.{intrinsic_target}
 use Rattle.glue_check.specs.Unbuilt.{unbuilt_target, unbuilt_imports, unbuilt_instructions, unbuilt_classes, unbuilt_settings, unbuilt_lifecycle, unbuilt_files}
 use Rattle.glue_check.specs.Verdict.{threads, package_json, unbuilt, verdict}
@@ -64,8 +64,8 @@ unbuilt_kind files s l = first_some-kind
 
 written_kind : (s : Settings) (l : Lowered) → IsOfCheck (written_clash s l)
 unfolding written_clash
-written_kind s l = first_some-kind (import_clash (own_names s l.«module» l.wit l.aux) ∷ wasm_clash l.«module».exports ∷ start_clash l.«module» ∷ [])
-    (option_map-kind _ _ (λ i. refl) ▸ option_map-kind _ _ (λ e. refl) ▸ where_true-kind _ _ refl ▸ tt)
+written_kind s l = first_some-kind (import_clash (own_names s l.«module» l.wit l.aux) ∷ wasm_clash l.«module».exports ∷ shim_clash s l ∷ start_clash l.«module» ∷ [])
+    (option_map-kind _ _ (λ i. refl) ▸ option_map-kind _ _ (λ e. refl) ▸ where_true-kind _ _ refl ▸ where_true-kind _ _ refl ▸ tt)
 
 clash_kind : (s : Settings) (l : Lowered) → IsOfCheck (name_clash s l)
 unfolding name_clash

@@ -38,6 +38,7 @@ use Rattle.glue_faults.proofs.After.{after-none, new_numbers}
 use Rattle.glue_faults.proofs.Apart.{compatible}
 use Rattle.glue_adapters.specs.Adapters as adapters
 use Rattle.glue_adapters.specs.Adapters.{adapter_at, code_of, has_code, fits_outward, fits_inward}
+use Rattle.glue_adapters.specs.Stack.{enum_names}
 use Rattle.glue_adapters.specs.Pairs as pairs
 use Rattle.glue_adapters.specs.Pairs.{is_bad_code, is_bad_pair, is_bad_export, bad_id, bad_local, bad_paired, bad_called, bad_exported, bad_described, bad_listed, fits_export, fits_pair, is_unbound}
 use Rattle.glue_check.specs.declared.verdict.Condition.TheVariants as conditions
@@ -58,7 +59,7 @@ use Rattle.glue_names.specs.Taken.{brought, global_of, name_if}
 use Rattle.glue_check.specs.Verdict.{verdict, is_shared}
 use Rattle.glue_check.proofs.Conditions.{none_of}
 use Rattle.glue_check.proofs.BuiltForm.{away, not_false}
-use Rattle.glue_names.proofs.GivenNames.{either_host, none_fixed, omitted_given}
+use Rattle.glue_names.proofs.GivenNames.{either_host, none_other, omitted_given}
 use Rattle.glue_names.proofs.Called.{number_in}
 use Rattle.glue_names.proofs.Globals.{from_flat, in_flat}
 
@@ -86,8 +87,8 @@ looked_up (e ∷ entries) id a h = here (is_at (nat_cmp id) e.0) refl h (looked_
 
 -- what is known of the adapters of a description without a fault
 pub record AreFit (l : Lowered) : Type 0 where
-  pub coded : (e : ℕ × Adapter) → IsIn e l.wit.adapters → is_bad_code l (pairs.paired l) e ≡ false
-  pub paired : first_after (is_bad_pair l (pairs.described l)) [] l.wit.implements ≡ None
+  pub coded : (e : ℕ × Adapter) → IsIn e l.wit.adapters → is_bad_code l (enum_names l) (pairs.paired l) e ≡ false
+  pub paired : first_after (is_bad_pair l (enum_names l) (pairs.described l)) [] l.wit.implements ≡ None
   pub exported : first_after (is_bad_export l (pairs.paired l) (pairs.called_back l)) [] l.aux.exports ≡ None
   pub entries : (e : ℕ × AuxImport) → IsIn e l.aux.imports → pairs.is_bad_entry l l.aux.imports_with_variadic e ≡ false
 
@@ -96,11 +97,11 @@ unfolding answer bad_id bad_local bad_paired bad_exported bad_described
 fit_adapters s l h =
     let none = option_map-none faults.BadAdapter (bad_id l) (none_of conditions.BadAdapter s l (search rules) h) in
     let answers = bad_local l ∷ bad_paired l ∷ bad_called l ∷ bad_exported l ∷ bad_described l ∷ bad_listed l ∷ [] in
-    let code = find (is_bad_code l (pairs.paired l)) l.wit.adapters in
-    let pair = first_after (is_bad_pair l (pairs.described l)) [] l.wit.implements in
+    let code = find (is_bad_code l (enum_names l) (pairs.paired l)) l.wit.adapters in
+    let pair = first_after (is_bad_pair l (enum_names l) (pairs.described l)) [] l.wit.implements in
     let export = first_after (is_bad_export l (pairs.paired l) (pairs.called_back l)) [] l.aux.exports in
     let entry = find (pairs.is_bad_entry l l.aux.imports_with_variadic) l.aux.imports in record {
-      coded = λ e i. find-none (is_bad_code l (pairs.paired l)) l.wit.adapters e (option_map-none (λ (e : ℕ × Adapter). e.0) code (some-none answers (bad_local l) none (inl refl))) i;
+      coded = λ e i. find-none (is_bad_code l (enum_names l) (pairs.paired l)) l.wit.adapters e (option_map-none (λ (e : ℕ × Adapter). e.0) code (some-none answers (bad_local l) none (inl refl))) i;
       paired = option_map-none (λ (p : ImportId × ℕ). p.1) pair (some-none answers (bad_paired l) none (inr (inl refl)));
       exported = option_map-none (λ (e : AuxExport). e.adapter) export (some-none answers (bad_exported l) none (inr (inr (inr (inl refl)))));
       entries = λ e i. find-none (pairs.is_bad_entry l l.aux.imports_with_variadic) l.aux.imports e (option_map-none (λ (e : ℕ × AuxImport). e.0) entry (some-none answers (bad_described l) none (inr (inr (inr (inr (inl refl))))))) i;
@@ -113,7 +114,7 @@ pub record IsFitExport (l : Lowered) (e : AuxExport) : Type 0 where
   pub adapter : Adapter
   pub there : adapter_at l e.adapter ≡ Some adapter
   pub coded : has_code adapter.kind ≡ true
-  pub passes : fits_outward l adapter ≡ true
+  pub passes : fits_outward l (enum_names l) adapter ≡ true
   pub names : pairs.names_fit e.args (length adapter.args) ≡ true
   pub fits : pairs.fits_kind e.kind e adapter ≡ true
 
@@ -127,7 +128,7 @@ fit_export l e (Some a) q h u f =
       adapter = a;
       there = q;
       coded = p.0;
-      passes = passing (has_code a.kind) (has_number e.adapter (pairs.paired l)) (fits_outward l a) p.0 u good;
+      passes = passing (has_code a.kind) (has_number e.adapter (pairs.paired l)) (fits_outward l (enum_names l) a) p.0 u good;
       names = rest.0;
       fits = rest.1;
     }
@@ -171,11 +172,11 @@ pub record IsFitPair (l : Lowered) (pair : ImportId × ℕ) : Type 0 where
   pub typed : pairs.import_type l.«module» «import».kind ≡ Some ty
   pub adapter : Adapter
   pub there : adapter_at l pair.1 ≡ Some adapter
-  pub passes : fits_inward l (pairs.described l) adapter ty ≡ true
+  pub passes : fits_inward l (enum_names l) (pairs.described l) adapter ty ≡ true
 
 fit_pair : (l : Lowered) (pair : ImportId × ℕ) (i : Option Import) (t : Option FuncType) (a : Option Adapter)
     → entry_at l.«module».imports pair.0.0 ≡ i → option_and_then (λ (i : Import). pairs.import_type l.«module» i.kind) i ≡ t → adapter_at l pair.1 ≡ a
-    → pairs.fits_type l (pairs.described l) t a ≡ true → IsFitPair l pair
+    → pairs.fits_type l (enum_names l) (pairs.described l) t a ≡ true → IsFitPair l pair
 fit_pair l pair (Some i) (Some t) (Some a) p q r h = record { «import» = i; stands = p; ty = t; typed = q; adapter = a; there = r; passes = h }
 fit_pair l pair (Some i) (Some t) None p q r h = absurd (true≢false (sym h))
 fit_pair l pair (Some i) None a p q r h = absurd (true≢false (sym h))
@@ -186,9 +187,9 @@ fit_pair l pair None (Some t) a p q r h = cc
 pub pairs_fit : (s : Settings) (l : Lowered) → verdict s l ≡ None → (pair : ImportId × ℕ) → IsIn pair l.wit.implements → IsFitPair l pair
 unfolding fits_pair is_bad_pair
 pairs_fit s l h pair i =
-    let r = after-none (is_bad_pair l (pairs.described l)) [] l.wit.implements pair (fit_adapters s l h).paired i in
+    let r = after-none (is_bad_pair l (enum_names l) (pairs.described l)) [] l.wit.implements pair (fit_adapters s l h).paired i in
     let twice = has_number pair.0.0 (map (λ (p : ImportId × ℕ). p.0.0) r.0) || has_number pair.1 (map (λ (p : ImportId × ℕ). p.1) r.0) in
-    let fits = not_false (fits_pair l (pairs.described l) pair) (neither twice (not (fits_pair l (pairs.described l) pair)) r.1).1 in
+    let fits = not_false (fits_pair l (enum_names l) (pairs.described l) pair) (neither twice (not (fits_pair l (enum_names l) (pairs.described l) pair)) r.1).1 in
     fit_pair l pair (entry_at l.«module».imports pair.0.0) (pairs.imported_type l.«module» pair.0.0) (adapter_at l pair.1) refl refl refl fits
 
 -- no import stands in two pairs
@@ -196,12 +197,12 @@ pub distinct_places : (s : Settings) (l : Lowered) → verdict s l ≡ None → 
 unfolding is_bad_pair
 distinct_places s l h =
     let place : ImportId × ℕ → ℕ = λ pair. pair.0.0 in
-    let told : (before : List (ImportId × ℕ)) (pair : ImportId × ℕ) → is_bad_pair l (pairs.described l) before pair ≡ false → has_number pair.0.0 (map place before) ≡ false =
+    let told : (before : List (ImportId × ℕ)) (pair : ImportId × ℕ) → is_bad_pair l (enum_names l) (pairs.described l) before pair ≡ false → has_number pair.0.0 (map place before) ≡ false =
     λ before pair k.
     let places = has_number pair.0.0 (map place before) in
     let ids = has_number pair.1 (map (λ (p : ImportId × ℕ). p.1) before) in
-    (neither places ids (neither (places || ids) (not (fits_pair l (pairs.described l) pair)) k).0).0 in
-    (new_numbers (is_bad_pair l (pairs.described l)) place told [] l.wit.implements (fit_adapters s l h).paired).distinct
+    (neither places ids (neither (places || ids) (not (fits_pair l (enum_names l) (pairs.described l) pair)) k).0).0 in
+    (new_numbers (is_bad_pair l (enum_names l) (pairs.described l)) place told [] l.wit.implements (fit_adapters s l h).paired).distinct
 
 -- an adapter stands for each import that the glue file defines, unless the file defines it whatever is described
 pub imports_bound : (s : Settings) (l : Lowered) → verdict s l ≡ None → (k : ℕ) → IsIn k (own_imports s l.«module» l.wit l.aux)
@@ -237,7 +238,7 @@ neither_answer None later h = (refl, h)
 neither_answer (Some x) later h = cc
 
 -- the answers of which the first is the first bad name
-abbrev bad_names : Settings → Lowered → List (Option (List ℕ))
+abbrev pub bad_names : Settings → Lowered → List (Option (List ℕ))
 bad_names s l =
     bad_export_name l.aux.exports
     ∷ first_of (naming.bad_import s.omit_imports) l.aux.imports
@@ -247,7 +248,7 @@ bad_names s l =
     ∷ find is_proto_name (names_of s l)
     ∷ []
 
-no_bad : (s : Settings) (l : Lowered) → verdict s l ≡ None → (one : Option (List ℕ)) → IsIn one (bad_names s l) → one ≡ None
+pub no_bad : (s : Settings) (l : Lowered) → verdict s l ≡ None → (one : Option (List ℕ)) → IsIn one (bad_names s l) → one ≡ None
 unfolding bad_text
 no_bad s l h one i = some-none (bad_names s l) one (no_texts s l h) i
 
@@ -315,16 +316,16 @@ kept_apart s l h name i x k =
     away x taken (find-none (is_one_of taken) (described_hosts false name) x both.0 k)
 
 -- no name stands for two things
-no_clashes : (s : Settings) (l : Lowered) → verdict s l ≡ None → (naming.given_clash s l ≡ None) × (written_clash s l ≡ None)
+pub no_clashes : (s : Settings) (l : Lowered) → verdict s l ≡ None → (naming.given_clash s l ≡ None) × (written_clash s l ≡ None)
 unfolding answer name_clash
 no_clashes s l h = neither_answer (naming.given_clash s l) (written_clash s l) (none_of conditions.NameClash s l (search rules) h)
 
 -- of the module that is written
 no_written : (s : Settings) (l : Lowered) → verdict s l ≡ None → (one : Option Fault)
-    → IsIn one (naming.import_clash (names_of s l) ∷ naming.wasm_clash l.«module».exports ∷ naming.start_clash l.«module» ∷ []) → one ≡ None
+    → IsIn one (naming.import_clash (names_of s l) ∷ naming.wasm_clash l.«module».exports ∷ naming.shim_clash s l ∷ naming.start_clash l.«module» ∷ []) → one ≡ None
 unfolding written_clash
 no_written s l h one i =
-    some-none (naming.import_clash (names_of s l) ∷ naming.wasm_clash l.«module».exports ∷ naming.start_clash l.«module» ∷ []) one (no_clashes s l h).1 i
+    some-none (naming.import_clash (names_of s l) ∷ naming.wasm_clash l.«module».exports ∷ naming.shim_clash s l ∷ naming.start_clash l.«module» ∷ []) one (no_clashes s l h).1 i
 
 -- and no given name is one that the glue file binds
 pub given_apart : (s : Settings) (l : Lowered) → verdict s l ≡ None → (name : List ℕ) → IsIn name (given_names s.omit_imports l.aux)
@@ -332,7 +333,7 @@ pub given_apart : (s : Settings) (l : Lowered) → verdict s l ≡ None → (nam
 given_apart s l h name i =
     let names = given_names s.omit_imports l.aux in
     let none = option_map-none faults.NameClash (first_clash_after bytes_eq (other_names s l) names) (no_clashes s l h).0 in
-    away name (fixed_names s l.«module») (none_fixed s l names name none i)
+    away name (fixed_names s l.«module») (none_other s l names name none i).1
 
 -- so none that a described name brings is one that the glue file binds
 pub described_apart : (s : Settings) (l : Lowered) → verdict s l ≡ None → (name : JsImportName) → IsIn name (described_names l.aux) → (x : List ℕ)

@@ -1,11 +1,13 @@
 -- Each adapter that becomes a function has steps, and what each step names is there: where the places of instructions on the stack are
 -- checked and all is built.
 use Rattle.std.proofs.Common.{◌≡◌, ℕ, zero, suc, ◌==◌, List, [], ◌∷◌, map, arith, true, false, Option, Some, None, true≢false, refl, sym, ap, ◌∙◌, subst, Bool, inl, inr, ◌++◌}
-use Rattle.std.specs.Prelude.{◌||◌, codes, cond, option_and_then, option_map, IsSomeAnd}
+use Rattle.std.specs.Prelude.{◌&&◌, ◌||◌, not, codes, cond, option_and_then, option_map, IsSomeAnd}
 use Rattle.std.specs.Fmt.{decimal}
-use Rattle.std.specs.List.{AllByRecursion, flat_map, list_any, list_all, filter_map, find}
+use Rattle.std.specs.List.{AllByRecursion, count_by, flat_map, list_any, list_all, filter_map, find}
 use Rattle.std.specs.Option.{is_some}
 use Rattle.std.proofs.lemmas.Bool.{and_parts, eqb-true}
+use Rattle.std.proofs.lemmas.Slice.Eq.{bytes_eq-Decides}
+use Rattle.std.specs.Str.{bytes_eq}
 use Rattle.values.specs.Lists.{IsIn}
 use Rattle.values.proofs.Members.{in_left, in_right}
 use Rattle.wasm_core.specs.ids.FuncId.{FuncId}
@@ -16,42 +18,47 @@ use Rattle.wasm_core.specs.entries.ExportItem.TheVariants as items
 use Rattle.wasm_core.specs.entries.Export.{Export}
 use Rattle.glue_shared.specs.declared.adapter.Adapter.{Adapter}
 use Rattle.glue_shared.specs.declared.adapter.AdapterJsImportKind.{AdapterJsImportKind}
+use Rattle.glue_shared.specs.declared.adapter.AdapterKind.{AdapterKind}
+use Rattle.glue_shared.specs.declared.adapter.AdapterKind.TheVariants as kinds
 use Rattle.glue_shared.specs.declared.adapter.Instruction.{Instruction}
 use Rattle.glue_shared.specs.declared.adapter.Instruction.TheVariants as instr
 use Rattle.glue_shared.specs.declared.adapter.VectorKind.{VectorKind}
 use Rattle.glue_shared.specs.declared.adapter.VectorKind.TheVariants as vectors
 use Rattle.glue_shared.specs.declared.aux.AuxExport.{AuxExport}
+use Rattle.glue_shared.specs.declared.aux.AuxStringEnum.{AuxStringEnum}
 use Rattle.glue_shared.specs.declared.import.AuxImport.{AuxImport}
 use Rattle.glue_shared.specs.declared.description.Lowered.{Lowered}
 use Rattle.glue_shared.specs.declared.name_map.NameMap.{NameMap}
 use Rattle.glue_shared.specs.declared.settings.Settings.{Settings}
-use Rattle.glue_shared.specs.Names.{entry_of, has_number, own_imports}
-use Rattle.glue_shared.specs.Names as described_names
+use Rattle.glue_shared.specs.Names.{entry_of, has_number, is_one_of, own_imports}
 use Rattle.glue_shared.specs.Roots.{instruction_items, listed, live_item}
 use Rattle.glue_steps.specs.declared.needed.ReferencePart.TheVariants as parts
 use Rattle.glue_steps.specs.Needed.{goes_by}
+use Rattle.glue_steps.specs.Room.{has_stack}
 use Rattle.glue_adapters.specs.step.Step.{Step}
-use Rattle.glue_adapters.specs.step.Step.TheVariants.{CallExport, CallImport, CallHelper, UnwrapResult, PassToMemory, DeferFree, CopyOut}
-use Rattle.glue_adapters.specs.Resolving.{entry_at, is_some_item, export_named, export_step, functions_named, given_of, handle_helper, helper_of, is_spread, import_step_of, import_step, listed_id, reading_helper, step_of, steps_of, adapter_steps, vector_read}
+use Rattle.glue_adapters.specs.step.Step.TheVariants.{CallExport, CallImport, CallHelper, UnwrapResult, PassToMemory, DeferFree, CopyOut, ReturnPointer, LoadReturn, StoreReturn, IndexOf, ItemAt}
+use Rattle.glue_adapters.specs.Resolving.{entry_at, is_some_item, export_named, export_step, functions_named, given_of, handle_helper, helper_of, is_spread, import_step_of, import_step, list_named, listed_id, reading_helper, step_of, steps_of, with_step, code_steps, adapter_steps, vector_read}
 use Rattle.glue_adapters.specs.Exported.{export_name, export_names}
 use Rattle.glue_adapters.specs.declared.kind.Kind.{Kind}
-use Rattle.glue_adapters.specs.Adapters.{adapter_at, code_of, has_code, is_import, is_import_call, is_described_call, fits_outward, fits_inward}
+use Rattle.glue_adapters.specs.Adapters.{adapter_at, code_of, has_code, has_counts, is_few, is_import, is_import_call, is_export_call, is_described_call, calls_export, calls_import, calls_one_import, passes_kinds, fits_outward, fits_inward}
 use Rattle.glue_adapters.specs.Pairs.{described}
-use Rattle.glue_adapters.specs.Stack.{js_kinds, export_type, call_effect, effect, memory_effect, names_live, stack_after, leaves, is_well_stacked}
+use Rattle.glue_adapters.specs.Stack.{js_kinds, kinds_of, export_type, call_effect, effect, enum_names, memory_effect, names_live, stack_after, leaves, uses_room, keeps_stack, is_well_stacked}
 use Rattle.glue_check.specs.declared.files.FileFlags.{FileFlags}
 use Rattle.glue_imports.specs.declared.part.Expression.{Expression}
 use Rattle.glue_imports.specs.Expressions.{expression}
 use Rattle.glue_imports.specs.Given.{given_item, gives_item}
 use Rattle.glue_imports.proofs.Any.{any_call}
+use Rattle.glue_names.specs.Given.{values_name}
 use Rattle.glue_names.specs.Handed.{own_callees}
-use Rattle.glue_names.specs.Printed.{code_by, export_code, pair_code, printed_code}
+use Rattle.glue_names.specs.Printed.{code_by, enum_named, export_code, named_enums, pair_code, printed_code, uses_shim}
 use Rattle.glue_check.specs.Missing.{lends}
 use Rattle.glue_check.specs.Unbuilt.{is_unbuilt_instruction}
 use Rattle.glue_check.specs.Verdict.{unbuilt, verdict}
-use Rattle.glue_check.proofs.BuiltForm.{AreBuiltImports, imports_built, adapters_built}
+use Rattle.glue_faults.proofs.First.{neither}
+use Rattle.glue_check.proofs.BuiltForm.{AreBuiltImports, imports_built, adapters_built, not_true, one_found}
 use Rattle.glue_names.proofs.Called.{called_own}
 use Rattle.glue_names.proofs.Globals.{in_flat, some_of}
-use Rattle.glue_check.proofs.Complete.{IsComplete, complete_code}
+use Rattle.glue_check.proofs.Complete.{IsComplete, complete_code, moved_on, only_if, room_made, same_code}
 use Rattle.glue_check.proofs.Embedded.{code_complete, expression_there, given_there}
 use Rattle.glue_check.proofs.Passed.{exports_fit, pairs_fit, looked_up}
 
@@ -88,8 +95,15 @@ pub record IsNamedFunction (s : Settings) (l : Lowered) (names : NameMap) (name 
   pub named : IsIn (items.Func function) (instruction_items instruction)
   pub is : name ≡ export_named names (Some (items.Func function))
 
--- what a step names is there: an export of the module, the expression of a described import, a helper that an instruction calls, or exports of
--- functions that it names
+-- the list of the texts of a described string enum that such an instruction names
+pub record IsListOf (s : Settings) (l : Lowered) (list : List ℕ) : Type 0 where
+  pub values : AuxStringEnum
+  pub among : IsIn values l.aux.string_enums
+  pub named : is_one_of (named_enums s l) values.name ≡ true
+  pub is : list ≡ values_name values
+
+-- what a step names is there: an export of the module, the expression of a described import, a helper that an instruction calls, exports of
+-- functions that it names, the export that moves the stack, and the global that tells where it ends, or the list of a string enum
 abbrev pub IsThere : Settings → Lowered → NameMap → Step → Type 0
 IsThere s l names (CallExport name n has_result) = IsIn name (export_names l.«module»)
 IsThere s l names (CallImport adapter n has_result text) = IsDescribed s l names text
@@ -98,6 +112,11 @@ IsThere s l names (UnwrapResult helper) = IsHelperOf s l helper
 IsThere s l names (PassToMemory helper exports optional) = IsHelperOf s l helper × AllByRecursion (IsNamedFunction s l names) exports
 IsThere s l names (DeferFree free align) = IsNamedFunction s l names free
 IsThere s l names (CopyOut helper) = IsHelperOf s l helper
+IsThere s l names (ReturnPointer size) = (uses_shim s l ≡ true) × (has_stack l ≡ true)
+IsThere s l names (LoadReturn view offset is_wide) = IsHelperOf s l view
+IsThere s l names (StoreReturn view offset is_wide) = IsHelperOf s l view
+IsThere s l names (IndexOf list) = IsListOf s l list
+IsThere s l names (ItemAt list) = IsListOf s l list
 IsThere s l names other = Unit {0}
 
 -- an adapter has steps, whatever names are drawn, and what each of them names is there
@@ -126,14 +145,22 @@ first_has P id (e ∷ entries) h give = by (e.0 == id) refl h (first_has P id en
     by true q h rest give = give e (inl refl) (eqb-true e.0 id q) refl
     by false q h rest give = rest h (λ x i same found. give x (inr i) same found)
 
--- the code of an adapter by itself, and of one that was looked up
-same_code : (a : Adapter) → described_names.code_of (Some a) ≡ code_of a.kind
-same_code a = grind arith
-
 -- an instruction calls no import adapter but those that adapters of own imports call
 abbrev is_own_call : Settings → Lowered → Instruction → Bool
 is_own_call s l (instr.CallAdapter id) = has_number id (own_callees s l)
 is_own_call s l other = true
+
+-- a described string enum of a name
+enum_of : (enums : List AuxStringEnum) (name : List ℕ) → is_one_of (map (λ (e : AuxStringEnum). e.name) enums) name ≡ true
+    → (e : AuxStringEnum) × IsIn e enums × (name ≡ e.name)
+enum_of [] name h = absurd (true≢false (sym h))
+enum_of (e ∷ enums) name h = by (bytes_eq e.name name) refl h (enum_of enums name)
+  where
+    by : (b : Bool) → bytes_eq e.name name ≡ b → (b || is_one_of (map (λ (e : AuxStringEnum). e.name) enums) name) ≡ true
+        → (is_one_of (map (λ (e : AuxStringEnum). e.name) enums) name ≡ true → (x : AuxStringEnum) × IsIn x enums × (name ≡ x.name))
+        → (x : AuxStringEnum) × IsIn x (e ∷ enums) × (name ≡ x.name)
+    by true q h later = (e, inl refl, sym ((bytes_eq-Decides e.name name).0 q))
+    by false q h later = let r = later h in (r.0, inr r.1, r.2)
 
 module _ (s : Settings) (l : Lowered) (names : NameMap) where
   -- a call that has an effect is that of an export
@@ -213,14 +240,21 @@ module _ (s : Settings) (l : Lowered) (names : NameMap) where
   allocating malloc (Some r) memory f (inr (inl same)) = inr (inl (ap items.Func same))
   allocating malloc (Some r) memory f (inr (inr none)) = absurd none
 
-  -- a value that is there under a condition
-  only_if : {A : Type 0} (b : Bool) (o : Option A) → is_some (cond b o None) ≡ true → b ≡ true
-  only_if true o h = refl
-  only_if false o h = h
+  -- the list of a string enum that an instruction names is that of a described one
+  enum_listed : (i : Instruction) → IsIn i (printed_code s l) → IsComplete s l i → (name : List ℕ) → IsIn name (enum_named i)
+      → IsListOf s l (list_named name)
+  enum_listed i at k name own =
+      let r = enum_of l.aux.string_enums name (k.enums name own) in record {
+        values = r.0;
+        among = r.1;
+        named = subst (λ (n : List ℕ). is_one_of (named_enums s l) n ≡ true) r.2
+            (one_found name (named_enums s l) (in_flat enum_named (printed_code s l) i name at own));
+        is = ap list_named r.2;
+      }
 
   -- an instruction that is built, with an effect and an import that is described, is a step
   called : AreBuiltImports s l → verdict s l ≡ None → (params : List Kind) (i : Instruction) → IsIn i (printed_code s l) → IsComplete s l i
-      → is_unbuilt_instruction i ≡ false → is_some (effect l params i) ≡ true → is_described_call l (described l) i ≡ true → is_own_call s l i ≡ true
+      → is_unbuilt_instruction i ≡ false → is_some (effect l (enum_names l) params i) ≡ true → is_described_call l (described l) i ≡ true → is_own_call s l i ≡ true
       → IsSomeAnd (step_of s names l i) (IsThere s l names)
   unfolding effect
   called built passed params instr.IndexFromOwned at k u e d own =
@@ -238,50 +272,83 @@ module _ (s : Settings) (l : Lowered) (names : NameMap) where
       (record { among = at; complete = k; live = refl }) refl refl (λ helper h. h)
   called built passed params (instr.StringToMemory malloc realloc memory) at k u e d own =
       let i = instr.StringToMemory malloc realloc memory in
-      let printed : IsPrinted s l i = record { among = at; complete = k; live = only_if (names_live l i) (memory_effect i) e } in
+      let printed : IsPrinted s l i = record { among = at; complete = k; live = only_if (names_live l i) (memory_effect params i) e } in
       (record { instruction = i; printed = printed; calls = refl }, functions_there i printed (malloc ∷ listed_id realloc) (allocating malloc realloc memory))
   called built passed params (instr.OptionStringToMemory malloc realloc memory) at k u e d own =
       let i = instr.OptionStringToMemory malloc realloc memory in
-      let printed : IsPrinted s l i = record { among = at; complete = k; live = only_if (names_live l i) (memory_effect i) e } in
+      let printed : IsPrinted s l i = record { among = at; complete = k; live = only_if (names_live l i) (memory_effect params i) e } in
       (record { instruction = i; printed = printed; calls = refl }, functions_there i printed (malloc ∷ listed_id realloc) (allocating malloc realloc memory))
   called built passed params (instr.MemoryToString memory) at k u e d own =
       let i = instr.MemoryToString memory in
-      record { instruction = i; printed = record { among = at; complete = k; live = only_if (names_live l i) (memory_effect i) e }; calls = refl }
+      record { instruction = i; printed = record { among = at; complete = k; live = only_if (names_live l i) (memory_effect params i) e }; calls = refl }
   called built passed params (instr.DeferFree free align) at k u e d own =
       let i = instr.DeferFree free align in record {
         instruction = i;
-        printed = record { among = at; complete = k; live = only_if (names_live l i) (memory_effect i) e };
+        printed = record { among = at; complete = k; live = only_if (names_live l i) (memory_effect params i) e };
         function = free;
         named = inl refl;
         is = refl;
       }
   called built passed params (instr.VecFromWasm kind memory) at k u e d own =
       let i = instr.VecFromWasm kind memory in
-      by kind (record { instruction = i; printed = record { among = at; complete = k; live = only_if (names_live l i) (memory_effect i) e }; calls = refl })
+      by kind (record { instruction = i; printed = record { among = at; complete = k; live = only_if (names_live l i) (memory_effect params i) e }; calls = refl })
     where
       by : (kind : VectorKind) → IsHelperOf s l (reading_helper kind memory) → IsThere s l names (vector_read kind memory)
       by vectors.Value h = h
       by other h = h
   called built passed params (instr.VecToWasm kind malloc memory) at k u e d own =
       let i = instr.VecToWasm kind malloc memory in
-      let printed : IsPrinted s l i = record { among = at; complete = k; live = only_if (names_live l i) (memory_effect i) e } in
+      let printed : IsPrinted s l i = record { among = at; complete = k; live = only_if (names_live l i) (memory_effect params i) e } in
       (record { instruction = i; printed = printed; calls = refl }, functions_there i printed (malloc ∷ []) (λ f at. one f at))
     where
       one : (f : FuncId) → IsIn f (malloc ∷ []) → IsIn (items.Func f) (items.Func malloc ∷ items.Memory memory ∷ [])
       one f (inl same) = inl (ap items.Func same)
       one f (inr none) = absurd none
-  called built passed params i at k u e d own = let adapter = called_adapter built passed in grind (arith, called_export)
+  called built passed params (instr.Retptr size) at k u e d own = (room_made (printed_code s l) (instr.Retptr size) at refl, k.room refl)
+  called built passed params (instr.LoadRetptr offset ty memory) at k u e d own =
+      let i = instr.LoadRetptr offset ty memory in
+      record { instruction = i; printed = record { among = at; complete = k; live = only_if (names_live l i) (memory_effect params i) e }; calls = refl }
+  called built passed params (instr.StoreRetptr offset ty memory) at k u e d own =
+      let i = instr.StoreRetptr offset ty memory in
+      record { instruction = i; printed = record { among = at; complete = k; live = only_if (names_live l i) (memory_effect params i) e }; calls = refl }
+  called built passed params (instr.EnumIndex name) at k u e d own = enum_listed (instr.EnumIndex name) at k name (inl refl)
+  called built passed params (instr.EnumText name) at k u e d own = enum_listed (instr.EnumText name) at k name (inl refl)
+  called built passed params (instr.ArgGet n) at k u e d own = tt
+  called built passed params instr.Int32ToWasm at k u e d own = tt
+  called built passed params instr.Int64ToWasm at k u e d own = tt
+  called built passed params instr.I32FromBool at k u e d own = tt
+  called built passed params (instr.WasmToInt32 false) at k u e d own = tt
+  called built passed params (instr.WasmToInt32 true) at k u e d own = tt
+  called built passed params (instr.WasmToInt64 false) at k u e d own = tt
+  called built passed params (instr.WasmToInt64 true) at k u e d own = tt
+  called built passed params instr.BoolFromI32 at k u e d own = tt
+  called built passed params (instr.CallExport id) at k u e d own = called_export id.0 e
+  called built passed params (instr.CallAdapter id) at k u e d own = called_adapter built passed id d own
+  called built passed params (instr.Other name) at k u e d own = absurd (true≢false (sym e))
+  called built passed params other at k u e d own = absurd (true≢false u)
+
+  -- a first step and the others
+  joined : (step : Option Step) (steps : Option (List Step)) → IsSomeAnd step (IsThere s l names) → IsSomeAnd steps (AllByRecursion (IsThere s l names))
+      → IsSomeAnd (with_step step steps) (AllByRecursion (IsThere s l names))
+  joined None steps h k = absurd h
+  joined (Some step) None h k = absurd k
+  joined (Some step) (Some steps) h k = (h, k)
 
   -- a code that is built and well stacked, of which nothing lacks a part and each call is described, has steps
   code_there : AreBuiltImports s l → verdict s l ≡ None → (params results stack : List Kind) (code : List Instruction)
       → ((i : Instruction) → IsIn i code → IsIn i (printed_code s l)) → ((i : Instruction) → IsIn i code → IsComplete s l i)
       → list_any is_unbuilt_instruction code ≡ false
-      → list_all (is_described_call l (described l)) code ≡ true → list_all (is_own_call s l) code ≡ true → leaves results (stack_after (effect l params) stack code) ≡ true
+      → list_all (is_described_call l (described l)) code ≡ true → list_all (is_own_call s l) code ≡ true → leaves results (stack_after (effect l (enum_names l) params) stack code) ≡ true
       → IsSomeAnd (steps_of s names l code) (AllByRecursion (IsThere s l names))
   code_there built passed params results stack [] at k u d own h = tt
   code_there built passed params results stack (i ∷ code) at k u d own h =
-      let here = called built passed params i (at i (inl refl)) (k i (inl refl)) in
-      let rest = λ (next : List Kind). code_there built passed params results next code (λ j q. at j (inr q)) (λ j q. k j (inr q)) in grind arith
+      let forms = neither (is_unbuilt_instruction i) (list_any is_unbuilt_instruction code) u in
+      let calls = and_parts (is_described_call l (described l) i) (list_all (is_described_call l (described l)) code) d in
+      let mine = and_parts (is_own_call s l i) (list_all (is_own_call s l) code) own in
+      let went = moved_on l params results stack i code h in
+      joined (step_of s names l i) (steps_of s names l code)
+      (called built passed params i (at i (inl refl)) (k i (inl refl)) forms.0 went.1 calls.0 mine.0)
+      (code_there built passed params results went.0 code (λ j q. at j (inr q)) (λ j q. k j (inr q)) forms.1 calls.1 mine.1 went.2)
 
 module _ (s : Settings) (l : Lowered) where
   -- where no import is called, each that is called is described, and called by an adapter of an own import
@@ -316,13 +383,21 @@ module _ (f : FileFlags) (s : Settings) (l : Lowered) (built : unbuilt f s l ≡
   coded_steps : (names : NameMap) (id : ℕ) (a : Adapter) (params results : List Kind) → adapter_at l id ≡ Some a
       → ((i : Instruction) → IsIn i (code_by l id) → IsIn i (printed_code s l)) → has_code a.kind ≡ true
       → list_all (is_described_call l (described l)) (code_of a.kind) ≡ true → list_all (is_own_call s l) (code_of a.kind) ≡ true
-      → is_well_stacked l params results (code_of a.kind) ≡ true → IsSomeAnd (adapter_steps s names l id) (AllByRecursion (IsThere s l names))
+      → is_well_stacked l (enum_names l) params results (code_of a.kind) ≡ true → IsSomeAnd (adapter_steps s names l id) (AllByRecursion (IsThere s l names))
   coded_steps names id a params results there printed coded calls own stacked =
       let among = looked_up l.wit.adapters id a there in
       let each = adapters_built f s l built (id, a) among in
-      let lacks = complete_code s l (code_of a.kind) (code_complete s l passed (id, a) among) in
+      let lacks = complete_code s l params results (code_of a.kind) (code_complete s l passed (id, a) among) stacked in
       let at = λ (i : Instruction) (q : IsIn i (code_of a.kind)). printed i (rw (there, same_code a) q) in
-      let steps = code_there s l names (imports_built f s l built) passed params results [] (code_of a.kind) at lacks each calls own stacked in grind arith
+      let kept = (and_parts (uses_room false (code_of a.kind)) (keeps_stack l (enum_names l) params results (code_of a.kind)) stacked).1 in
+      let steps = code_there s l names (imports_built f s l built) passed params results [] (code_of a.kind) at lacks each calls own kept in
+      subst (λ (o : Option Adapter). IsSomeAnd (option_and_then (λ (x : Adapter). code_steps s names l x.kind) o) (AllByRecursion (IsThere s l names))) (sym there)
+      (kind_steps a.kind coded steps)
+    where
+      kind_steps : (kind : AdapterKind) → has_code kind ≡ true → IsSomeAnd (steps_of s names l (code_of kind)) (AllByRecursion (IsThere s l names))
+          → IsSomeAnd (code_steps s names l kind) (AllByRecursion (IsThere s l names))
+      kind_steps (kinds.Local code) c h = h
+      kind_steps (kinds.Import call) c h = absurd (true≢false (sym c))
 
   abbrev own : List ℕ
   own = own_imports s l.«module» l.wit l.aux
@@ -333,11 +408,13 @@ module _ (f : FileFlags) (s : Settings) (l : Lowered) (built : unbuilt f s l ≡
   export_steps e i = λ names.
       let fit = exports_fit s l passed e i in
       let a = fit.adapter in
-      let calls = none_called s l (code_of a.kind) in
-      let mine = none_own s l (code_of a.kind) in
       let printed = λ (x : Instruction) (q : IsIn x (code_by l e.adapter)).
       in_left x (flat_map (export_code l) l.aux.exports) (flat_map (pair_code own l) l.wit.implements) (in_flat (export_code l) l.aux.exports e x i q) in
-      let steps = coded_steps names e.adapter a (js_kinds a.args) (js_kinds a.results) fit.there printed fit.coded in grind arith
+      let code = code_of a.kind in
+      let passes = and_parts (is_few a.results && calls_export code) (is_well_stacked l (enum_names l) (js_kinds a.args) (js_kinds a.results) code) fit.passes in
+      let calls = and_parts (count_by is_export_call code == 1) (not (list_any is_import_call code)) (and_parts (is_few a.results) (calls_export code) passes.0).1 in
+      let none = not_true (list_any is_import_call code) calls.1 in
+      coded_steps names e.adapter a (js_kinds a.args) (js_kinds a.results) fit.there printed fit.coded (none_called s l code none) (none_own s l code none) passes.1
 
   -- the adapter of an own import
   pub pair_steps : (pair : ImportId × ℕ) → IsIn pair l.wit.implements → has_number pair.0.0 (own_imports s l.«module» l.wit l.aux) ≡ true → HasSteps s l pair.1
@@ -348,4 +425,19 @@ module _ (f : FileFlags) (s : Settings) (l : Lowered) (built : unbuilt f s l ≡
       let printed = λ (x : Instruction) (q : IsIn x (code_by l pair.1)).
       in_right x (flat_map (export_code l) l.aux.exports) (flat_map (pair_code own l) l.wit.implements)
       (in_flat (pair_code own l) l.wit.implements pair x i (rw mine q)) in
-      let steps = λ (params results : List Kind). coded_steps names pair.1 fit.adapter params results fit.there printed in grind arith
+      let a = fit.adapter in
+      let code = code_of a.kind in
+      let forms = (has_code a.kind && has_counts a fit.ty) && calls_import l (described l) code in
+      let passes = and_parts forms (passes_kinds l (enum_names l) code (kinds_of (fit.ty).params) (kinds_of (fit.ty).results)) fit.passes in
+      let calls = and_parts (has_code a.kind && has_counts a fit.ty) (calls_import l (described l) code) passes.0 in
+      let coded = (and_parts (has_code a.kind) (has_counts a fit.ty) calls.0).0 in
+      let each = (and_parts (calls_one_import code) (list_all (is_described_call l (described l)) code) calls.1).1 in
+      by names a fit.there printed coded each called (kinds_of (fit.ty).params) (kinds_of (fit.ty).results) passes.1
+    where
+      by : (names : NameMap) (a : Adapter) → adapter_at l pair.1 ≡ Some a → ((i : Instruction) → IsIn i (code_by l pair.1) → IsIn i (printed_code s l))
+          → has_code a.kind ≡ true → list_all (is_described_call l (described l)) (code_of a.kind) ≡ true → list_all (is_own_call s l) (code_of a.kind) ≡ true
+          → (params results : Option (List Kind)) → passes_kinds l (enum_names l) (code_of a.kind) params results ≡ true
+          → IsSomeAnd (adapter_steps s names l pair.1) (AllByRecursion (IsThere s l names))
+      by names a there printed coded each called (Some params) (Some results) h = coded_steps names pair.1 a params results there printed coded each called h
+      by names a there printed coded each called None results h = absurd (true≢false (sym h))
+      by names a there printed coded each called (Some params) None h = absurd (true≢false (sym h))

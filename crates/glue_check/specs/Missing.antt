@@ -1,5 +1,5 @@
 -- Parts that instructions and imports need and that the module or its description lacks.
-use Rattle.std.specs.Prelude.{ℕ, Bool, true, false, not, ◌&&◌, is_some, List, [], ◌∷◌, codes, Option, Some, None, option_map, if◌then◌else◌}
+use Rattle.std.specs.Prelude.{ℕ, Bool, true, false, not, ◌&&◌, ◌||◌, is_some, List, [], ◌∷◌, codes, Option, Some, None, option_map, if◌then◌else◌}
 use Rattle.std.specs.List.{list_any}
 use Rattle.std.specs.Option.{option_or}
 use Rattle.wasm_core.specs.entries.ExportItem.{ExportItem}
@@ -21,6 +21,7 @@ use Rattle.glue_steps.specs.declared.needed.ReferencePart.TheVariants as parts
 use Rattle.glue_steps.specs.declared.needed.TheConstants.{REFERENCE_PARTS}
 use Rattle.glue_steps.specs.Needed.{goes_by, part_item}
 use Rattle.glue_steps.specs.Resolving.{entry_at}
+use Rattle.glue_steps.specs.Room.{makes_room, has_stack}
 use Rattle.glue_adapters.specs.Adapters.{code_of}
 use Rattle.glue_faults.specs.declared.fault.Fault.{Fault}
 use Rattle.glue_faults.specs.declared.fault.Fault.TheVariants as faults
@@ -113,9 +114,13 @@ names_wide l i = list_any (is_wide l) (instruction_items i)
 abbrev pub memory_lacked : Lowered → List Instruction → Option (List ℕ)
 memory_lacked l code = lacked_unless (not (list_any (names_wide l) code)) (codes "memory")
 
+-- what code lacks of the stack of the module: a global that tells where it ends, where room is taken on it
+abbrev pub stack_lacked : Lowered → List Instruction → Option (List ℕ)
+stack_lacked l code = lacked_unless (not (makes_room code) || has_stack l) (codes "stack_pointer")
+
 -- the first part in the order of bytes that code lacks
 abbrev pub code_lacks : Settings → Lowered → List Instruction → Option (List ℕ)
-code_lacks settings l code = option_or (reference_lacked settings.externref l code) (memory_lacked l code)
+code_lacks settings l code = option_or (reference_lacked settings.externref l code) (option_or (memory_lacked l code) (stack_lacked l code))
 
 -- the first in that order that an adapter lacks
 abbrev pub adapter_lacks : Settings → Lowered → ℕ × Adapter → Option (List ℕ)

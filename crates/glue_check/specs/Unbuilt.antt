@@ -103,29 +103,21 @@ unbuilt_imports settings l = where_true (
 
 -- ---- instructions
 
--- An instruction of a class, of a string enum, of a closure, or of a return pointer.
+-- an instruction of a class, or of a closure
 abbrev pub is_unbuilt_instruction : Instruction → Bool
-is_unbuilt_instruction (instr.Retptr size) = true
-is_unbuilt_instruction (instr.LoadRetptr offset ty memory) = true
-is_unbuilt_instruction (instr.StoreRetptr offset ty memory) = true
 is_unbuilt_instruction (instr.ClassIntoPtr class) = true
 is_unbuilt_instruction (instr.ClassPtr class) = true
 is_unbuilt_instruction (instr.ClassFromPtr class) = true
-is_unbuilt_instruction (instr.EnumIndex name) = true
-is_unbuilt_instruction (instr.EnumText name) = true
 is_unbuilt_instruction (instr.Closure adapter mutable) = true
 is_unbuilt_instruction other = false
 
--- an integer, a truth, a string, a vector, any JavaScript value, or an option of what passes the test
+-- no object of a class, and no option of what doesn't pass the test
 abbrev pub is_simple_layer : AdapterType-F Bool → Bool
 is_simple_layer (AdapterType-F.Class name) = false
-is_simple_layer (AdapterType-F.Enum name) = false
-is_simple_layer (AdapterType-F.StringEnum name) = false
-is_simple_layer (AdapterType-F.Union name) = false
 is_simple_layer (AdapterType-F.Option inner) = inner
 is_simple_layer other = true
 
--- one of these, or options of one
+-- an integer, a truth, a string, a vector, an enum of numbers or of texts, a union, any JavaScript value, or options of one of these
 abbrev pub is_simple : AdapterType → Bool
 is_simple = fold-AdapterType Bool is_simple_layer
 

@@ -4,8 +4,9 @@
 //! definition (`specs/Unbuilt.antt`, `specs/TargetValues.antt`, `specs/Links.antt`, `specs/Missing.antt`, and those of `glue_adapters`,
 //! `glue_names` and `glue_published`). Promised (`fault`): it answers exactly the first of these that comes to a fault, with what it names;
 //! `unbuilt` and `verdict` in `specs/Verdict.antt` are the two lists. Where there is none it gives a `Checked`, whose type says so: a crate above draws its facts from that, by the lemmas of `proofs/Passed.antt` (no fault),
-//! `proofs/BuiltForm.antt` (all is built), `proofs/Embedded.antt`, `proofs/Complete.antt` and `proofs/Steps.antt` (each adapter that becomes
-//! a function has steps). Nothing but want of memory fails besides.
+//! `proofs/BuiltForm.antt` (all is built), `proofs/Embedded.antt`, `proofs/Complete.antt` (what instructions go by is there, the string enums that
+//! they name are described, and where they take room on the stack of the module, the global that tells where it ends) and `proofs/Steps.antt` (each adapter that becomes a function has
+//! steps). Nothing but want of memory fails besides.
 //!
 //! The generator calls it before it makes anything, and makes files of a `Checked` alone. Each condition on names and on what is published
 //! is a call by itself too, here or in the crate that it comes from, since some can't be met where all is built. Of each condition, what it says of

@@ -12,7 +12,7 @@ use glue_shared::{
     Adapter, AdapterId, AdapterKind, AuxImport, Instruction, Intrinsic, Lowered, Settings,
     first_memory, live_item, push_instruction, table_item,
 };
-use glue_steps::{REFERENCE_PARTS, ReferencePart, goes_by, part_item};
+use glue_steps::{REFERENCE_PARTS, ReferencePart, goes_by, has_stack, makes_room, part_item};
 use std::alloc::{AllocError, Global};
 use values::Text;
 use wasm_core::{ExportItem, Memory, MemoryId};
@@ -270,6 +270,13 @@ fn memory_lacked(
     Ok(lacked_unless(!wide, "memory"))
 }
 
+// What code lacks of the stack of the module.
+fn stack_lacked(lowered: &Lowered, code: &[Instruction]) -> Option<&'static str>
+    ensures part { option_copied result ≡ spec.stack_lacked lowered.now code.now }
+{
+    lacked_unless(!makes_room(code) || has_stack(lowered), "stack_pointer")
+}
+
 // The first part that code lacks.
 fn code_lacks(
     alloc: Global,
@@ -281,7 +288,10 @@ fn code_lacks(
 {
     match reference_lacked(settings.externref, lowered, code) {
         Some(part) => Ok(Some(part)),
-        None => memory_lacked(alloc, lowered, code),
+        None => match memory_lacked(alloc, lowered, code)? {
+            Some(part) => Ok(Some(part)),
+            None => Ok(stack_lacked(lowered, code)),
+        },
     }
 }
 
@@ -332,9 +342,9 @@ fn first_missing(
     }
 }
 
-/// That an adapter or a described import lacks a part that it needs: a table or a function by the name that it has in the description;
-/// `memory`, where a memory has addresses of 64 bits, or the one that an import gives isn't there or isn't the only one; or `externref`, where
-/// references would have to be kept in the other way. Want of memory is the only error.
+/// That an adapter or a described import lacks a part that it needs: a table, a function or a global by the name that it has in the
+/// description; `memory`, where a memory has addresses of 64 bits, or the one that an import gives isn't there or isn't the only one; or
+/// `externref`, where references would have to be kept in the other way. Want of memory is the only error.
 pub(crate) fn missing_part(
     alloc: Global,
     settings: &Settings,

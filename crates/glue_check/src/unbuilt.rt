@@ -165,33 +165,25 @@ pub(crate) fn unbuilt_imports(
     not_built(alloc, asked, "imports")
 }
 
-// Whether an instruction is one of a class, of a string enum, of a closure, or of a return pointer.
+// Whether an instruction is one of a class, or of a closure.
 fn is_unbuilt_instruction(instruction: &Instruction) -> bool
     ensures test { result ≡ spec.is_unbuilt_instruction instruction.now }
 {
     matches!(
         instruction,
-        Instruction::Retptr(_)
-            | Instruction::LoadRetptr(_, _, _)
-            | Instruction::StoreRetptr(_, _, _)
-            | Instruction::ClassIntoPtr(_)
+        Instruction::ClassIntoPtr(_)
             | Instruction::ClassPtr(_)
             | Instruction::ClassFromPtr(_)
-            | Instruction::EnumIndex(_)
-            | Instruction::EnumText(_)
             | Instruction::Closure(_, _)
     )
 }
 
-// Whether a type is an integer, a truth, a string, a vector, any JavaScript value, or options of one of these.
+// Whether a type is no object of a class, nor options of one.
 fn is_simple(ty: &AdapterType) -> bool
     ensures test { result ≡ spec.is_simple ty.now }
 {
     match ty {
-        AdapterType::Class(_)
-        | AdapterType::Enum(_)
-        | AdapterType::StringEnum(_)
-        | AdapterType::Union(_) => false,
+        AdapterType::Class(_) => false,
         AdapterType::Option(inner) => is_simple(inner.get()),
         _ => true,
     }

@@ -1,10 +1,11 @@
 -- Given names: of modules none where imports are kept, and the first that is met by those that are taken.
-use Rattle.std.proofs.Common.{◌≡◌, ℕ, List, [], ◌∷◌, ◌++◌, map, Bool, true, false, ◌||◌, cond, Some, None, ◌⊎◌, refl, sym, ap, ◌∙◌, inl, inr, append-nil}
+use Rattle.std.proofs.Common.{◌≡◌, ℕ, List, [], ◌∷◌, ◌++◌, map, Bool, true, false, true≢false, ◌||◌, cond, Some, None, ◌⊎◌, refl, sym, ap, ◌∙◌, inl, inr, append-nil}
 use Rattle.std.specs.Prelude.{option_map}
 use Rattle.std.specs.Str.{bytes_eq}
 use Rattle.std.specs.FinSet as set
 use Rattle.std.proofs.lemmas.List.Folds.{list_any-append}
-use Rattle.values.specs.Lists.{IsIn}
+use Rattle.std.proofs.lemmas.Slice.Eq.{bytes_eq-Decides}
+use Rattle.values.specs.Lists.{AreDistinct, IsIn}
 use Rattle.values.specs.TextSet.{TextSet, with_texts}
 use Rattle.values.proofs.Members.{in_left, in_right, in_either}
 use Rattle.wasm_core.specs.Contents.{Contents}
@@ -96,13 +97,25 @@ none_before before (first ∷ names) name h i =
       | inr later ↦ (neither (bytes_eq first name) (is_one_of before name) (none_before (first ∷ before) names name n.1 later)).1
     ]
 
-pub none_fixed : (s : Settings) (l : Lowered) (names : List (List ℕ)) (name : List ℕ) → first_clash_after bytes_eq (other_names s l) names ≡ None
-    → IsIn name names → is_one_of (fixed_names s l.«module») name ≡ false
-none_fixed s l names name h i =
+-- and none stands twice
+pub none_twice : (before names : List (List ℕ)) → first_clash_after bytes_eq before names ≡ None → AreDistinct names
+none_twice before [] h = tt
+none_twice before (name ∷ names) h =
+    let n = not_here (is_one_of before name) name (first_clash_after bytes_eq (name ∷ before) names) h in (
+      λ i.
+          let apart = neither (bytes_eq name name) (is_one_of before name) (none_before (name ∷ before) names name n.1 i) in
+          true≢false (sym ((bytes_eq-Decides name name).1 refl) ∙ apart.0),
+      none_twice (name ∷ before) names n.1,
+    )
+
+-- each is no name of the outside where imports are kept, and none that the glue file may bind
+pub none_other : (s : Settings) (l : Lowered) (names : List (List ℕ)) (name : List ℕ) → first_clash_after bytes_eq (other_names s l) names ≡ None
+    → IsIn name names → (is_one_of (host_names (kept s) l.aux) name ≡ false) × (is_one_of (fixed_names s l.«module») name ≡ false)
+none_other s l names name h i =
     let hosts = host_names (kept s) l.aux in
     let fixed = fixed_names s l.«module» in
-    (neither (is_one_of hosts name) (is_one_of fixed name)
-    (sym (list_any-append (λ n. bytes_eq n name) hosts fixed) ∙ none_before (other_names s l) names name h i)).1
+    neither (is_one_of hosts name) (is_one_of fixed name)
+    (sym (list_any-append (λ n. bytes_eq n name) hosts fixed) ∙ none_before (other_names s l) names name h i)
 
 -- ---- what described names bring
 
@@ -116,26 +129,39 @@ either_host true (js.LocalModule from name) x i = inr i
 either_host true (js.InlineJs from index name) x i = inr i
 either_host false n x i = inl i
 
--- a described name from a module is given
+-- the names from modules that imports begin with, each once, and those that imports of re-exports begin with besides
+abbrev pub imported_given : (omitted : Bool) → WasmBindgenAux → List (List ℕ)
+imported_given omitted aux = omitted_names omitted (each_once (begun aux.imports))
+
+abbrev pub reexported_given : (omitted : Bool) → WasmBindgenAux → List (List ℕ)
+reexported_given omitted aux = omitted_names omitted (each_new (begun aux.imports) (reexported aux.reexports))
+
+-- a described name from a module is one of these
+pub omitted_either : (omitted : Bool) (aux : WasmBindgenAux) (n : JsImportName) → IsIn n (described_names aux) → (x : List ℕ)
+    → IsIn x (omitted_name omitted n) → IsIn x (imported_given omitted aux) ⊎ IsIn x (reexported_given omitted aux)
+omitted_either omitted aux n i x k = elim (in_either n (begun aux.imports) (reexported aux.reexports) i) [
+  | inl here ↦ first here
+  | inr there ↦ split (has_name n (begun aux.imports)) refl there
+]
+  where
+    first : IsIn n (begun aux.imports) → IsIn x (imported_given omitted aux) ⊎ IsIn x (reexported_given omitted aux)
+    first here = inl (in_flat (omitted_name omitted) (each_once (begun aux.imports)) n x (once_has n (begun aux.imports) here) k)
+
+    split : (b : Bool) → has_name n (begun aux.imports) ≡ b → IsIn n (reexported aux.reexports)
+        → IsIn x (imported_given omitted aux) ⊎ IsIn x (reexported_given omitted aux)
+    split true e there = first (name_in n (begun aux.imports) e)
+    split false e there =
+        inr (in_flat (omitted_name omitted) (each_new (begun aux.imports) (reexported aux.reexports)) n x
+        (new_has n (begun aux.imports) (reexported aux.reexports) there e) k)
+
+-- so it is given
 pub omitted_given : (omitted : Bool) (aux : WasmBindgenAux) (n : JsImportName) → IsIn n (described_names aux) → (x : List ℕ)
     → IsIn x (omitted_name omitted n) → IsIn x (given_names omitted aux)
 omitted_given omitted aux n i x k =
-    let imported = begun aux.imports in
-    let reexports = reexported aux.reexports in
-    let first = omitted_names omitted (each_once imported) in
+    let first = imported_given omitted aux in
     let values = map values_name aux.string_enums in
-    let later = omitted_names omitted (each_new imported reexports) in
-    let given_first : IsIn n imported → IsIn x (first ++ (values ++ later)) =
-    λ here. in_left x first (values ++ later) (in_flat (omitted_name omitted) (each_once imported) n x (once_has n imported here) k) in
-    elim (in_either n imported reexports i) [
-      | inl here ↦ given_first here
-      | inr there ↦ split (has_name n imported) refl there given_first
-          (λ new. in_right x first (values ++ later) (in_right x values later (in_flat (omitted_name omitted) (each_new imported reexports) n x new k)))
+    let later = reexported_given omitted aux in
+    elim (omitted_either omitted aux n i x k) [
+      | inl here ↦ in_left x first (values ++ later) here
+      | inr there ↦ in_right x first (values ++ later) (in_right x values later there)
     ]
-  where
-    split : (b : Bool) → has_name n (begun aux.imports) ≡ b → IsIn n (reexported aux.reexports)
-        → (IsIn n (begun aux.imports) → IsIn x (given_names omitted aux))
-        → (IsIn n (each_new (begun aux.imports) (reexported aux.reexports)) → IsIn x (given_names omitted aux))
-        → IsIn x (given_names omitted aux)
-    split true e there before new = before (name_in n (begun aux.imports) e)
-    split false e there before new = new (new_has n (begun aux.imports) (reexported aux.reexports) there e)

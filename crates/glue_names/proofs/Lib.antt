@@ -5,6 +5,8 @@ pub mod GivenNames
 pub mod Globals
 pub mod MappedLists
 pub mod OwnNames
+pub mod PrintedEnums
+pub mod PrintedRoom
 pub mod SameNames
 mod SeenNames
 pub mod TakenNames

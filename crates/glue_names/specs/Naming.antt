@@ -1,5 +1,5 @@
 -- Names that can't stand where they would have to, and things of one name.
-use Rattle.std.specs.Prelude.{ℕ, Bool, false, not, ◌&&◌, is_some, List, [], ◌∷◌, codes, Option, Some, None, option_map, option_and_then, find}
+use Rattle.std.specs.Prelude.{ℕ, Bool, false, not, ◌&&◌, is_some, List, [], ◌∷◌, Option, Some, None, option_map, option_and_then, find}
 use Rattle.std.specs.List.{list_any}
 use Rattle.std.specs.Option.{option_or}
 use Rattle.std.specs.Str.{bytes_eq}
@@ -21,7 +21,10 @@ use Rattle.glue_faults.specs.First.{first_of, first_some, where_true}
 use Rattle.glue_faults.specs.Clash.{first_clash, first_clash_after}
 use Rattle.glue_steps.specs.Resolving.{entry_at}
 use Rattle.glue_published.specs.Named.{is_proto_name, bad_export_name, bad_declared_name}
+use Rattle.glue_names.specs.declared.naming.TheConstants.{START}
+use Rattle.glue_names.specs.declared.room.TheConstants.{SHIM}
 use Rattle.glue_names.specs.Given.{given_names, other_names, values_name}
+use Rattle.glue_names.specs.Printed.{uses_shim}
 use Rattle.glue_names.specs.Taken.{global_of, name_if}
 
 -- ---- bad names
@@ -102,7 +105,11 @@ is_called name (Some e) = bytes_eq e.name name
 
 -- the name under which a start function is exported
 abbrev pub start_name : List ℕ
-start_name = codes "__wbindgen_start"
+start_name = START.now
+
+-- the name under which the function that moves the stack is exported
+abbrev pub shim_name : List ℕ
+shim_name = SHIM.now
 
 -- the module has a start function, and it stands
 abbrev pub has_start : Contents → Bool
@@ -121,15 +128,28 @@ import_clash own = option_map faults.NameClash (first_clash bytes_eq own)
 abbrev pub wasm_clash : List (Option Export) → Option Fault
 wasm_clash exports = option_map (λ e. faults.NameClash (name_of e)) (first_clash same_export exports)
 
+-- an export of the name under which one is added, where that is
+abbrev pub added_clash : (name : List ℕ) → (is_added : Bool) → Contents → Option Fault
+added_clash name is_added m = where_true (is_added && list_any (is_called name) m.exports) (faults.NameClash name)
+
+-- an export of the name under which the function that moves the stack is exported
+abbrev pub shim_clash : Settings → Lowered → Option Fault
+shim_clash settings l = added_clash shim_name (uses_shim settings l) l.«module»
+
 -- an export of the name under which the start function is exported
 abbrev pub start_clash : Contents → Option Fault
-start_clash m = where_true (has_start m && list_any (is_called start_name) m.exports) (faults.NameClash start_name)
+start_clash m = added_clash start_name (has_start m) m
+
+-- two exports of the module have one name, or one has that of a function that is exported besides
+abbrev pub export_clash : Settings → Lowered → Option Fault
+export_clash settings l = first_some (wasm_clash l.«module».exports ∷ shim_clash settings l ∷ start_clash l.«module» ∷ [])
 
 -- two things of the module that is written have one name
 unfoldable pub written_clash : Settings → Lowered → Option Fault
 written_clash settings l = first_some (
     import_clash (own_names settings l.«module» l.wit l.aux)
     ∷ wasm_clash l.«module».exports
+    ∷ shim_clash settings l
     ∷ start_clash l.«module»
     ∷ [])
 

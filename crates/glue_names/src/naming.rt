@@ -21,6 +21,7 @@ use crate::clash::{Claim, first_clash, first_met};
 use crate::given::{given_names, kept, values_name};
 use crate::omitted::{begun, push_reexported};
 use crate::own::own_names;
+use crate::room::{SHIM, uses_shim};
 use crate::taken::{taken_names, with_each, with_fixed};
 use glue_faults::Fault;
 use glue_published::{bad_declared_name, bad_export_name, is_proto_name};
@@ -33,6 +34,9 @@ use glue_words::is_valid_ident;
 use std::alloc::{AllocError, Global};
 use values::{Duplicate, Seq, Text};
 use wasm_core::{Export, Module};
+
+/// The name of the export that a start function becomes.
+pub const START: &str = "__wbindgen_start";
 
 /// The name, where a test holds.
 pub fn where_true(test: bool, name: &Text) -> Option<&Text>
@@ -428,32 +432,46 @@ fn wasm_clash(alloc: Global, exports: &[Option<Export>]) -> Result<Option<Fault>
     }
 }
 
-fn is_start(export: &Option<Export>) -> bool
-    ensures test { result ≡ spec.is_called spec.start_name export.now }
+// Whether an export has this name.
+fn is_called(name: &str, export: &Option<Export>) -> bool
+    ensures test { result ≡ spec.is_called name.now export.now }
 {
     match export {
         None => false,
-        Some(export) => export.name.as_str() == "__wbindgen_start",
+        Some(export) => export.name.as_str() == name,
     }
 }
 
-// Whether an export has the name under which the start function is exported.
-fn has_start_export(exports: &[Option<Export>]) -> bool
-    ensures test { result ≡ list_any (spec.is_called spec.start_name) exports.now }
+// Whether one of these has it.
+fn has_called(name: &str, exports: &[Option<Export>]) -> bool
+    ensures test { result ≡ list_any (spec.is_called name.now) exports.now }
 {
-    exports.iter().any(|export| is_start(export))
+    exports.iter().any(|export| is_called(name, export))
 }
 
 // That this name is met twice, where it is asked for.
-fn start_fault(alloc: Global, asked: bool) -> Result<Option<Fault>, AllocError>
-    ensures fault { IfOk result (λ fault. fault ≡ first.where_true asked (faults.NameClash spec.start_name)) }
+fn name_fault(alloc: Global, name: &str, asked: bool) -> Result<Option<Fault>, AllocError>
+    ensures fault { IfOk result (λ fault. fault ≡ first.where_true asked (faults.NameClash name.now)) }
 {
     if !asked {
         return Ok(None);
     }
     Ok(Some(Fault::NameClash {
-        name: Text::from_str(alloc, "__wbindgen_start")?,
+        name: Text::from_str(alloc, name)?,
     }))
+}
+
+// An export of the name under which one is added, where that is.
+fn added_clash(
+    alloc: Global,
+    name: &str,
+    is_added: bool,
+    module: &Module,
+) -> Result<Option<Fault>, AllocError>
+    ensures fault { IfOk result (λ fault. fault ≡ spec.added_clash name.now is_added «module».now) }
+{
+    let asked = is_added && has_called(name, module.exports());
+    name_fault(alloc, name, asked)
 }
 
 /// Whether the module has a start function, and it stands.
@@ -466,14 +484,45 @@ pub fn has_start(module: &Module) -> bool
     }
 }
 
+// An export of the name under which the function that moves the stack is exported, where an adapter that becomes a function asks for it.
+fn shim_clash(
+    alloc: Global,
+    settings: &Settings,
+    lowered: &Lowered,
+) -> Result<Option<Fault>, AllocError>
+    ensures fault { IfOk result (λ fault. fault ≡ spec.shim_clash settings.now lowered.now) }
+{
+    let is_added = uses_shim(alloc, settings, lowered)?;
+    added_clash(alloc, SHIM, is_added, &lowered.module)
+}
+
+// An export of the name under which the start function is exported.
 fn start_clash(alloc: Global, module: &Module) -> Result<Option<Fault>, AllocError>
     ensures fault { IfOk result (λ fault. fault ≡ spec.start_clash «module».now) }
 {
-    let asked = has_start(module) && has_start_export(module.exports());
-    start_fault(alloc, asked)
+    added_clash(alloc, START, has_start(module), module)
 }
 
-// The first name of two imports that the glue file defines, of two exports of the module, or of an export and that of the start function.
+// The first name of two exports of the module, or of one and that of the function that moves the stack, or that of the start function.
+fn export_clash(
+    alloc: Global,
+    settings: &Settings,
+    lowered: &Lowered,
+) -> Result<Option<Fault>, AllocError>
+    ensures fault { IfOk result (λ fault. fault ≡ spec.export_clash settings.now lowered.now) }
+{
+    let exported = wasm_clash(alloc, lowered.module.exports())?;
+    if exported.is_some() {
+        return Ok(exported);
+    }
+    let moved = shim_clash(alloc, settings, lowered)?;
+    if moved.is_some() {
+        return Ok(moved);
+    }
+    start_clash(alloc, &lowered.module)
+}
+
+// The first name of two imports that the glue file defines, or of an export and another thing.
 #[tactic(auto, unfolding(crate::specs::Naming::written_clash))]
 fn written_clash(
     alloc: Global,
@@ -487,16 +536,14 @@ fn written_clash(
     if imported.is_some() {
         return Ok(imported);
     }
-    let exported = wasm_clash(alloc, lowered.module.exports())?;
-    if exported.is_some() {
-        return Ok(exported);
-    }
-    start_clash(alloc, &lowered.module)
+    export_clash(alloc, settings, lowered)
 }
 
 /// The first given name that another has, that is of the outside for another reason, or that the glue file may bind, or else the first name that
-/// two imports have that the glue file defines, that two exports of the module have, or an export and the start function. Given names are those
-/// of the values of string enums, and where imports are left out those from modules, of each import once. Want of memory is the only error.
+/// two imports have that the glue file defines, that two exports of the module have, or an export and a function that is exported besides: first
+/// the one that moves the stack of the module, where an adapter that becomes a function takes room on it, then the start function. Given names
+/// are those of the values of string enums, and where imports are left out those from modules, of each import once. Want of memory is the only
+/// error.
 #[tactic(auto, unfolding(crate::specs::Naming::name_clash))]
 pub fn name_clash(
     alloc: Global,

@@ -25,6 +25,7 @@ use Rattle.glue_shared.specs.declared.settings.Settings.{Settings}
 use Rattle.glue_shared.specs.declared.settings.Target.{Target}
 use Rattle.glue_shared.specs.Names.{code_of, described_names, entry_of, fixed_names, has_number, host_names, js_import, names_of, own_imports}
 use Rattle.glue_published.specs.Reexports.{Reexport, is_outside}
+use Rattle.glue_names.specs.Given.{values_name}
 use Rattle.glue_names.specs.Handed.{callee, own_callees, pair_callees}
 use Rattle.glue_names.specs.Publishing.{qualified}
 use Rattle.glue_published.specs.Things.{stands_alone}
@@ -45,7 +46,7 @@ use Rattle.glue_naming.proofs.Draws.{IsAt, stands}
 use Rattle.glue_naming.proofs.Functions.{given_of}
 use Rattle.glue_names.proofs.EachOnce.{once_from, once_has}
 use Rattle.glue_names.proofs.MappedLists.{flat_more, from_map, from_part, in_map, in_part, in_where, part_distinct, where_true}
-use Rattle.glue_naming.proofs.Reserved.{free_no_fixed, free_no_host}
+use Rattle.glue_naming.proofs.Reserved.{free_no_fixed, free_no_host, free_no_values}
 use Rattle.glue_naming.proofs.Reexports.{besides_from, both_once, reexport_there}
 use Rattle.glue_naming.proofs.WantedNames.{each_wanted, import_there}
 use Rattle.glue_naming.proofs.WantedNames as asked
@@ -316,6 +317,10 @@ module _ (s : Settings) (l : Lowered) (m : NameMap) (n : AreNames s l m) where
 
     pub listed_no_fixed : AreApart (names_drawn listed) (fixed_names s l.«module»)
     listed_no_fixed = free_no_fixed s l (names_drawn listed) listed_free
+
+    -- nor is one that of a list of a string enum
+    pub listed_no_values : AreApart (names_drawn listed) (map values_name l.aux.string_enums)
+    listed_no_values = free_no_values s l (names_drawn listed) listed_free
 
     -- and none is that of a function of an export
     pub listed_no_function : (es : List AuxExport) → list_all (is_named m) es ≡ true → AreApart (names_drawn listed) (map (declared_name m) es)

@@ -4,6 +4,7 @@ use Rattle.std.specs.FinSet as set
 use Rattle.std.specs.List.{flat_map}
 use Rattle.values.specs.Lists.{IsIn, IsAway, AreApart}
 use Rattle.values.specs.TextSet.{with_texts}
+use Rattle.values.proofs.Members.{in_left, in_right}
 use Rattle.wasm_core.specs.declared.types.Import.{Import}
 use Rattle.glue_words.proofs.Among.{apart_by}
 use Rattle.glue_scope.proofs.Drawn.{with_texts-append, with_texts_keeps, with_texts_there}
@@ -55,6 +56,14 @@ module _ (s : Settings) (l : Lowered) where
       with_texts_keeps (taken_names s l) (given_names s l) name
       (with_texts_there (with_texts set.empty (host_names s l.aux)) (fixed_names s l.«module») name i)
 
+  -- so are the names of the lists of string enums
+  values_reserved : (name : List ℕ) → IsIn name (map values_name l.aux.string_enums) → set.contains (reserved_names s l) name ≡ true
+  values_reserved name i =
+      let exported = flat_map (closure_export l.«module») l.wit.exports in
+      with_texts_there (taken_names s l) (given_names s l) name
+      (in_right name exported (map values_name l.aux.string_enums ++ bundled_names s l)
+      (in_left name (map values_name l.aux.string_enums) (bundled_names s l) i))
+
   -- so a name that isn't reserved is none of these
   pub away_host : (name : List ℕ) → set.contains (reserved_names s l) name ≡ false → IsAway name (host_names s l.aux)
   away_host name free i = true≢false (sym (host_reserved name i) ∙ free)
@@ -70,3 +79,7 @@ module _ (s : Settings) (l : Lowered) where
   pub free_no_fixed : (names : List (List ℕ)) → ((name : List ℕ) → IsIn name names → set.contains (reserved_names s l) name ≡ false)
       → AreApart names (fixed_names s l.«module»)
   free_no_fixed names free = apart_by names (fixed_names s l.«module») (λ name i k. true≢false (sym (fixed_reserved name k) ∙ free name i))
+
+  pub free_no_values : (names : List (List ℕ)) → ((name : List ℕ) → IsIn name names → set.contains (reserved_names s l) name ≡ false)
+      → AreApart names (map values_name l.aux.string_enums)
+  free_no_values names free = apart_by names (map values_name l.aux.string_enums) (λ name i k. true≢false (sym (values_reserved name k) ∙ free name i))

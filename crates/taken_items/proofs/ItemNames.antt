@@ -1,6 +1,6 @@
 -- The names of the exports that give items: fresh ones are those that are defined, and each item that is asked for has one.
 use Rattle.std.proofs.Common.{◌≡◌, ℕ, zero, suc, ◌+◌, ◌<◌, ◌≤◌, ◌^◌, List, [], ◌∷◌, ◌++◌, length, map, fold, refl, sym, ap, ◌∙◌, subst, Bool, true, false, true≢false, cond, Option, Some, None, inl, inr, ◌⊎◌, arith}
-use Rattle.std.specs.Prelude.{codes, is_some, option_and_then, unwrap_or}
+use Rattle.std.specs.Prelude.{is_some, option_and_then, unwrap_or}
 use Rattle.std.specs.declared.cmp.Ordering.{Ordering}
 use Rattle.std.specs.declared.cmp.Ordering.TheVariants.{Less, Equal, Greater}
 use Rattle.std.specs.Cmp.{Equal-is, IsTotalOrder, tied_itself}
@@ -37,6 +37,7 @@ use Rattle.glue_names.specs.Handed.{callee, own_callees, pair_callees}
 use Rattle.glue_names.proofs.Globals.{from_flat, in_flat, some_of}
 use Rattle.glue_names.proofs.Called.{callee_is, number_in}
 use Rattle.glue_names.proofs.MappedLists.{from_part, in_map, in_where, where_true}
+use Rattle.glue_names.specs.Naming.{shim_name, start_name}
 use Rattle.glue_names.specs.Printed.{code_by, export_code, pair_code, printed_code}
 use Rattle.glue_steps.specs.Exported.{export_name, export_names}
 use Rattle.glue_steps.specs.Needed.{named_by, needed_items}
@@ -116,7 +117,7 @@ names_few (Some e ∷ exports) = let rest = names_few exports in omega (arith, r
 
 -- the scope's names, one after another
 pub further_joined : (l : Lowered)
-    → bound_exports l ≡ set.insert (set.insert (with_texts set.empty (filter_map export_name l.«module».exports)) (codes "__wbindgen_start")) (codes "__wbindgen_add_to_stack_pointer")
+    → bound_exports l ≡ set.insert (set.insert (with_texts set.empty (filter_map export_name l.«module».exports)) start_name) shim_name
 further_joined l = with_texts-append set.empty (export_names l.«module») further_exports
 
 pub few_bound : (l : Lowered) → set.len (bound_exports l) ≤ length l.«module».exports + 2

@@ -15,6 +15,7 @@ use Rattle.glue_shared.specs.declared.description.Lowered.{Lowered}
 use Rattle.glue_shared.specs.declared.settings.Settings.{Settings}
 use Rattle.glue_steps.specs.Exported.{export_name, export_names}
 use Rattle.glue_steps.specs.Resolving.{entry_at, item_order}
+use Rattle.glue_names.specs.Naming.{shim_name, start_name}
 use Rattle.taken_items.specs.Asked.{asked_items}
 
 -- ---- the set of items
@@ -73,9 +74,9 @@ abbrev pub named_items : Contents → TextSet → List (ExportItem × Unit {0}) 
 named_items m bound [] = []
 named_items m bound (e ∷ others) = (e.0, item_name m bound e.0) ∷ named_items m (bound_with m bound e.0) others
 
--- names of exports that may be added besides
+-- names of exports that may be added besides: of the start function, and of the function that moves the stack
 abbrev pub further_exports : List (List ℕ)
-further_exports = codes "__wbindgen_start" ∷ codes "__wbindgen_add_to_stack_pointer" ∷ []
+further_exports = start_name ∷ shim_name ∷ []
 
 -- the names that no added export may have: those of the module's exports, and these
 abbrev pub bound_exports : Lowered → TextSet

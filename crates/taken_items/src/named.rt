@@ -11,7 +11,7 @@ ghost use Rattle.glue_steps.specs.Resolving.{entry_at};
 ghost use Rattle.taken_items.specs.ItemNames as spec;
 
 use crate::asked::asked_items;
-use glue_names::with_name;
+use glue_names::{SHIM, START, with_name};
 use glue_scope::Names;
 use glue_shared::{Lowered, Settings};
 use std::alloc::{AllocError, Global};
@@ -123,8 +123,8 @@ fn export_scope<N: Names>(alloc: Global, lowered: &Lowered) -> Result<N, AllocEr
     ensures bound { IfOk result (λ scope. N.bound scope ≡ spec.bound_exports lowered.now) }
 {
     let named = with_exports(N::new(alloc), lowered.module.exports())?;
-    let started = with_name(named, "__wbindgen_start")?;
-    with_name(started, "__wbindgen_add_to_stack_pointer")
+    let started = with_name(named, START)?;
+    with_name(started, SHIM)
 }
 
 // Draws a fresh name, made of this one.

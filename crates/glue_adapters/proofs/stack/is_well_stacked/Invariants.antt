@@ -1,6 +1,0 @@
-use Rattle.std.proofs.Common.{◌≡◌, drop, []}
-use Rattle.glue_adapters.specs.Stack.{effect, stack_after, leaves}
-use Rattle.glue_adapters.proofs.stack.is_well_stacked.Given as goal
-
-abbrev pub invariant-loop-instruction : goal.invariant-loop-instruction
-invariant-loop-instruction l = leaves l.results (stack_after (effect l.lowered l.params) l.stack.items (drop l.instruction-index l.code)) ≡ leaves l.results (stack_after (effect l.lowered l.params) [] l.code)
