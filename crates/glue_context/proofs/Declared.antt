@@ -289,61 +289,77 @@ module _ (s : Settings) (m : Contents) (paths held : List (List ℕ)) (memory : 
       let second = apart_split names (start_binds memory) (held ++ loading_bound) first.1 in
       record { from_lines = first.0; from_frame = second.0; behind = second.1 }
 
-  -- names that are drawn, for imports of described modules, for vendors' names and for exports: all are distinct, and none is an own one
-  pub record AreDrawn (imported constants names : List (List ℕ)) : Type 0 where
+  -- names that are drawn, for imports of described modules, for vendors' names and for exports, and those that are given to lists of string
+  -- enums: all are distinct, and none is an own one
+  pub record AreDrawn (imported constants names lists : List (List ℕ)) : Type 0 where
     pub imports_once : AreDistinct imported
     pub constants_once : AreDistinct constants
     pub names_once : AreDistinct names
+    pub lists_once : AreDistinct lists
     pub imports_constants : AreApart imported constants
     pub imports_names : AreApart imported names
     pub constants_names : AreApart constants names
+    pub imports_lists : AreApart imported lists
+    pub constants_lists : AreApart constants lists
+    pub names_lists : AreApart names lists
     pub imports_own : AreApart imported own_names
     pub constants_own : AreApart constants own_names
     pub names_own : AreApart names own_names
+    pub lists_own : AreApart lists own_names
 
-  -- what the file declares: names of described modules, of foreign ones, and of vendors, those of exports and of the frame, of helpers, and of
-  -- loading
-  module _ (imported constants names : List (List ℕ)) where
+  -- what the file declares: names of described modules, of foreign ones, and of vendors, those of exports, of the frame and of lists, of helpers,
+  -- and of loading
+  module _ (imported constants names lists : List (List ℕ)) where
+    abbrev framed : List (List ℕ)
+    framed = start_binds memory ++ lists
+
     abbrev pub framed_names : List (List ℕ)
-    framed_names = imported ++ (lines ++ (constants ++ (names ++ start_binds memory)))
+    framed_names = imported ++ (lines ++ (constants ++ (names ++ framed)))
 
     abbrev pub all_names : List (List ℕ)
     all_names = framed_names ++ (held ++ loading_bound)
 
     -- none stands twice
-    pub all_distinct : AreDistinct held → AreDrawn imported constants names → AreDistinct all_names
+    pub all_distinct : AreDistinct held → AreDrawn imported constants names lists → AreDistinct all_names
     all_distinct h d =
         let i = from_own imported d.imports_own in
         let c = from_own constants d.constants_own in
         let n = from_own names d.names_own in
-        let framed = names ++ start_binds memory in
-        let more = constants ++ framed in
+        let v = from_own lists d.lists_own in
+        let published = names ++ framed in
+        let more = constants ++ published in
         let back : AreDistinct loading_bound = grind arith in
-        let named = distinct_both names (start_binds memory) d.names_once (start_distinct memory) n.from_frame in
-        let held_too = distinct_both constants framed d.constants_once named (apart_joined constants names (start_binds memory) d.constants_names c.from_frame) in
+        let ended = distinct_both (start_binds memory) lists (start_distinct memory) d.lists_once (apart_swap lists (start_binds memory) v.from_frame) in
+        let named = distinct_both names framed d.names_once ended (apart_joined names (start_binds memory) lists n.from_frame d.names_lists) in
+        let held_too = distinct_both constants published d.constants_once named (apart_joined constants names framed d.constants_names
+        (apart_joined constants (start_binds memory) lists c.from_frame d.constants_lists)) in
         let lined = distinct_both lines more (modules_distinct 1 paths wide) held_too
-        (apart_joined lines constants framed (apart_swap constants lines c.from_lines)
-        (apart_joined lines names (start_binds memory) (apart_swap names lines n.from_lines) lines_frame)) in
+        (apart_joined lines constants published (apart_swap constants lines c.from_lines)
+        (apart_joined lines names framed (apart_swap names lines n.from_lines)
+        (apart_joined lines (start_binds memory) lists lines_frame (apart_swap lists lines v.from_lines)))) in
         let whole = distinct_both imported (lines ++ more) d.imports_once lined
-        (apart_joined imported lines more i.from_lines (apart_joined imported constants framed d.imports_constants
-        (apart_joined imported names (start_binds memory) d.imports_names i.from_frame))) in
+        (apart_joined imported lines more i.from_lines (apart_joined imported constants published d.imports_constants
+        (apart_joined imported names framed d.imports_names
+        (apart_joined imported (start_binds memory) lists i.from_frame d.imports_lists)))) in
         let behind = held ++ loading_bound in
         distinct_both framed_names behind whole (distinct_both held loading_bound h back held_loading)
         (apart_both imported (lines ++ more) behind i.behind (apart_both lines more behind lines_behind
-        (apart_both constants framed behind c.behind (apart_both names (start_binds memory) behind n.behind frame_behind))))
+        (apart_both constants published behind c.behind (apart_both names framed behind n.behind
+        (apart_both (start_binds memory) lists behind frame_behind v.behind)))))
 
     -- what own names and the drawn ones are apart from, all are
-    pub all_apart : (others : List (List ℕ)) → AreApart imported others → AreApart constants others → AreApart names others → AreApart own_names others
-        → AreApart all_names others
-    all_apart others i c n own =
+    pub all_apart : (others : List (List ℕ)) → AreApart imported others → AreApart constants others → AreApart names others → AreApart lists others
+        → AreApart own_names others → AreApart all_names others
+    all_apart others i c n v own =
         let behind = held ++ loading_bound in
         let first = apart_parts lines (start_binds memory ++ behind) others own in
         let second = apart_parts (start_binds memory) behind others first.1 in
-        let framed = names ++ start_binds memory in
-        let more = constants ++ framed in
+        let published = names ++ framed in
+        let more = constants ++ published in
         apart_both framed_names behind others
         (apart_both imported (lines ++ more) others i (apart_both lines more others first.0
-        (apart_both constants framed others c (apart_both names (start_binds memory) others n second.0)))) second.1
+        (apart_both constants published others c (apart_both names framed others n
+        (apart_both (start_binds memory) lists others second.0 v))))) second.1
 
     -- what stands whatever helpers are held
     abbrev pub first_names : List (List ℕ)
@@ -354,20 +370,23 @@ module _ (s : Settings) (m : Contents) (paths held : List (List ℕ)) (memory : 
         among_both framed_names loading_bound all_names (among_left framed_names framed_names (held ++ loading_bound) (among_itself framed_names))
         (among_right loading_bound framed_names (held ++ loading_bound) (among_right loading_bound held loading_bound (among_itself loading_bound)))
 
-    -- where drawn names are no fixed ones, none of the first is a name that a helper may bind
-    pub first_unlisted : AreApart imported (fixed_names s m) → AreApart constants (fixed_names s m) → AreApart names (fixed_names s m) → (name : List ℕ)
-        → IsIn name first_names → IsListed parts name → ⊥
-    first_unlisted i c n name at h =
+    -- where drawn and given names are no fixed ones, none of the first is a name that a helper may bind
+    pub first_unlisted : AreApart imported (fixed_names s m) → AreApart constants (fixed_names s m) → AreApart names (fixed_names s m)
+        → AreApart lists (fixed_names s m) → (name : List ℕ) → IsIn name first_names → IsListed parts name → ⊥
+    first_unlisted i c n v name at h =
         elim (in_either name framed_names loading_bound at) [
-          | inl framed ↦ elim (in_either name imported (lines ++ (constants ++ (names ++ start_binds memory))) framed) [
+          | inl at ↦ elim (in_either name imported (lines ++ (constants ++ (names ++ framed))) at) [
             | inl here ↦ apart_in name imported (fixed_names s m) i here (listed_fixed name h)
-            | inr behind ↦ elim (in_either name lines (constants ++ (names ++ start_binds memory)) behind) [
+            | inr behind ↦ elim (in_either name lines (constants ++ (names ++ framed)) behind) [
               | inl here ↦ listed_away parts lines (lines_unlisted 1 paths) name h here
-              | inr behind ↦ elim (in_either name constants (names ++ start_binds memory) behind) [
+              | inr behind ↦ elim (in_either name constants (names ++ framed) behind) [
                 | inl here ↦ apart_in name constants (fixed_names s m) c here (listed_fixed name h)
-                | inr behind ↦ elim (in_either name names (start_binds memory) behind) [
+                | inr behind ↦ elim (in_either name names framed behind) [
                   | inl here ↦ apart_in name names (fixed_names s m) n here (listed_fixed name h)
-                  | inr here ↦ listed_away parts (start_binds true) refl name h (among_in name (start_binds memory) (start_binds true) (start_within memory) here)
+                  | inr behind ↦ elim (in_either name (start_binds memory) lists behind) [
+                    | inl here ↦ listed_away parts (start_binds true) refl name h (among_in name (start_binds memory) (start_binds true) (start_within memory) here)
+                    | inr here ↦ apart_in name lists (fixed_names s m) v here (listed_fixed name h)
+                  ]
                 ]
               ]
             ]
@@ -378,33 +397,38 @@ module _ (s : Settings) (m : Contents) (paths held : List (List ℕ)) (memory : 
     pub held_among : AreAmong held all_names
     held_among = among_right held framed_names (held ++ loading_bound) (among_left held held loading_bound (among_itself held))
 
-    -- the names of modules, of vendors, of exports, of the frame and of loading stand among the first
+    -- the names of modules, of vendors, of exports, of the frame, of lists and of loading stand among the first
     framed_first : (xs : List (List ℕ)) → AreAmong xs framed_names → AreAmong xs first_names
     framed_first xs h = among_left xs framed_names loading_bound h
 
-    behind_imports : (xs : List (List ℕ)) → AreAmong xs (lines ++ (constants ++ (names ++ start_binds memory))) → AreAmong xs first_names
-    behind_imports xs h = framed_first xs (among_right xs imported (lines ++ (constants ++ (names ++ start_binds memory))) h)
+    behind_imports : (xs : List (List ℕ)) → AreAmong xs (lines ++ (constants ++ (names ++ framed))) → AreAmong xs first_names
+    behind_imports xs h = framed_first xs (among_right xs imported (lines ++ (constants ++ (names ++ framed))) h)
 
-    behind_lines : (xs : List (List ℕ)) → AreAmong xs (constants ++ (names ++ start_binds memory)) → AreAmong xs first_names
-    behind_lines xs h = behind_imports xs (among_right xs lines (constants ++ (names ++ start_binds memory)) h)
+    behind_lines : (xs : List (List ℕ)) → AreAmong xs (constants ++ (names ++ framed)) → AreAmong xs first_names
+    behind_lines xs h = behind_imports xs (among_right xs lines (constants ++ (names ++ framed)) h)
 
-    behind_constants : (xs : List (List ℕ)) → AreAmong xs (names ++ start_binds memory) → AreAmong xs first_names
-    behind_constants xs h = behind_lines xs (among_right xs constants (names ++ start_binds memory) h)
+    behind_constants : (xs : List (List ℕ)) → AreAmong xs (names ++ framed) → AreAmong xs first_names
+    behind_constants xs h = behind_lines xs (among_right xs constants (names ++ framed) h)
 
     pub imports_first : AreAmong imported first_names
-    imports_first = framed_first imported (among_left imported imported (lines ++ (constants ++ (names ++ start_binds memory))) (among_itself imported))
+    imports_first = framed_first imported (among_left imported imported (lines ++ (constants ++ (names ++ framed))) (among_itself imported))
 
     pub lines_first : AreAmong lines first_names
-    lines_first = behind_imports lines (among_left lines lines (constants ++ (names ++ start_binds memory)) (among_itself lines))
+    lines_first = behind_imports lines (among_left lines lines (constants ++ (names ++ framed)) (among_itself lines))
 
     pub constants_first : AreAmong constants first_names
-    constants_first = behind_lines constants (among_left constants constants (names ++ start_binds memory) (among_itself constants))
+    constants_first = behind_lines constants (among_left constants constants (names ++ framed) (among_itself constants))
 
     pub names_first : AreAmong names first_names
-    names_first = behind_constants names (among_left names names (start_binds memory) (among_itself names))
+    names_first = behind_constants names (among_left names names framed (among_itself names))
 
     pub frame_first : AreAmong (start_binds memory) first_names
-    frame_first = behind_constants (start_binds memory) (among_right (start_binds memory) names (start_binds memory) (among_itself (start_binds memory)))
+    frame_first =
+        behind_constants (start_binds memory) (among_right (start_binds memory) names framed
+        (among_left (start_binds memory) (start_binds memory) lists (among_itself (start_binds memory))))
+
+    pub lists_first : AreAmong lists first_names
+    lists_first = behind_constants lists (among_right lists names framed (among_right lists (start_binds memory) lists (among_itself lists)))
 
     pub loading_first : AreAmong loading_bound first_names
     loading_first = among_right loading_bound framed_names loading_bound (among_itself loading_bound)

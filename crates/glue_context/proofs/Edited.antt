@@ -1,16 +1,18 @@
--- The module that is written: what is changed names its entries, its exports stay and a start function is one more, and an import
--- that moves keeps its name.
-use Rattle.glue_context.proofs.Common.{◌≡◌, ℕ, List, [], ◌∷◌, ◌++◌, map, Bool, true, false, true≢false, refl, sym, ap, ◌∙◌, fold, flat_map, All, Option, Some, None, is_some, option_map, filter_map, filter_map-append, append-nil, All-nil, All-head, All-tail, export_name, arith, common_steps, Contents, Import, ImportId, Settings, Lowered, own_imports, entry_at, export_names, with_moved, AreFit, move_of, edits_of, rewritten, with_import, some_of, with_added, NameMap, IsIn, in_left, in_right, subst, inl, inr}
+-- The module that is written: what is changed names its entries, its exports stay, those that are added, the shim and a start function are
+-- further ones, and an import that moves keeps its name.
+use Rattle.glue_context.proofs.Common.{◌≡◌, ℕ, List, [], ◌∷◌, ◌++◌, map, Bool, true, false, true≢false, refl, sym, ap, ◌∙◌, fold, flat_map, All, Option, Some, None, is_some, length, option_map, filter_map, filter_map-append, append-nil, All-nil, All-head, All-tail, export_name, arith, common_steps, Contents, Import, ImportId, Settings, Lowered, own_imports, entry_at, export_names, with_moved, AreFit, move_of, edits_of, rewritten, with_import, some_of, with_added, NameMap, IsIn, in_left, in_right, subst, inl, inr}
 use Rattle.std.proofs.Common.{append_assoc}
 use Rattle.std.specs.Prelude.{◌≢◌, cond, slice_get, option_and_then}
-use Rattle.std.specs.List.{cons_option}
+use Rattle.std.specs.List.{cons_option, position_from}
 use Rattle.std.proofs.lemmas.List.Elements.{All-append, All-cons, All-weaker}
 use Rattle.std.proofs.lemmas.List.Sums.{fold-append}
 use Rattle.std.proofs.lemmas.Option.{same_Some, slice_get_cases}
 use Rattle.wasm_core.specs.Contents.{IsEntry, IsLive}
-use Rattle.wasm_core.specs.Edits.{with_export, without_start, IsLiveItem}
+use Rattle.wasm_core.specs.Edits.{with_export, with_func, without_start, IsLiveItem, func_added, is_entry_alike}
 use Rattle.wasm_core.specs.entries.Export.{Export}
+use Rattle.wasm_core.specs.ops.Body.{Body}
 use Rattle.wasm_core.specs.ids.FuncId.{FuncId}
+use Rattle.wasm_core.specs.ids.GlobalId.{GlobalId}
 use Rattle.wasm_core.specs.entries.ExportItem.{ExportItem}
 use Rattle.wasm_core.specs.entries.ExportItem.TheVariants as items
 use Rattle.wasm_core.specs.entries.ExportItem.TheVariants.{Func}
@@ -19,17 +21,19 @@ use Rattle.glue_shared.specs.Names.{has_number}
 use Rattle.glue_shared.specs.Roots.{is_entry, is_live_item}
 use Rattle.values.specs.Map.{look_up}
 use Rattle.glue_steps.specs.Resolving.{export_named, item_order, live, or_empty}
+use Rattle.glue_steps.specs.Room.{has_stack}
 use Rattle.glue_lines.specs.Grouped.{source_of}
 use Rattle.glue_naming.specs.Imported.{called_names}
+use Rattle.glue_names.specs.Naming.{shim_name, start_name}
+use Rattle.glue_names.specs.Printed.{uses_shim}
 use Rattle.glue_naming.specs.Handed.{handed_pair, handed_imports}
 use Rattle.taken_items.specs.Asked.{asked_items}
 use Rattle.taken_items.specs.ItemNames.{added_exports, item_map, item_names}
 use Rattle.taken_items.proofs.ItemNames.{IsGivenAs, added_live, item_named, names_with_added}
 use Rattle.glue_targets.proofs.FixedTexts.{call_takes}
-use Rattle.glue_context.specs.declared.edits.TheConstants.{START}
 use Rattle.glue_context.specs.Defined.{IsExportOf}
-use Rattle.glue_context.specs.Edits.{has_start, HasStart, with_start_exported, with_start_moved}
-use Rattle.glue_context.specs.Rewritten.{handed_move}
+use Rattle.glue_context.specs.Edits.{has_start, shim_body, shim_type, HasStart, with_shim, with_start_exported, with_start_moved}
+use Rattle.glue_context.specs.Rewritten.{handed_move, shim_global}
 
 -- what no change of a list takes away, all of them leave
 fold_keeps : {A : Type 0} (P : Contents → Type 0) (Q : A → Type 0) (f : Contents → A → Contents)
@@ -127,9 +131,9 @@ all_by P (x ∷ xs) h = All-cons P x xs (h x (inl refl)) (all_by P xs (λ y at. 
 
 -- they are the last ones, and nothing else changes
 pub added_alone : (m : Contents) (added : List (List ℕ × ExportItem)) → ((fold with_added m added).imports ≡ m.imports) × ((fold with_added m added).start ≡ m.start)
-    × ((fold with_added m added).memories ≡ m.memories) × ((fold with_added m added).funcs ≡ m.funcs)
+    × ((fold with_added m added).memories ≡ m.memories)
 unfolding with_export
-added_alone m [] = (refl, refl, refl, refl)
+added_alone m [] = (refl, refl, refl)
 added_alone m (e ∷ added) = added_alone (with_added m e) added
 
 added_names : (m : Contents) (added : List (List ℕ × ExportItem))
@@ -159,6 +163,60 @@ added_there m (x ∷ added) e (inl same) =
     (inl (ap (λ (y : List ℕ × ExportItem). Some (record { name = y.0; item = y.1 })) same)))
 added_there m (x ∷ added) e (inr at) = added_there (with_added m x) added e at
 
+-- ---- the shim
+
+-- the name of its export, where there is one
+abbrev pub shim_export : Option GlobalId → List (List ℕ)
+shim_export None = []
+shim_export (Some g) = shim_name ∷ []
+
+-- a function that is added leaves what isn't a function or a type
+func_alone : (place : Option ℕ) (body : Body) (m : Contents) → (let n = func_added shim_type place shim_name body m in
+    (n.imports ≡ m.imports) × (n.start ≡ m.start) × (n.memories ≡ m.memories) × (n.exports ≡ m.exports))
+func_alone None body m = (refl, refl, refl, refl)
+func_alone (Some place) body m = (refl, refl, refl, refl)
+
+module _ (m : Contents) where
+  -- the module with the function, before that is exported
+  abbrev with_mover : GlobalId → Contents
+  with_mover g = func_added shim_type (position_from (is_entry_alike shim_type) 0 m.types) shim_name (shim_body g.0) m
+
+  abbrev mover_export : Option Export
+  mover_export = Some (record { name = shim_name; item = Func (record { 0 = length m.funcs }) })
+
+  -- imports, the start function and memories stay
+  pub shim_alone : (g : Option GlobalId) → ((with_shim g m).imports ≡ m.imports) × ((with_shim g m).start ≡ m.start) × ((with_shim g m).memories ≡ m.memories)
+  unfolding with_export with_func
+  shim_alone None = (refl, refl, refl)
+  shim_alone (Some g) = let f = func_alone (position_from (is_entry_alike shim_type) 0 m.types) (shim_body g.0) m in (f.0, f.1, f.2)
+
+  mover_exports : (g : GlobalId) → (with_mover g).exports ≡ m.exports
+  mover_exports g = (func_alone (position_from (is_entry_alike shim_type) 0 m.types) (shim_body g.0) m).3
+
+  -- exports stay, and its own is behind them
+  shim_names : (g : Option GlobalId) → export_names m ++ shim_export g ≡ export_names (with_shim g m)
+  unfolding with_export with_func
+  shim_names None = append-nil (export_names m)
+  shim_names (Some g) =
+      ap (λ (es : List (Option Export)). filter_map export_name es ++ shim_name ∷ []) (sym (mover_exports g))
+      ∙ sym (filter_map-append export_name (with_mover g).exports (mover_export ∷ []))
+
+  shim_stands : (g : Option GlobalId) (x : Option Export) → IsIn x m.exports → IsIn x (with_shim g m).exports
+  unfolding with_export with_func
+  shim_stands None x at = at
+  shim_stands (Some g) x at = in_left x (with_mover g).exports (mover_export ∷ []) (subst (IsIn x) (sym (mover_exports g)) at)
+
+-- where the function of an adapter takes room, and a global is there for it, the shim is exported
+pub shim_there : (s : Settings) (l : Lowered) → uses_shim s l ≡ true → has_stack l ≡ true → IsIn shim_name (shim_export (shim_global s l))
+shim_there s l uses stacked =
+    subst (λ (b : Bool). IsIn shim_name (shim_export (cond b l.aux.stack_pointer None))) (sym uses) (by l.aux.stack_pointer stacked)
+  where
+    by : (o : Option GlobalId) → is_some (option_and_then (λ (g : GlobalId). entry_at l.«module».globals g.0) o) ≡ true → IsIn shim_name (shim_export o)
+    by None h = absurd (true≢false (sym h))
+    by (Some g) h = inl refl
+
+-- ---- the start function
+
 -- a start function that becomes an export leaves the others
 start_stands : (b : Bool) (m : Contents) (x : Option Export) → IsIn x m.exports → IsIn x (with_start_moved b m).exports
 unfolding with_export without_start
@@ -167,7 +225,7 @@ start_stands true m x at = by m.start
   where
     by : (o : Option FuncId) → IsIn x (with_start_exported o m).exports
     by None = at
-    by (Some f) = in_left x m.exports (Some (record { name = START.now; item = Func f }) ∷ []) at
+    by (Some f) = in_left x m.exports (Some (record { name = start_name; item = Func f }) ∷ []) at
 
 -- what is changed names entries
 pub edits_fit : (s : Settings) (l : Lowered) → AreFit (edits_of s l) l.«module»
@@ -185,9 +243,9 @@ edits_fit s l =
 
 -- imports move, and nothing else changes
 moved_alone : (m : Contents) (moves : List (ImportId × List ℕ × List ℕ))
-    → ((fold with_moved m moves).exports ≡ m.exports) × ((fold with_moved m moves).start ≡ m.start) × ((fold with_moved m moves).funcs ≡ m.funcs)
+    → ((fold with_moved m moves).exports ≡ m.exports) × ((fold with_moved m moves).start ≡ m.start)
 unfolding with_import
-moved_alone m [] = (refl, refl, refl)
+moved_alone m [] = (refl, refl)
 moved_alone m (e ∷ moves) = moved_alone (with_moved m e) moves
 
 -- imports stay where a start function becomes an export
@@ -196,13 +254,16 @@ unfolding with_export without_start
 start_imports b m = grind arith
 
 -- and exports stay before it
-start_exports : (b : Bool) (m : Contents) → has_start m ≡ b → export_names m ++ call_takes b ≡ export_names (with_start_moved b m)
+start_exports : (b : Bool) (m : Contents) → (b ≡ true → is_some m.start ≡ true) → export_names m ++ call_takes b ≡ export_names (with_start_moved b m)
 unfolding with_export without_start
 start_exports true m h =
-    let started : is_some m.start ≡ true = grind arith in
-    let f = some_of m.start started in
-    rw f.1 (sym (filter_map-append export_name m.exports (Some (record { name = START.now; item = Func f.0 }) ∷ [])))
+    let f = some_of m.start (h refl) in
+    rw f.1 (sym (filter_map-append export_name m.exports (Some (record { name = start_name; item = Func f.0 }) ∷ [])))
 start_exports false m h = append-nil (export_names m)
+
+-- a start function that stands is named
+start_named : (m : Contents) → has_start m ≡ true → is_some m.start ≡ true
+start_named m h = grind arith
 
 module _ (s : Settings) (l : Lowered) where
   -- the module with its own imports moved
@@ -213,25 +274,39 @@ module _ (s : Settings) (l : Lowered) where
   abbrev extended : Contents
   extended = fold with_added moved (added_exports s l)
 
+  -- and with the shim, where functions call it
+  abbrev shimmed : Contents
+  shimmed = with_shim (shim_global s l) extended
+
   -- its imports are those of the written one
   pub written_imports : moved.imports ≡ (rewritten s l).imports
-  written_imports = sym (added_alone moved (added_exports s l)).0 ∙ start_imports (has_start l.«module») extended
+  written_imports =
+      sym (added_alone moved (added_exports s l)).0
+      ∙ sym (shim_alone extended (shim_global s l)).0
+      ∙ start_imports (has_start l.«module») shimmed
 
-  extended_start : has_start extended ≡ has_start l.«module»
-  extended_start =
-      let added = added_alone moved (added_exports s l) in
-      let imports = moved_alone l.«module» (edits_of s l).imports in
-      rw (added.1, added.3, imports.1, imports.2) refl
+  shimmed_start : shimmed.start ≡ l.«module».start
+  shimmed_start =
+      (shim_alone extended (shim_global s l)).1
+      ∙ (added_alone moved (added_exports s l)).1
+      ∙ (moved_alone l.«module» (edits_of s l).imports).1
 
-  -- its exports are those that the collected module has, those that are added, and behind them the one that the call of the start function
-  -- takes
-  pub rewritten_exports : names_with_added s l ++ call_takes (has_start l.«module») ≡ export_names (rewritten s l)
+  -- the names of its last exports: that of the shim, and the one that the call of the start function takes
+  abbrev pub last_exports : List (List ℕ)
+  last_exports = shim_export (shim_global s l) ++ call_takes (has_start l.«module»)
+
+  -- its exports are those that the collected module has, those that are added, and behind them these
+  pub rewritten_exports : names_with_added s l ++ last_exports ≡ export_names (rewritten s l)
   rewritten_exports =
       let same : export_names moved ≡ export_names l.«module» = ap (filter_map export_name) (moved_alone l.«module» (edits_of s l).imports).0 in
       let added = map (λ (e : List ℕ × ExportItem). e.0) (added_exports s l) in
-      ap (λ (ns : List (List ℕ)). (ns ++ added) ++ call_takes (has_start l.«module»)) (sym same)
-      ∙ ap (λ (ns : List (List ℕ)). ns ++ call_takes (has_start l.«module»)) (added_names moved (added_exports s l))
-      ∙ start_exports (has_start l.«module») extended extended_start
+      let shim = shim_export (shim_global s l) in
+      let start = call_takes (has_start l.«module») in
+      ap (λ (ns : List (List ℕ)). (ns ++ added) ++ (shim ++ start)) (sym same)
+      ∙ ap (λ (ns : List (List ℕ)). ns ++ (shim ++ start)) (added_names moved (added_exports s l))
+      ∙ sym (append_assoc (export_names extended) shim start)
+      ∙ ap (λ (ns : List (List ℕ)). ns ++ start) (shim_names extended (shim_global s l))
+      ∙ start_exports (has_start l.«module») shimmed (λ h. ap is_some shimmed_start ∙ start_named l.«module» h)
 
   -- an item that is asked for is exported under the name that it goes by
   pub item_exported : (m : NameMap) → m.wasm ≡ item_map (item_names s l) → (item : ExportItem) → IsIn item (asked_items s l)
@@ -243,17 +318,20 @@ module _ (s : Settings) (l : Lowered) where
       same_exports : moved.exports ≡ l.«module».exports
       same_exports = (moved_alone l.«module» (edits_of s l).imports).0
 
+      stays : (x : Option Export) → IsIn x extended.exports → IsIn x (rewritten s l).exports
+      stays x at = start_stands (has_start l.«module») shimmed x (shim_stands extended (shim_global s l) x at)
+
       by : (name : List ℕ) → export_named m (Some item) ≡ name → IsGivenAs s l item name → IsExportOf (rewritten s l) (export_named m (Some item)) item
       by name q (inl h) = record {
         «export» = h.«export»;
-        stands = start_stands (has_start l.«module») extended (Some h.«export»)
+        stands = stays (Some h.«export»)
             (added_stands moved (added_exports s l) (Some h.«export») (subst (IsIn (Some h.«export»)) (sym same_exports) h.among));
         named = h.named ∙ sym q;
         gives = h.gives;
       }
       by name q (inr there) = record {
         «export» = record { name = name; item = item };
-        stands = start_stands (has_start l.«module») extended (Some (record { name = name; item = item })) (added_there moved (added_exports s l) (name, item) there);
+        stands = stays (Some (record { name = name; item = item })) (added_there moved (added_exports s l) (name, item) there);
         named = sym q;
         gives = refl;
       }

@@ -1,6 +1,7 @@
 -- What is known of a description whose items are made, however it was checked, and that the check gives it.
 use Rattle.glue_context.proofs.Common.{◌≡◌, ℕ, List, [], true, false, None, Some, Option, arith, list_all, is_bindable, is_definable, IsIn, IsAway, AreDistinct, ImportId, AuxExport, Settings, NameMap, Deno, Lowered, described_hosts, frame_of, rewritten, fixed_names, own_imports, IsBuiltExport, HasSteps, FileFlags, unbuilt, verdict}
 use Rattle.glue_check.proofs.{BuiltForm.target_built, BuiltForm.settings_built, BuiltForm.exports_built, BuiltForm.absent_built}
+use Rattle.glue_check.proofs.ListNames.{AreListNames, lists_named}
 use Rattle.glue_check.proofs.{OwnPairs.IsDefinableBy, OwnPairs.IsDefinedImport, OwnPairs.kept_pair, OwnPairs.number_there, OwnPairs.own_defined, OwnPairs.own_distinct, Passed.described_apart, Passed.described_ident, Passed.reexports_fit, Passed.things_apart, Passed.variants_ident, Steps.export_steps, Steps.pair_steps}
 use Rattle.std.specs.Prelude.{ℤ}
 use Rattle.glue_exports.proofs.EnumFacts.{variant_names}
@@ -35,6 +36,8 @@ pub record Facts (s : Settings) (l : Lowered) : Type 0 where
   pub idents : (name : JsImportName) → IsIn name (described_names l.aux) → (x : List ℕ) → IsIn x (described_hosts s.omit_imports name) → is_ident x ≡ true
   pub apart : (name : JsImportName) → IsIn name (described_names l.aux) → (x : List ℕ) → IsIn x (described_hosts s.omit_imports name)
       → IsAway x (fixed_names s l.«module»)
+  -- the names of lists of string enums are identifiers that stand for nothing else
+  pub lists : AreListNames s l
   -- each export is a function, and its adapter and that of each own import has steps
   pub exports : (e : AuxExport) → IsIn e l.aux.exports → IsBuiltExport e
   pub export_steps : (e : AuxExport) → IsIn e l.aux.exports → HasSteps s l e.adapter
@@ -70,6 +73,7 @@ built f s l whole passed =
       structs = absent.structs;
       idents = described_ident s l passed;
       apart = described_apart s l passed;
+      lists = lists_named s l passed;
       exports = exports_built f s l whole;
       export_steps = export_steps f s l whole passed;
       pair_steps = pair_steps f s l whole passed;

@@ -1,5 +1,5 @@
 -- What the check of a description gives of the functions of adapters: they belong into the file, and what the items of exports declare and publish.
-use Rattle.glue_context.proofs.Common.{◌≡◌, ℕ, List, [], ◌∷◌, ◌++◌, Bool, true, false, true≢false, Some, refl, ◌∙◌, subst, arith, rules, AllByRecursion, codes, list_all, list_any, filter_map-append, AreAmong, IsIn, in_left, Item, bound_name, bound_in, used_in, hosted_in, wasm_in, spliced_in, is_export_key, Context, Belongs, IsFrame, is_exported, Step, AuxExport, AuxImport, Settings, NameMap, Lowered, host_names, export_names, js_import, names_of, declared_name, IsFunctionOf, declare_item, declaration_front, declaration_back, IsThere, IsDescribed, HasSteps, HOSTS, map, AreFunctionItems, declaration_words, inl, inr}
+use Rattle.glue_context.proofs.Common.{◌≡◌, ℕ, List, [], ◌∷◌, ◌++◌, Bool, true, false, true≢false, Some, refl, ◌∙◌, subst, arith, rules, AllByRecursion, codes, list_all, list_any, filter_map-append, AreAmong, IsIn, in_left, in_right, Item, bound_name, bound_in, used_in, hosted_in, wasm_in, spliced_in, is_export_key, Context, Belongs, IsFrame, is_exported, Step, AuxExport, AuxImport, Settings, NameMap, Lowered, host_names, export_names, js_import, names_of, declared_name, IsFunctionOf, declare_item, declaration_front, declaration_back, IsThere, IsDescribed, HasSteps, HOSTS, map, AreFunctionItems, declaration_words, inl, inr}
 use Rattle.std.proofs.Common.{append_assoc, ap, sym}
 use Rattle.std.specs.Prelude.{filter, ◌&&◌, not}
 use Rattle.std.proofs.lemmas.{List.Folds.list_any-append, List.Folds.list_all-append}
@@ -23,7 +23,8 @@ use Rattle.glue_targets.proofs.FixedTexts.{call_takes}
 use Rattle.glue_binding.specs.Spelling.{path_words, chained_words}
 use Rattle.glue_binding.proofs.Standing.{step_fit}
 use Rattle.glue_binding.proofs.Outside.{exports_words, outside_words, outside_of, passed_none}
-use Rattle.glue_steps.specs.declared.step.Step.TheVariants.{CallImport, ToUnsigned64, CallHelper, IndexFromBorrow, UnwrapResult, PassToMemory, DeferFree, CopyOut}
+use Rattle.glue_steps.specs.declared.step.Step.TheVariants.{CallExport, CallImport, ToUnsigned64, CallHelper, IndexFromBorrow, UnwrapResult, PassToMemory, DeferFree, CopyOut, ReturnPointer, LoadReturn, StoreReturn, IndexOf, ItemAt}
+use Rattle.glue_steps.specs.Room.{has_stack}
 use Rattle.glue_binding.proofs.Parts.{outer_parts, outer_expression, expression_none, parts_declare}
 use Rattle.glue_binding.proofs.Paths.{TellsKeys, path_tells, property_tells, chained_tells}
 use Rattle.glue_scope.specs.Properties.{property_parts}
@@ -47,13 +48,18 @@ use Rattle.helper_table.proofs.HeldItems.{among_test}
 use Rattle.helper_table.proofs.ListedNames.{bound_listed}
 use Rattle.helper_table.proofs.Supplied.{base_among, provided_in, provided_names}
 use Rattle.glue_names.specs.Handed.{own_callees}
-use Rattle.glue_check.proofs.Steps.{IsHelperOf, IsNamedFunction}
+use Rattle.glue_names.specs.Naming.{shim_name}
+use Rattle.glue_names.specs.Printed.{uses_shim}
+use Rattle.glue_check.proofs.Steps.{IsHelperOf, IsListOf, IsNamedFunction}
 use Rattle.glue_names.proofs.Globals.{in_flat}
 use Rattle.glue_context.specs.DefinedItems.{takes_memory}
-use Rattle.glue_context.specs.Edits.{has_start}
 use Rattle.glue_context.specs.Keys.{described_keys, import_properties, imported_properties, other_properties}
+use Rattle.glue_context.specs.Edits.{has_start}
 use Rattle.glue_context.specs.Parts.{are_few, helper_parts}
+use Rattle.glue_context.specs.Rewritten.{shim_global}
 use Rattle.glue_context.proofs.Declared.{all_found}
+use Rattle.glue_context.proofs.Edited.{last_exports, shim_export, shim_there}
+use Rattle.glue_context.proofs.ListedFacts.{list_chosen, list_names}
 use Rattle.glue_context.proofs.Provided.{function_known, helper_provided, listed_apart, listed_ident}
 use Rattle.glue_context.proofs.ExpressionFits.{IsWell, IsNamedWell, expression_fit}
 use Rattle.glue_context.proofs.ExpressionNames.{HasPart, HasExpression, HasLoaded, HasName, used_hosts, expression_has}
@@ -142,7 +148,7 @@ module _ (s : Settings) (l : Lowered) where
   abbrev pub names_with : (declared : List (List ℕ)) → Context
   names_with declared = record {
     hosts = host_names s l.aux;
-    exports = names_with_added s l ++ call_takes (has_start l.«module»);
+    exports = names_with_added s l ++ last_exports s l;
     keys = described_keys l.aux;
     declared = declared;
   }
@@ -172,17 +178,19 @@ module _ (s : Settings) (l : Lowered) where
       pub items : m.wasm ≡ item_map (item_names s l)
       pub few : are_few l.«module» ≡ true
 
-    -- what stands for each is an identifier, and no drawn one is `wasm`
+    -- what stands for each is an identifier, and no drawn one is `wasm`; names of lists are identifiers
     pub record AreWell : Type 0 where
       pub named : ForCalled (IsWell m)
+      pub lists : (name : List ℕ) → IsIn name (list_names s l) → is_ident name ≡ true
       pub taken : AreTaken
 
-    -- these names hold what functions and definitions use of the file: `wasm`, `memory` where that is handed in, helpers that are provided, the drawn
-    -- names, and those that the file has for the values of intrinsics; what has no drawn name is a name of the host
+    -- these names hold what functions and definitions use of the file: `wasm`, `memory` where that is handed in, helpers that are provided, lists of
+    -- string enums, the drawn names, and those that the file has for the values of intrinsics; what has no drawn name is a name of the host
     pub record HasBasis (declared : List (List ℕ)) : Type 0 where
       pub wasm : IsIn (codes "wasm") declared
       pub memory : takes_memory s l ≡ true → IsIn (codes "memory") declared
       pub helpers : AreAmong (provided_names (helper_parts s l m)) declared
+      pub lists : AreAmong (list_names s l) declared
       pub begun : ForCalled (HasName (names_with declared) m)
       pub values : HasLoaded (names_with declared) s.target
       pub taken : AreTaken
@@ -200,6 +208,11 @@ module _ (s : Settings) (l : Lowered) where
         let listed = bound_listed (helper_parts s l m) helper found.0 found.1.0 in
         and_from (is_ident helper) (not (is_wasm helper)) (listed_ident (helper_parts s l m) helper listed) (listed_apart (helper_parts s l m) helper listed)
 
+    -- that of a list is so too
+    list_fit : AreWell → (list : List ℕ) → IsListOf s l list → (is_ident list && not (is_wasm list)) ≡ true
+    list_fit well list d =
+        and_from (is_ident list) (not (is_wasm list)) (well.lists list (list_chosen s l list d)) (subst (λ (name : List ℕ). not (is_wasm name) ≡ true) (sym d.is) refl)
+
     -- the texts of steps are spaced
     is_fit : AreWell → (step : Step) → IsThere s l m step → step_fit step ≡ true
     is_fit well (CallImport adapter n has_result e) d =
@@ -208,6 +221,10 @@ module _ (s : Settings) (l : Lowered) where
     is_fit well (UnwrapResult helper) d = helper_fit well helper d
     is_fit well (PassToMemory helper exports optional) d = helper_fit well helper d.0
     is_fit well (CopyOut helper) d = helper_fit well helper d
+    is_fit well (LoadReturn view offset is_wide) d = helper_fit well view d
+    is_fit well (StoreReturn view offset is_wide) d = helper_fit well view d
+    is_fit well (IndexOf list) d = list_fit well list d
+    is_fit well (ItemAt list) d = list_fit well list d
     is_fit well other d = refl
 
     are_fit : AreWell → (steps : List Step) → AreThere steps → list_all step_fit steps ≡ true
@@ -225,6 +242,10 @@ module _ (s : Settings) (l : Lowered) where
           among_in helper (provided_names parts) declared basis.helpers
           (provided_in parts helper (helper_provided s l m basis.taken.items basis.taken.few helper h))
 
+      -- the lists that instructions name
+      list_declared : (list : List ℕ) → IsListOf s l list → IsIn list declared
+      list_declared list d = among_in list (list_names s l) declared basis.lists (list_chosen s l list d)
+
       -- those that need nothing of the module
       pub free_declared : AreAmong free_names declared
       free_declared = among_trans free_names (provided_names parts) declared (free_provided parts) basis.helpers
@@ -235,7 +256,13 @@ module _ (s : Settings) (l : Lowered) where
       -- the export of a function that an instruction names
       function_there : (name : List ℕ) → IsNamedFunction s l m name → IsIn name (names_with declared).exports
       function_there name f =
-          in_left name (names_with_added s l) (call_takes (has_start l.«module»)) (function_known s l m basis.taken.items basis.taken.few name f)
+          in_left name (names_with_added s l) (last_exports s l) (function_known s l m basis.taken.items basis.taken.few name f)
+
+      -- that of the shim, where a function takes room
+      mover_there : uses_shim s l ≡ true → has_stack l ≡ true → IsIn shim_name (names_with declared).exports
+      mover_there uses stacked =
+          in_right shim_name (names_with_added s l) (last_exports s l)
+          (in_left shim_name (shim_export (shim_global s l)) (call_takes (has_start l.«module»)) (shim_there s l uses stacked))
 
       exports_there : (exports : List (List ℕ)) → AllByRecursion (IsNamedFunction s l m) exports → (words : List Word) → HasNames (names_with declared) words
           → HasNames (names_with declared) (exports_words exports ++ words)
@@ -263,7 +290,7 @@ module _ (s : Settings) (l : Lowered) where
           by None q h = absurd (true≢false (sym h))
           by (Some item) q h =
               let n = item_named s l item (item_asked s l d.entry.0 d.entry.1 item d.own d.first q) in
-              in_left (export_named m (Some item)) (names_with_added s l) (call_takes (has_start l.«module»))
+              in_left (export_named m (Some item)) (names_with_added s l) (last_exports s l)
               (subst (λ (name : List ℕ). IsIn name (names_with_added s l))
               (sym (ap or_empty (ap (λ (es : List (ExportItem × List ℕ)). look_up item_order es item) basis.taken.items ∙ n.1.0)))
               (given_listed s l item n.0 n.1.1))
@@ -291,18 +318,28 @@ module _ (s : Settings) (l : Lowered) where
           let k = has_names steps h.1 in ((basis.wasm, k.0), k.1, (function_there free h.0, k.2), k.3, k.4)
       has_names (CopyOut helper ∷ steps) h =
           let k = has_names steps h.1 in ((helper_declared helper h.0, k.0), k.1, k.2, k.3, k.4)
+      has_names (ReturnPointer size ∷ steps) h =
+          let k = has_names steps h.1 in ((basis.wasm, k.0), k.1, (mover_there h.0.0 h.0.1, k.2), k.3, k.4)
+      has_names (LoadReturn view offset is_wide ∷ steps) h =
+          let k = has_names steps h.1 in ((helper_declared view h.0, k.0), k.1, k.2, k.3, k.4)
+      has_names (StoreReturn view offset is_wide ∷ steps) h =
+          let k = has_names steps h.1 in ((helper_declared view h.0, k.0), k.1, k.2, k.3, k.4)
+      has_names (IndexOf list ∷ steps) h =
+          let k = has_names steps h.1 in ((list_declared list h.0, k.0), k.1, k.2, k.3, k.4)
+      has_names (ItemAt list ∷ steps) h =
+          let k = has_names steps h.1 in ((list_declared list h.0, k.0), k.1, k.2, k.3, k.4)
       has_names (IndexFromBorrow ∷ steps) h =
           let k = has_names steps h.1 in
           let lent = among_trans lending_helpers free_names declared lending_free free_declared in
           ((lent.0, (lent.1.0, (lent.1.1.0, k.0))), (fixed_hosts.1.0, k.1), k.2, k.3, k.4)
-      has_names (step ∷ steps) h =
+      has_names (CallExport name n has_result ∷ steps) h =
           let k = has_names steps h.1 in
-          let wasm = basis.wasm in
-          let kept = λ (name : List ℕ) (at : IsIn name (export_names l.«module»)).
-          in_left name (names_with_added s l) (call_takes (has_start l.«module»))
-          (in_left name (export_names l.«module») (map (λ (x : List ℕ × ExportItem). x.0) (added_exports s l)) at) in
-          let text = λ (e : Expression) (d : IsDescribed s l m e). has_expression_names (names_with declared) e (outside_of steps) (described_text e d) k in
-          grind (arith, in_left)
+          let kept = in_left name (names_with_added s l) (last_exports s l)
+          (in_left name (export_names l.«module») (map (λ (x : List ℕ × ExportItem). x.0) (added_exports s l)) h.0) in
+          ((basis.wasm, k.0), k.1, (kept, k.2), k.3, k.4)
+      has_names (CallImport adapter n has_result e ∷ steps) h =
+          has_expression_names (names_with declared) e (outside_of steps) (described_text e h.0) (has_names steps h.1)
+      has_names (other ∷ steps) h = has_names steps h.1
 
 -- ---- the item of a function, with words before and behind it
 

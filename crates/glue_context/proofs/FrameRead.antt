@@ -16,10 +16,10 @@ use Rattle.glue_check.proofs.OwnPairs.{IsDefinableBy, IsDefinedImport, entry_in,
 use Rattle.glue_check.proofs.Passed.{imports_bound, pairs_fit}
 use Rattle.glue_names.proofs.Called.{number_in}
 use Rattle.glue_context.specs.DefinedItems.{is_unpaired, takes_memory}
-use Rattle.glue_context.specs.Edits.{has_start, with_start_moved}
+use Rattle.glue_context.specs.Edits.{has_start, with_shim, with_start_moved}
 use Rattle.glue_context.specs.Foreign.{has_strings, is_strings, path_of}
 use Rattle.glue_context.specs.FrameIn.{foreign_path, frame_in, is_first_memory, is_memory_of}
-use Rattle.glue_context.proofs.Edited.{added_alone, written_imports}
+use Rattle.glue_context.proofs.Edited.{added_alone, shim_alone, written_imports}
 use Rattle.glue_context.proofs.Entries.{any_entry, any_there, mapped_entry, mapped_some, one_of_any}
 use Rattle.glue_context.proofs.OwnPaths.{own_is}
 
@@ -118,7 +118,10 @@ module _ (f : FileFlags) (s : Settings) (l : Lowered) (whole : unbuilt f s l ≡
 
   written_memories : written.memories ≡ l.«module».memories
   written_memories =
-      start_memories (has_start l.«module») (fold with_added moved (edits_of s l).exports) ∙ (added_alone moved (edits_of s l).exports).2
+      let extended = fold with_added moved (edits_of s l).exports in
+      start_memories (has_start l.«module») (with_shim (edits_of s l).shim extended)
+      ∙ (shim_alone extended (edits_of s l).shim).2
+      ∙ (added_alone moved (edits_of s l).exports).2
       ∙ moved_memories l.«module» (edits_of s l).imports
 
   -- what the import at a place brings in

@@ -13,6 +13,7 @@ mod HeldNames
 mod ImportBound
 mod ImportedFacts
 mod ImportedNames
+mod ListedFacts
 mod Lists
 pub mod Made
 mod OwnPaths

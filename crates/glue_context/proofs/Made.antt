@@ -11,6 +11,7 @@ use Rattle.glue_shared.specs.declared.import.Intrinsic.{Intrinsic}
 use Rattle.glue_shared.specs.declared.import.Intrinsic.TheVariants as intrinsics
 use Rattle.glue_shared.specs.declared.settings.Target.{Target}
 use Rattle.glue_shared.specs.declared.settings.Target.TheVariants as targets
+use Rattle.glue_shared.specs.declared.aux.AuxStringEnum.{AuxStringEnum}
 use Rattle.glue_shared.specs.declared.import.JsImportName.{JsImportName}
 use Rattle.glue_shared.specs.declared.import.JsImportName.TheVariants as js
 use Rattle.glue_shared.specs.Names.{described_names, entry_of, has_number, inspect_names, is_node, target_hosts}
@@ -24,6 +25,7 @@ use Rattle.glue_lines.specs.Lines.{foreign_line}
 use Rattle.glue_lines.specs.declared.form.LineForm.{LineForm}
 use Rattle.glue_lines.specs.declared.form.LineForm.TheVariants.{Es}
 use Rattle.glue_lines.proofs.LineFacts.{foreign_belongs, foreign_holds}
+use Rattle.glue_lines.proofs.TextsFacts.{texts_hold}
 use Rattle.helper_table.specs.declared.parts.HelperParts.{HelperParts}
 use Rattle.helper_table.proofs.Held.{held_item}
 use Rattle.helper_table.specs.Closed.{asked_helpers, binder}
@@ -37,6 +39,7 @@ use Rattle.glue_targets.proofs.FixedTexts as fixed
 use Rattle.glue_targets.proofs.FixedTexts.{start_binds}
 use Rattle.glue_targets.proofs.FrameEnd.{module_names, own_name, end_bound, end_fixed, end_fits, end_hosts}
 use Rattle.glue_published.specs.Reexports.{Reexport, is_outside}
+use Rattle.glue_names.specs.Given.{values_name}
 use Rattle.glue_names.specs.Handed.{own_callees}
 use Rattle.glue_names.proofs.Globals.{described_host, from_flat, in_flat, more_hosts}
 use Rattle.glue_check.proofs.OwnPairs.{pair_kept}
@@ -44,6 +47,7 @@ use Rattle.glue_context.specs.DefinedItems.{takes_memory}
 use Rattle.glue_context.specs.Edits.{has_start}
 use Rattle.glue_context.specs.FrameIn.{frame_in}
 use Rattle.glue_context.specs.Keys.{described_keys}
+use Rattle.glue_context.specs.ListedItems.{list_item}
 use Rattle.glue_context.specs.Linked.{IsOneOf}
 use Rattle.glue_context.specs.Foreign.{has_strings, path_of}
 use Rattle.glue_naming.specs.Listed.{names_drawn}
@@ -53,17 +57,19 @@ use Rattle.glue_naming.specs.declared.named.Named.TheVariants as things
 use Rattle.glue_naming.proofs.CalledNames as called
 use Rattle.glue_names.proofs.MappedLists.{from_map, in_map}
 use Rattle.glue_context.specs.Parts.{helper_parts}
-use Rattle.glue_context.proofs.{Declared.AreDrawn, Declared.AreStanding, Declared.all_apart, Declared.all_distinct, Declared.all_found, Declared.all_names, Declared.constants_first, Declared.first_among, Declared.first_names, Declared.first_unlisted, Declared.frame_first, Declared.held_among, Declared.imports_first, Declared.lines_first, Declared.loading_bound, Declared.loading_first, Declared.modules_few, Declared.modules_idents, Declared.names_first, Declared.own_fixed, Declared.own_framed, Declared.own_names, Declared.own_no_hosts}
+use Rattle.glue_context.specs.Rewritten.{shim_global}
+use Rattle.glue_context.proofs.{Declared.AreDrawn, Declared.AreStanding, Declared.all_apart, Declared.all_distinct, Declared.all_found, Declared.all_names, Declared.constants_first, Declared.first_among, Declared.first_names, Declared.first_unlisted, Declared.frame_first, Declared.held_among, Declared.imports_first, Declared.lines_first, Declared.lists_first, Declared.loading_bound, Declared.loading_first, Declared.modules_few, Declared.modules_idents, Declared.names_first, Declared.own_fixed, Declared.own_framed, Declared.own_names, Declared.own_no_hosts}
 use Rattle.glue_context.proofs.HeldNames.{asked_listed}
 use Rattle.glue_context.proofs.ImportBound.{import_bound_among}
 use Rattle.glue_context.proofs.ImportedFacts as imported
+use Rattle.glue_context.proofs.ListedFacts as chosen
 use Rattle.glue_context.proofs.TreeFacts as published
 use Rattle.taken_items.proofs.ItemNames.{names_with_added}
 use Rattle.glue_context.proofs.Provided.{all_given, memory_stands, table_stands}
 use Rattle.glue_context.proofs.ExpressionFits.{IsBegunWell, IsWell}
 use Rattle.glue_context.proofs.ExpressionNames.{HasBegun, HasName}
 use Rattle.glue_context.proofs.HandedParts.{entry_there}
-use Rattle.glue_context.proofs.{Facts.Facts, Facts.built, Facts.own_pair, Fits.names_with, Fits.AreTaken, Fits.AreWell, Fits.HasBasis, DefinedFacts.define_belongs, DefinedFacts.define_binds, DefinedFacts.define_exported, DefinedFacts.define_holds, DefinedFacts.define_role, Lists.arranged_from, Lists.moved_from, Lists.distinct_moved, Lists.all_are, Lists.flat_none, Lists.all_applied, Lists.all_kept, Lists.constants, Lists.each_among, Lists.each_any, Lists.each_at, Lists.each_item, Lists.each_line, Lists.front, Lists.given, Lists.declared_stands, Lists.imported_stands, Lists.imports, Lists.items_with, Lists.loading, Lists.none_given, Lists.with_held, Edited.item_exported, Edited.rewritten_exports, Paths.written_count}
+use Rattle.glue_context.proofs.{Facts.Facts, Facts.built, Facts.own_pair, Fits.names_with, Fits.AreTaken, Fits.AreWell, Fits.HasBasis, DefinedFacts.define_belongs, DefinedFacts.define_binds, DefinedFacts.define_exported, DefinedFacts.define_holds, DefinedFacts.define_role, Lists.arranged_from, Lists.moved_from, Lists.distinct_moved, Lists.all_are, Lists.flat_none, Lists.all_applied, Lists.all_kept, Lists.constants, Lists.each_among, Lists.each_any, Lists.each_at, Lists.each_item, Lists.each_line, Lists.front, Lists.given, Lists.declared_stands, Lists.imported_stands, Lists.imports, Lists.items_with, Lists.loading, Lists.none_given, Lists.with_held, Edited.item_exported, Edited.last_exports, Edited.rewritten_exports, Edited.shim_export, Paths.written_count}
 
 -- the three facts of items that a built description asks for
 pub record IsSound (s : Settings) (m : NameMap) (l : Lowered) (items : List Item) : Type 0 where
@@ -182,9 +188,19 @@ module _ (s : Settings) (m : NameMap) (l : Lowered) (items : List Item) (b : Fac
   constants_so : (P : Item → Type 0) → ((item : Item) → imported.IsImportItem item → P item) → AllItems P (constants g)
   constants_so P give = all_kept imported.IsImportItem P (constants g) (λ item k h. give item h) (imported.constants_each form (imports g) g.lines g.imported)
 
+  lists_so : (P : Item → Type 0) → ((e : AuxStringEnum) → P (list_item e)) → AllItems P g.lists
+  lists_so P give = chosen.lists_each s l g.lists g.listed P give
+
+  -- the list of an enum isn't exported
+  list_inner : (e : AuxStringEnum) → fixed_by (list_item e) ≡ []
+  list_inner e = ap (λ (b : Bool). fixed_of role.Body b (list_item e).words) (texts_hold (values_name e) e.variants).inner
+
   -- they give nothing together where each import gives nothing
   lines_none : {B : Type 0} (give : Item → List B) → ((item : Item) → imported.IsImportItem item → give item ≡ []) → flat_map give g.lines ≡ []
   lines_none give none = none_given give g.lines (lines_so (λ item. give item ≡ []) none)
+
+  lists_none : {B : Type 0} (give : Item → List B) → ((e : AuxStringEnum) → give (list_item e) ≡ []) → flat_map give g.lists ≡ []
+  lists_none give none = none_given give g.lists (lists_so (λ item. give item ≡ []) none)
 
   constants_none : {B : Type 0} (give : Item → List B) → ((item : Item) → imported.IsImportItem item → give item ≡ []) → flat_map give (constants g) ≡ []
   constants_none give none = none_given give (constants g) (constants_so (λ item. give item ≡ []) none)
@@ -250,6 +266,9 @@ module _ (s : Settings) (m : NameMap) (l : Lowered) (items : List Item) (b : Fac
   abbrev constant_names : List (List ℕ)
   constant_names = bound_names (constants g)
 
+  abbrev lists : List (List ℕ)
+  lists = bound_names g.lists
+
   abbrev held : List (List ℕ)
   held = flat_map (λ (item : Item). bound_in item.words) g.helpers
 
@@ -262,10 +281,10 @@ module _ (s : Settings) (m : NameMap) (l : Lowered) (items : List Item) (b : Fac
 
   -- what the file declares, and what its first items may use
   abbrev declared : List (List ℕ)
-  declared = all_names s l.«module» paths held memory few g.numbered parts standing listed imported_names constant_names names
+  declared = all_names s l.«module» paths held memory few g.numbered parts standing listed imported_names constant_names names lists
 
   abbrev first : List (List ℕ)
-  first = first_names s l.«module» paths held memory few g.numbered parts standing listed imported_names constant_names names
+  first = first_names s l.«module» paths held memory few g.numbered parts standing listed imported_names constant_names names lists
 
   abbrev own : List (List ℕ)
   own = own_names s l.«module» paths held memory few g.numbered parts standing listed
@@ -291,19 +310,36 @@ module _ (s : Settings) (m : NameMap) (l : Lowered) (items : List Item) (b : Fac
   constants_apart : (ys : List (List ℕ)) → AreApart drawn ys → AreApart constant_names ys
   constants_apart ys h = apart_among constant_names drawn ys constants_drawn h
 
-  are_drawn : AreDrawn s l.«module» paths held memory few g.numbered parts standing listed imported_names constant_names names
+  -- what the names of lists of all string enums are apart from, those of the file are
+  lists_among : AreAmong lists (map values_name l.aux.string_enums)
+  lists_among = among_trans lists (chosen.list_names s l) (map values_name l.aux.string_enums)
+      (among_by lists (chosen.list_names s l) (chosen.lists_declare s l g.lists g.listed)) (chosen.names_among s l)
+
+  no_list : (ys : List (List ℕ)) → AreApart (map values_name l.aux.string_enums) ys → AreApart lists ys
+  no_list ys h = apart_among lists (map values_name l.aux.string_enums) ys lists_among h
+
+  from_lists : (xs : List (List ℕ)) → AreApart xs (map values_name l.aux.string_enums) → AreApart xs lists
+  from_lists xs h = apart_swap lists xs (no_list xs (apart_swap xs (map values_name l.aux.string_enums) h))
+
+  are_drawn : AreDrawn s l.«module» paths held memory few g.numbered parts standing listed imported_names constant_names names lists
   are_drawn =
       let names_apart = published.tree_apart s m l b n g.declares g.declared drawn drawn_of in
-      let fixed_apart = called.listed_no_fixed s l m n g.pairs sub has in record {
+      let fixed_apart = called.listed_no_fixed s l m n g.pairs sub has in
+      let values_apart = from_lists drawn (called.listed_no_values s l m n g.pairs sub has) in record {
         imports_once = imported.lines_distinct form (imports g) g.lines g.imported drawn_distinct;
         constants_once = imported.constants_distinct form (imports g) g.lines g.imported drawn_distinct;
         names_once = published.tree_distinct s m l b n g.declares g.declared;
+        lists_once = chosen.lists_distinct s l g.lists g.listed b.lists.once;
         imports_constants = imported.lines_constants form (imports g) g.lines g.imported drawn_distinct;
         imports_names = lines_apart names names_apart;
         constants_names = constants_apart names names_apart;
+        imports_lists = lines_apart lists values_apart;
+        constants_lists = constants_apart lists values_apart;
+        names_lists = from_lists names (published.tree_no_values s m l b n g.declares g.declared);
         imports_own = no_own imported_names (lines_apart (fixed_names s l.«module») fixed_apart);
         constants_own = no_own constant_names (constants_apart (fixed_names s l.«module») fixed_apart);
         names_own = no_own names (published.tree_no_fixed s m l b n g.declares g.declared);
+        lists_own = no_own lists (no_list (fixed_names s l.«module») b.lists.no_fixed);
       }
 
   hosts_are : host_names s l.aux ≡ map (λ w. w.now) HOSTS ++ flat_map (described_hosts s.omit_imports) (described_names l.aux)
@@ -327,6 +363,11 @@ module _ (s : Settings) (m : NameMap) (l : Lowered) (items : List Item) (b : Fac
   outside =
       rw hosts_are (apart_joined own (map (λ w. w.now) HOSTS) _ (own_no_hosts s l.«module» paths held memory few g.numbered parts standing listed) (apart_swap _ own described_apart))
 
+  -- nor are those of lists
+  lists_no_host : AreApart lists (host_names s l.aux)
+  lists_no_host =
+      rw hosts_are (apart_joined lists (map (λ w. w.now) HOSTS) _ (no_list (map (λ w. w.now) HOSTS) b.lists.no_common) (no_list _ b.lists.no_described))
+
   -- a name of the host that each file has
   known : (ys : List (List ℕ)) → list_all (is_one_of (map (λ w. w.now) HOSTS)) ys ≡ true → AreAmong ys (host_names s l.aux)
   known ys h = rw hosts_are (among_left ys (map (λ w. w.now) HOSTS) _ (all_found (map (λ w. w.now) HOSTS) ys h))
@@ -334,7 +375,7 @@ module _ (s : Settings) (m : NameMap) (l : Lowered) (items : List Item) (b : Fac
   bound : bound_names all ≡ declared
   bound = declared_are all
       ∙ given g (λ item. bound_in item.words) (λ place. []) g.helpers (λ place item k d. define_binds s m l place item d)
-      ∙ rw (sym (declared_are g.lines), sym (declared_are (constants g)), sym (declared_are g.declares))
+      ∙ rw (sym (declared_are g.lines), sym (declared_are (constants g)), sym (declared_are g.declares), sym (declared_are g.lists))
       (simp (flat_none, lines_bound, fixed.start_bound, end_bound, fixed.loading_bound, append-nil))
 
   -- ---- what functions use
@@ -367,8 +408,11 @@ module _ (s : Settings) (m : NameMap) (l : Lowered) (items : List Item) (b : Fac
       by (Some text) found = (n.good.idents (things.Import name) text found, no_wasm text (entry_drawn id w mine is name i text found))
       by None none = b.idents name (begun_described id w mine is name i) (plain_name name) (entry_brought id w mine is name i none)
 
+  list_ident : (name : List ℕ) → IsIn name (chosen.list_names s l) → is_ident name ≡ true
+  list_ident name i = b.lists.idents name (among_in name (chosen.list_names s l) (map values_name l.aux.string_enums) (chosen.names_among s l) i)
+
   well : AreWell s l m
-  well = record { named = begun_well; taken = taken }
+  well = record { named = begun_well; lists = list_ident; taken = taken }
 
   -- what stands among the first names, or is provided
   there : (ys : List (List ℕ)) → AreAmong ys first → AreAmong ys (first ++ provided)
@@ -377,16 +421,19 @@ module _ (s : Settings) (m : NameMap) (l : Lowered) (items : List Item) (b : Fac
   drawn_first : (name : List ℕ) → IsIn name drawn → IsIn name (first ++ provided)
   drawn_first name at = elim (imported.one_declares form (imports g) g.lines g.imported s.omit_imports no_host name at) [
     | inl here ↦ among_in name imported_names (first ++ provided)
-        (there imported_names (imports_first s l.«module» paths held memory few g.numbered parts standing listed imported_names constant_names names)) here
+        (there imported_names (imports_first s l.«module» paths held memory few g.numbered parts standing listed imported_names constant_names names lists)) here
     | inr here ↦ among_in name constant_names (first ++ provided)
-        (there constant_names (constants_first s l.«module» paths held memory few g.numbered parts standing listed imported_names constant_names names)) here
+        (there constant_names (constants_first s l.«module» paths held memory few g.numbered parts standing listed imported_names constant_names names lists)) here
   ]
 
   loaded : AreAmong loading_bound first
-  loaded = loading_first s l.«module» paths held memory few g.numbered parts standing listed imported_names constant_names names
+  loaded = loading_first s l.«module» paths held memory few g.numbered parts standing listed imported_names constant_names names lists
 
   framed : AreAmong (start_binds memory) first
-  framed = frame_first s l.«module» paths held memory few g.numbered parts standing listed imported_names constant_names names
+  framed = frame_first s l.«module» paths held memory few g.numbered parts standing listed imported_names constant_names names lists
+
+  listed_first : AreAmong lists first
+  listed_first = lists_first s l.«module» paths held memory few g.numbered parts standing listed imported_names constant_names names lists
 
   begun : (id : ℕ) (w : AuxImport) → has_number id (own_callees s l) ≡ true → entry_of id l.aux.imports ≡ Some w → (name : JsImportName)
       → IsIn name (names_of (js_import w)) → HasName (names_with s l (first ++ provided)) m name
@@ -402,6 +449,8 @@ module _ (s : Settings) (m : NameMap) (l : Lowered) (items : List Item) (b : Fac
     memory = λ taken. among_in (codes "memory") (start_binds memory) (first ++ provided) (there (start_binds memory) framed)
         (subst (λ (b : Bool). IsIn (codes "memory") (start_binds b)) (sym taken) (inr (inl refl)));
     helpers = among_right provided first provided (among_itself provided);
+    lists = among_trans (chosen.list_names s l) lists (first ++ provided)
+        (among_by (chosen.list_names s l) lists (chosen.lists_declare_all s l g.lists g.listed)) (there lists listed_first);
     begun = begun;
     values = λ value name h. among_in name loading_bound (first ++ provided) (there loading_bound loaded)
         (deno_loaded value name (subst (λ (target : Target). loaded_name target value ≡ Some name) b.deno h));
@@ -456,7 +505,7 @@ module _ (s : Settings) (m : NameMap) (l : Lowered) (items : List Item) (b : Fac
   firsts : AllItems (λ item. Belongs (names_with s l (first ++ provided)) item.words) (items_with g [])
   firsts =
       let c = names_with s l (first ++ provided) in
-      let lined = lines_first s l.«module» paths held memory few g.numbered parts standing listed imported_names constant_names names in
+      let lined = lines_first s l.«module» paths held memory few g.numbered parts standing listed imported_names constant_names names lists in
       let small : 1 + length paths < 2 ^ 64 = let h = g.numbered in omega (arith, h) in
       let own0 : module_names 0 (own_path s.stem ∷ paths) ≡ codes "import0" ∷ module_names 1 paths = ap (λ (n : List ℕ). n ∷ module_names 1 paths) own_name in
       each_item g (λ item. Belongs c item.words) []
@@ -464,17 +513,19 @@ module _ (s : Settings) (m : NameMap) (l : Lowered) (items : List Item) (b : Fac
       (each_line (λ item. Belongs c item.words) 1 paths (λ n path less. foreign_belongs Es n path c (omega (arith, less, small)) tt))
       (imported.constants_belong form (imports g) g.lines g.imported c drawn_idents (known (codes "undefined" ∷ []) refl).0 (import_hosts c refl))
       (published.items_belong s m l b n g.declares g.declared well c.declared basis
-      (there names (names_first s l.«module» paths held memory few g.numbered parts standing listed imported_names constant_names names)) reexport_first)
+      (there names (names_first s l.«module» paths held memory few g.numbered parts standing listed imported_names constant_names names lists)) reexport_first)
       (λ place item k x. define_belongs s m l well c.declared basis b.pair_steps place k (b.defined place k) item x)
       (belongs_by_facts c _ (fixed.start_fits c s.stem memory))
       (belongs_by_facts c _ (end_fits s.stem paths strings c (modules_idents 0 (own_path s.stem ∷ paths) (omega (arith, small)))
       (subst (λ (ns : List (List ℕ)). AreAmong ns c.declared) (sym own0) (first_module, there (module_names 1 paths) lined)) (proxy_known strings)))
+      (chosen.lists_belong s l g.lists g.listed c list_ident)
       tt
       (belongs_by_facts c _ (fixed.loading_fits c s.stem strings starts
       (among_trans (fixed.loading_uses starts) (start_binds memory ++ loading_bound) c.declared (loading_within memory starts)
       (there (start_binds memory ++ loading_bound) (among_both (start_binds memory) loading_bound first framed loaded)))
       (known (codes "URL" ∷ codes "WebAssembly" ∷ codes "fetch" ∷ []) refl)
-      (among_right (fixed.call_takes starts) (names_with_added s l) (fixed.call_takes starts) (among_itself (fixed.call_takes starts)))))
+      (among_right (fixed.call_takes starts) (names_with_added s l) (last_exports s l)
+      (among_right (fixed.call_takes starts) (shim_export (shim_global s l)) (fixed.call_takes starts) (among_itself (fixed.call_takes starts))))))
 
   -- ---- helpers that are held
 
@@ -486,9 +537,9 @@ module _ (s : Settings) (m : NameMap) (l : Lowered) (items : List Item) (b : Fac
       let fixed_apart = called.listed_no_fixed s l m n g.pairs sub has in
       elim (in_either name first provided (among_in name (used_in item.words) (first ++ provided) belongs.resolved.bound k)) [
         | inl here ↦ inl (unlisted_unbound parts name
-            (first_unlisted s l.«module» paths held memory few g.numbered parts standing listed imported_names constant_names names
+            (first_unlisted s l.«module» paths held memory few g.numbered parts standing listed imported_names constant_names names lists
             (lines_apart (fixed_names s l.«module») fixed_apart) (constants_apart (fixed_names s l.«module») fixed_apart)
-            (published.tree_no_fixed s m l b n g.declares g.declared) name here))
+            (published.tree_no_fixed s m l b n g.declares g.declared) (no_list (fixed_names s l.«module») b.lists.no_fixed) name here))
         | inr free ↦ inr (in_provided parts name free)
       ]
 
@@ -508,7 +559,7 @@ module _ (s : Settings) (m : NameMap) (l : Lowered) (items : List Item) (b : Fac
       subst (λ (ns : List (List ℕ)). AreAmong ns declared) (sym (fixed.loading_used s.stem strings starts))
       (among_trans (fixed.loading_uses starts) bound declared (loading_within memory starts)
       (among_trans bound first declared (among_both (start_binds memory) loading_bound first framed loaded)
-      (first_among s l.«module» paths held memory few g.numbered parts standing listed imported_names constant_names names)))
+      (first_among s l.«module» paths held memory few g.numbered parts standing listed imported_names constant_names names lists)))
 
   -- a name that such an item uses is declared: where it is a helper's, that one is held
   first_declared : (item : Item) → IsIn item (items_with g []) → AreAmong (used_in item.words) (first ++ provided) → AreAmong (used_in item.words) declared
@@ -516,9 +567,9 @@ module _ (s : Settings) (m : NameMap) (l : Lowered) (items : List Item) (b : Fac
     | inl ahead ↦ among_by (used_in item.words) declared (λ name k.
         elim (in_either name first provided (among_in name (used_in item.words) (first ++ provided) used k)) [
           | inl here ↦ among_in name first declared
-              (first_among s l.«module» paths held memory few g.numbered parts standing listed imported_names constant_names names) here
+              (first_among s l.«module» paths held memory few g.numbered parts standing listed imported_names constant_names names lists) here
           | inr free ↦ among_in name held declared
-              (held_among s l.«module» paths held memory few g.numbered parts standing listed imported_names constant_names names)
+              (held_among s l.«module» paths held memory few g.numbered parts standing listed imported_names constant_names names lists)
               (provided_declared parts (front g) g.helpers g.asked item name ahead k (in_provided parts name free))
         ])
     | inr (inl same) ↦ subst (λ (i : Item). AreAmong (used_in i.words) declared) (sym same) loading_declared
@@ -532,11 +583,11 @@ module _ (s : Settings) (m : NameMap) (l : Lowered) (items : List Item) (b : Fac
       (all_kept (λ item. Belongs (names_with s l (first ++ provided)) item.words) (λ item. Belongs c item.words) (items_with g [])
       (λ item at h. belongs_among (names_with s l (first ++ provided)) declared item.words h (first_declared item at h.resolved.bound)) firsts)
       (supplied_belong parts needed g.helpers g.asked roots c (among_in (codes "wasm") loading_bound declared
-      (among_trans loading_bound first declared loaded (first_among s l.«module» paths held memory few g.numbered parts standing listed imported_names constant_names names))
-      (inr (inr (inr (inl refl))))) (held_among s l.«module» paths held memory few g.numbered parts standing listed imported_names constant_names names)
+      (among_trans loading_bound first declared loaded (first_among s l.«module» paths held memory few g.numbered parts standing listed imported_names constant_names names lists))
+      (inr (inr (inr (inl refl))))) (held_among s l.«module» paths held memory few g.numbered parts standing listed imported_names constant_names names lists)
       (known helper_hosts refl)
       (among_by (given_exports parts) c.exports (λ name at.
-      in_left name (names_with_added s l) (fixed.call_takes starts) (all_given s l m n.items g.few name at))))
+      in_left name (names_with_added s l) (last_exports s l) (all_given s l m n.items g.few name at))))
 
   -- the words of an item are asked for among items
   abbrev IsAsked : List Item → Item → Type 0
@@ -548,9 +599,9 @@ module _ (s : Settings) (m : NameMap) (l : Lowered) (items : List Item) (b : Fac
       let d = supplied_distinct parts needed g.helpers g.asked roots in
       let hosts_apart = called.listed_no_host s l m n g.pairs sub has in
       let k = linked_by_words c all (sym bound) belong
-      (rw bound (all_distinct s l.«module» paths held memory few g.numbered parts standing listed imported_names constant_names names d are_drawn))
-      (rw bound (all_apart s l.«module» paths held memory few g.numbered parts standing listed imported_names constant_names names c.hosts (lines_apart c.hosts hosts_apart)
-      (constants_apart c.hosts hosts_apart) (published.tree_no_host s m l b n g.declares g.declared) outside)) in
+      (rw bound (all_distinct s l.«module» paths held memory few g.numbered parts standing listed imported_names constant_names names lists d are_drawn))
+      (rw bound (all_apart s l.«module» paths held memory few g.numbered parts standing listed imported_names constant_names names lists c.hosts (lines_apart c.hosts hosts_apart)
+      (constants_apart c.hosts hosts_apart) (published.tree_no_host s m l b n g.declares g.declared) lists_no_host outside)) in
       let exported : EachItem (IsExported (export_names (rewritten s l))) [] all = rw (rewritten_exports s l) at k.exported in
       let asked : List Item → Item → List Item → Type 0 = IsPrescribed s starts (frame_of s l) in
       let each = each_item g (λ item. (before after : List Item) → before ++ item ∷ after ≡ all → asked before item after) g.helpers
@@ -561,7 +612,7 @@ module _ (s : Settings) (m : NameMap) (l : Lowered) (items : List Item) (b : Fac
       (published.tree_prescribed s m l b n g.declares g.declared well all (declared_stands g g.helpers) starts (frame_of s l)))
       (λ place item k x before after e. rw (define_role s m l place item x) tt)
       (λ before after e. (frame_told s.target s.stem (frame_of s l) b.deno).0) (λ before after e. (frame_told s.target s.stem (frame_of s l) b.deno).1)
-      (held_so _ (λ entry before after e. tt)) (λ before after e. rw b.deno (inl refl)) in
+      (lists_so _ (λ x before after e. tt)) (held_so _ (λ entry before after e. tt)) (λ before after e. rw b.deno (inl refl)) in
       let prescribed : EachItem asked [] all = each_among asked all [] all refl (λ before item after k e.
       each_at (λ item. (before after : List Item) → before ++ item ∷ after ≡ all → asked before item after) item all each k before after e) in
       let framed : EachItem (IsPrescribed s starts (frame_in s.stem (rewritten s l))) [] all =
@@ -577,6 +628,7 @@ module _ (s : Settings) (m : NameMap) (l : Lowered) (items : List Item) (b : Fac
         none_given (λ item. defined_by item.role) (foreign_lines 1 paths) (each_line _ 1 paths (λ n path less. refl)),
         constants_none (λ item. defined_by item.role) imported.import_defined,
         none_given (λ item. defined_by item.role) g.declares (published.tree_defines s m l b n g.declares g.declared),
+        lists_none (λ item. defined_by item.role) (λ e. refl),
         none_given (λ item. defined_by item.role) g.helpers (held_so _ (λ entry. refl)),
       ) (simp (flat_map_single, map-id, append-nil)) in
       let moved = g.by_place.same in
@@ -590,7 +642,7 @@ module _ (s : Settings) (m : NameMap) (l : Lowered) (items : List Item) (b : Fac
             (constants_so _ (λ item h before after. imported.import_function item h s m l (rewritten s l)))
             (all_kept _ _ g.declares (λ item i h before after. h) (published.tree_functions s m l b n g.declares g.declared))
             (λ place item h x before after. define_holds s m l place item h (b.defined place h) x)
-            (λ before after. tt) (λ before after. tt) (held_so _ (λ entry before after. tt)) (λ before after. tt));
+            (λ before after. tt) (λ before after. tt) (lists_so _ (λ e before after. tt)) (held_so _ (λ entry before after. tt)) (λ before after. tt));
         given = item_exported s l m n.items;
       }
 
@@ -604,7 +656,7 @@ module _ (s : Settings) (m : NameMap) (l : Lowered) (items : List Item) (b : Fac
       (each_line _ 1 paths (λ n path less. tt))
       (constants_so _ (λ item h. imported.import_named item h s l.aux all))
       (published.items_named s m l b n g.declares g.declared well all (declared_stands g g.helpers) reexport_bound)
-      (λ place item k x. rw (define_role s m l place item x) tt) tt tt (held_so _ (λ entry. tt)) tt
+      (λ place item k x. rw (define_role s m l place item x) tt) tt tt (lists_so _ (λ e. tt)) (held_so _ (λ entry. tt)) tt
 
   -- the glue file publishes no fixed name
   none_fixed : fixed_public s l.«module» l.wit l.aux ≡ []
@@ -619,6 +671,7 @@ module _ (s : Settings) (m : NameMap) (l : Lowered) (items : List Item) (b : Fac
         lines_none published_by imported.import_published,
         none_given published_by (foreign_lines 1 paths) (each_line _ 1 paths (λ n path less. refl)),
         constants_none published_by imported.import_published,
+        lists_none published_by (λ e. refl),
         none_given published_by g.helpers (held_so _ (λ entry. refl)),
       ) (simp (flat_none, append-nil)) in
       let none : fixed_published all ≡ [] =
@@ -628,6 +681,7 @@ module _ (s : Settings) (m : NameMap) (l : Lowered) (items : List Item) (b : Fac
         none_given fixed_by (foreign_lines 1 paths) (lines_inner 1 paths),
         constants_none fixed_by imported.import_fixed,
         none_given fixed_by g.declares (published.tree_fixed s m l b n g.declares g.declared),
+        lists_none fixed_by list_inner,
         none_given fixed_by g.helpers held_fixed,
       ) (simp (flat_none, fixed.start_fixed, end_fixed, fixed.loading_fixed)) in
       record {

@@ -370,6 +370,10 @@ module _ (s : Settings) (l : Lowered) (m : NameMap) (known : m.wasm ≡ item_map
       refl helper e
   provides (instr.MemoryToString id) printed helper e =
       by_memory 21 memory.GetString (instr.MemoryToString id) id printed (inl refl) (omega arith) refl (λ export. refl) refl helper e
+  provides (instr.LoadRetptr offset ty id) printed helper e =
+      by_memory 8 memory.DataView (instr.LoadRetptr offset ty id) id printed (inl refl) (omega arith) refl (λ export. refl) refl helper e
+  provides (instr.StoreRetptr offset ty id) printed helper e =
+      by_memory 8 memory.DataView (instr.StoreRetptr offset ty id) id printed (inl refl) (omega arith) refl (λ export. refl) refl helper e
   provides (instr.VecFromWasm vectors.I8 id) printed helper e =
       by_memory 9 (memory.GetArray element.I8) (instr.VecFromWasm vectors.I8 id) id printed (inl refl) (omega arith) refl (λ export. refl) refl helper e
   provides (instr.VecFromWasm vectors.U8 id) printed helper e =

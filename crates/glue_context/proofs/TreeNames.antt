@@ -1,7 +1,7 @@
 -- The names of what a description publishes: each entry of its tree declares one that is drawn for it, or is a re-export, and each namespace at
 -- the root has one that is drawn for it. No two have one, and none is taken for anything else.
 use Rattle.glue_context.proofs.Common.{◌≡◌, ℕ, inl, inr, List, [], ◌∷◌, ◌++◌, flat_map, Bool, true, false, true≢false, Option, Some, None, refl, sym, ap, ◌∙◌, subst, AllZip, IsIn, AreDistinct, AreApart, Item, bound_name, bound_names, AuxExport, Settings, NameMap, AreNames, Lowered, host_names, fixed_names, declared_name, is_named, AreFunctionItems, AreTreeItems}
-use Rattle.std.specs.Prelude.{cond, if◌then◌else◌}
+use Rattle.std.specs.Prelude.{cond, if◌then◌else◌, map}
 use Rattle.std.proofs.lemmas.List.Sums.{AllPass-from_list_all}
 use Rattle.std.specs.Ordering.{nat_cmp}
 use Rattle.std.specs.Cmp.Lexicographic.{slice_cmp}
@@ -24,6 +24,7 @@ use Rattle.glue_exports.proofs.Sorted.{first_behind, rest_ordered}
 use Rattle.glue_public.specs.Described.{FunctionItems, described, entry_of, enum_name, function_definition, lone_functions}
 pub use Rattle.glue_public.proofs.TreeFacts.{OfFunction, OfEnum, OfReexport}
 use Rattle.glue_public.proofs.TreeFacts.{HasItems, IsOf, each_zip, entry_is, function_in, namespace_root, pairs, qualified_of, same_qualified, tree_is}
+use Rattle.glue_names.specs.Given.{values_name}
 use Rattle.glue_names.specs.Publishing.{qualified}
 use Rattle.glue_naming.specs.declared.named.Named.{Named}
 use Rattle.glue_naming.specs.declared.named.Named.TheVariants.{Enum, Function, Import, Namespace}
@@ -34,7 +35,7 @@ use Rattle.glue_naming.proofs.Arranged.{each_is}
 use Rattle.glue_naming.proofs.EnumNames.{enum_named}
 use Rattle.glue_naming.proofs.Functions.{all_named, name_given}
 use Rattle.glue_naming.proofs.Namespaces.{root_named}
-use Rattle.glue_naming.proofs.Reserved.{free_no_fixed, free_no_host}
+use Rattle.glue_naming.proofs.Reserved.{free_no_fixed, free_no_host, free_no_values}
 use Rattle.glue_context.proofs.Facts.{Facts}
 use Rattle.glue_context.proofs.Fits.{declared, declared_binds}
 
@@ -282,12 +283,15 @@ module _ (s : Settings) (m : NameMap) (l : Lowered) (b : Facts s l) (n : AreName
     pub tree_ident : (name : List ℕ) → IsIn name (bound_names declares) → is_ident name ≡ true
     tree_ident name i = let g = bound_given name i in n.good.idents g.thing name g.given
 
-    -- none is of the host, or one that the glue file binds in each case
+    -- none is of the host, one that the glue file binds in each case, or that of a list of a string enum
     pub tree_no_host : AreApart (bound_names declares) (host_names s l.aux)
     tree_no_host = free_no_host s l (bound_names declares) (λ name i. let g = bound_given name i in n.good.free g.thing name g.given)
 
     pub tree_no_fixed : AreApart (bound_names declares) (fixed_names s l.«module»)
     tree_no_fixed = free_no_fixed s l (bound_names declares) (λ name i. let g = bound_given name i in n.good.free g.thing name g.given)
+
+    pub tree_no_values : AreApart (bound_names declares) (map values_name l.aux.string_enums)
+    tree_no_values = free_no_values s l (bound_names declares) (λ name i. let g = bound_given name i in n.good.free g.thing name g.given)
 
     -- and none is drawn for what an import begins with
     pub tree_apart : (names : List (List ℕ)) → ((x : List ℕ) → IsIn x names → (js : JsImportName) × (import_name m js ≡ Some x))

@@ -12,8 +12,8 @@ use Rattle.wasm_core.specs.entries.ExportItem.TheVariants as items
 use Rattle.wasm_core.specs.Contents.{Contents, IsLive}
 use Rattle.wasm_core.specs.Edits.{with_import, with_export, with_func, without_start, IsLiveItem}
 pub use Rattle.glue_names.specs.Naming.{has_start}
+use Rattle.glue_names.specs.Naming.{shim_name, start_name}
 use Rattle.glue_context.specs.declared.edits.Edits.{Edits}
-use Rattle.glue_context.specs.declared.edits.TheConstants.{SHIM, START}
 
 -- an import that comes from this module, under this name, from now on
 abbrev pub with_moved : Contents → ImportId × List ℕ × List ℕ → Contents
@@ -34,23 +34,22 @@ shim_body g = record {
   ops = op.Local 0x20 0 ∷ op.Global 0x23 (record { 0 = g }) ∷ op.Plain 0x6A ∷ op.Global 0x24 (record { 0 = g }) ∷ op.Global 0x23 (record { 0 = g }) ∷ [];
 }
 
--- a function that moves the stack pointer, and its export
+-- the shim, a function that moves the stack pointer of the module, and its export
 abbrev pub with_shim : Option GlobalId → Contents → Contents
 with_shim None m = m
-with_shim (Some g) m = with_export SHIM.now (items.Func (record { 0 = length m.funcs })) (with_func shim_type SHIM.now (shim_body g.0) m)
+with_shim (Some g) m = with_export shim_name (items.Func (record { 0 = length m.funcs })) (with_func shim_type shim_name (shim_body g.0) m)
 
 -- no start function, and the one that stood is exported
 abbrev pub with_start_exported : Option FuncId → Contents → Contents
 with_start_exported None m = m
-with_start_exported (Some f) m = with_export START.now (items.Func f) (without_start m)
+with_start_exported (Some f) m = with_export start_name (items.Func f) (without_start m)
 
 -- the same, where that is asked for
 abbrev pub with_start_moved : Bool → Contents → Contents
 with_start_moved true m = with_start_exported m.start m
 with_start_moved false m = m
 
--- the module with these changes and no other: its imports moved, exports added, the function of the stack pointer, the start
--- function moved, one after the other
+-- the module with these changes and no other: its imports moved, exports added, the shim, the start function moved, one after the other
 abbrev pub edited : Edits → Contents → Contents
 edited e m = with_start_moved e.start (with_shim e.shim (fold with_added (fold with_moved m e.imports) e.exports))
 
@@ -59,7 +58,7 @@ abbrev pub HasStart : Bool → Contents → Type 0
 HasStart true m = IsSomeAnd m.start (λ f. IsLive m.funcs f.0)
 HasStart false m = Unit {0}
 
--- the changes name entries of the module
+-- what moves and what is exported are entries of the module
 pub record AreFit (e : Edits) (m : Contents) : Type 0 where
   pub imports : All (λ (x : ImportId × List ℕ × List ℕ). IsLive m.imports x.0.0) e.imports
   pub exports : All (λ (x : List ℕ × ExportItem). IsLiveItem m x.1) e.exports

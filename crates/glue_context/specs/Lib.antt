@@ -9,5 +9,6 @@ pub mod ImportedItems
 pub mod Items
 pub mod Keys
 pub mod Linked
+pub mod ListedItems
 pub mod Parts
 pub mod Rewritten

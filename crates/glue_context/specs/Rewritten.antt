@@ -1,5 +1,6 @@
 -- The module that is written: what is changed in the collected one is told by settings and description.
-use Rattle.std.specs.Prelude.{ℕ, List, ◌++◌, Option, None, option_map, option_and_then, filter_map}
+use Rattle.std.specs.Prelude.{ℕ, List, ◌++◌, Option, None, option_map, option_and_then, filter_map, if◌then◌else◌}
+use Rattle.wasm_core.specs.ids.GlobalId.{GlobalId}
 use Rattle.wasm_core.specs.ids.ImportId.{ImportId}
 use Rattle.wasm_core.specs.Contents.{Contents}
 use Rattle.wasm_core.specs.declared.types.Import.{Import}
@@ -12,6 +13,7 @@ use Rattle.glue_lines.specs.Grouped.{source_of}
 use Rattle.glue_naming.specs.Handed.{handed_imports}
 use Rattle.taken_items.specs.ItemNames.{added_exports}
 pub use Rattle.glue_names.specs.Modules.{glue_module}
+use Rattle.glue_names.specs.Printed.{uses_shim}
 use Rattle.glue_context.specs.declared.edits.Edits.{Edits}
 use Rattle.glue_context.specs.Edits.{has_start, edited}
 
@@ -31,12 +33,18 @@ all_moves settings l =
     filter_map (move_of settings.stem l.«module».imports) (own_imports settings l.«module» l.wit l.aux)
     ++ filter_map (handed_move l.«module».imports) (handed_imports settings l)
 
--- what is changed: imports move, items that own imports ask for are exported where they aren't, and a start function becomes an export
+-- The global over which the module gets a function that moves its stack pointer, the shim: it is the part of the description that tells where
+-- the stack of the module ends, where the function of an adapter takes room for results; a description without a fault has that part then.
+abbrev pub shim_global : Settings → Lowered → Option GlobalId
+shim_global settings l = if uses_shim settings l then l.aux.stack_pointer else None
+
+-- what is changed: imports move, items that adapters ask for are exported where they aren't, the shim is added and exported where functions call
+-- it, and a start function becomes an export
 abbrev pub edits_of : Settings → Lowered → Edits
 edits_of settings l = record {
   imports = all_moves settings l;
   exports = added_exports settings l;
-  shim = None;
+  shim = shim_global settings l;
   start = has_start l.«module»;
 }
 

@@ -4,10 +4,11 @@ ghost use Rattle.wasm_core.specs.declared.types.Import as declared;
 ghost use Rattle.glue_shared.specs.Names.{own_imports};
 ghost use Rattle.glue_steps.specs.Resolving.{entry_at};
 ghost use Rattle.glue_context.specs.Edits as spec;
-ghost use Rattle.glue_context.specs.Rewritten.{move_of, handed_move, all_moves, edits_of};
+ghost use Rattle.glue_context.specs.Rewritten.{move_of, handed_move, all_moves, shim_global, edits_of};
 
 use glue_check::{glue_module_name, has_start};
 use glue_lines::source_of;
+use glue_names::{SHIM, START, uses_shim};
 use glue_naming::handed_imports;
 use glue_scope::Names;
 use glue_shared::{JsImportName, Lowered, Settings};
@@ -15,12 +16,6 @@ use std::alloc::{AllocError, Global};
 use taken_items::added_exports;
 use values::{Duplicate, Seq, Text};
 use wasm_core::{Body, ExportItem, FuncType, GlobalId, ImportId, Module, Op, ValType};
-
-/// The name of the function that moves the stack pointer, and of its export.
-pub const SHIM: &str = "__wbindgen_add_to_stack_pointer";
-
-/// The export that a start function becomes.
-pub const START: &str = "__wbindgen_start";
 
 // Opcodes (WebAssembly core specification, 5.4).
 const LOCAL_GET: u8 = 0x20;
@@ -38,7 +33,7 @@ pub struct Edits {
     pub imports: Seq<(ImportId, Text, Text)>,
     /// Exports that are added, in order: each with its name.
     pub exports: Seq<(Text, ExportItem)>,
-    /// The global over which the function of the name `SHIM` is added and exported.
+    /// The global over which the shim is added and exported: it holds the stack pointer.
     pub shim: Option<GlobalId>,
     /// Whether the start function becomes the export `START`.
     pub start: bool,
@@ -174,7 +169,23 @@ pub(crate) fn all_moves(
     Ok(moves)
 }
 
-/// What settings and a description ask to be changed in the collected module. Want of memory is the only error.
+// The global over which the shim is added, where the function of an adapter takes room for results.
+fn shim_global(
+    alloc: Global,
+    settings: &Settings,
+    lowered: &Lowered,
+) -> Result<Option<GlobalId>, AllocError>
+    ensures global { IfOk result (λ global. global ≡ shim_global settings.now lowered.now) }
+{
+    if uses_shim(alloc, settings, lowered)? {
+        Ok(lowered.aux.stack_pointer)
+    } else {
+        Ok(None)
+    }
+}
+
+/// What settings and a description ask to be changed in the collected module. The shim, a function that moves the stack pointer, is added and
+/// exported where the function of an adapter takes room for results: that function calls it. Want of memory is the only error.
 pub fn edits_of<N: Names>(
     alloc: Global,
     settings: &Settings,
@@ -185,10 +196,11 @@ pub fn edits_of<N: Names>(
 {
     let imports = all_moves(alloc, settings, lowered)?;
     let exports = added_exports::<N>(alloc, settings, lowered)?;
+    let shim = shim_global(alloc, settings, lowered)?;
     Ok(Edits {
         imports,
         exports,
-        shim: None,
+        shim,
         start: has_start(&lowered.module),
     })
 }
@@ -228,7 +240,7 @@ fn shim_body(alloc: Global, global: GlobalId) -> Result<Body, AllocError>
     })
 }
 
-// Adds and exports a function that moves the stack pointer, which the global holds.
+// Adds and exports the shim over the global that holds the stack pointer.
 #[tactic(auto, using(std::proofs::lemmas::Grind::common_steps, std::proofs::lemmas::Option::slice_get_cases), unfolding(wasm_core::specs::Edits::with_func))]
 fn add_shim(alloc: Global, module: &mut Module, global: GlobalId) -> Result<(), AllocError>
     ensures added { OnOk result («module».new ≡ spec.with_shim (Some global) «module».old) }
@@ -266,9 +278,8 @@ fn export_start(alloc: Global, module: &mut Module) -> Result<(), AllocError>
     Ok(())
 }
 
-/// Changes the module as the edits say, and nothing else of it: imports move, exports are added, the function of the stack
-/// pointer is added and exported, and the start function becomes an export. Want of memory is the only error; then some of the
-/// changes are made, and the module is of no use.
+/// Changes the module as the edits say, and nothing else of it: imports move, exports are added, the shim is added and exported, and the
+/// start function becomes an export. Want of memory is the only error; then some of the changes are made, and the module is of no use.
 #[tactic(auto, using(std::proofs::lemmas::Grind::common_steps, std::proofs::lemmas::Option::slice_get_cases), unfolding(wasm_core::specs::Edits::with_import, wasm_core::specs::Edits::with_export, wasm_core::specs::Edits::with_func))]
 pub fn apply_edits(alloc: Global, module: &mut Module, edits: &Edits) -> Result<(), AllocError>
     requires fit { spec.AreFit edits.now «module».old }

@@ -1,5 +1,5 @@
 //! The items of the glue file, group by group: the lines that take modules, the vendor constants, what the description declares, the frame
-//! with the definitions of imports, the helpers for which these ask, and loading.
+//! with the definitions of imports, the lists of string enums, the helpers for which these ask, and loading.
 ghost use Rattle.std.specs.Prelude.{◌≡◌, List, ◌++◌, ◌∷◌, [], IfOk, map, None, true};
 ghost use Rattle.std.specs.List.{list_all};
 ghost use Rattle.wasm_core.specs.ids.ImportId.{ImportId};
@@ -15,6 +15,7 @@ use crate::exported::{joined, published_items};
 use crate::foreign::foreign_lines;
 use crate::frame::{FrameParts, frame_parts};
 use crate::imported::{imported_lines, vendor_constants};
+use crate::listed::enum_lists;
 use crate::parts::helper_parts;
 use glue_check::has_start;
 use glue_imports::Basis;
@@ -75,6 +76,8 @@ fn front_groups<N: Names>(
     )?;
     let end_group = one_item(alloc, end)?;
     groups.push(end_group)?;
+    let lists = enum_lists(alloc, basis.settings, indexed.lowered())?;
+    groups.push(lists)?;
     Ok(groups)
 }
 

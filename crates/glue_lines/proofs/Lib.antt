@@ -4,4 +4,5 @@ mod Grouping
 pub mod LineFacts
 mod Placing
 pub mod Shown
+pub mod TextsFacts
 pub mod VendorFacts

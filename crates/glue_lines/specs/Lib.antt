@@ -1,3 +1,4 @@
 pub mod Grouped
 pub mod Lines
+pub mod Texts
 pub mod Vendor

@@ -2,6 +2,7 @@
 use crate::form::LineForm;
 use crate::grouped::import_lines;
 use crate::lines::{foreign_line, import_line};
+use crate::texts::texts_constant;
 use crate::vendor::vendor_constant;
 use glue_shared::JsImportName;
 use glue_words::{Item, print};
@@ -115,6 +116,23 @@ const CONSTANTS: [(&str, &str, &[&str], &str); 3] = [
     ),
 ];
 
+// The bound name, the texts, and the constant.
+const LISTS: [(&str, &[&str], &str); 4] = [
+    (
+        "__wbindgen_enum_S",
+        &["initSync", "apply", "class"],
+        "const __wbindgen_enum_S = [\"initSync\", \"apply\", \"class\"];\n",
+    ),
+    ("__wbindgen_enum_E", &[], "const __wbindgen_enum_E = [];\n"),
+    ("one", &[""], "const one = [\"\"];\n"),
+    // whatever the text is, it stays in its literal
+    (
+        "größe",
+        &["a\"];\nalert(1);//", "\u{2028}*/`${x}`'\\\r\u{2029}\u{0}"],
+        "const größe = [\"a\\\"];\\nalert(1);//\", \"\\u2028*/`${x}`'\\\\\\r\\u2029\\x00\"];\n",
+    ),
+];
+
 fn assert_printed<H: Abort>(
     rt: &H,
     alloc: Global,
@@ -177,6 +195,17 @@ fn vendor_constant_texts(rt: HostRuntime) -> Result<(), AllocError> {
     for (bound, name, list, want) in &CONSTANTS {
         let prefixes = texts(alloc, list)?;
         let item = vendor_constant(alloc, bound, name, prefixes.as_slice());
+        assert_printed(&rt, alloc, item, want)?;
+    }
+    Ok(())
+}
+
+#[test]
+fn texts_constant_texts(rt: HostRuntime) -> Result<(), AllocError> {
+    let alloc = rt.alloc();
+    for (bound, list, want) in &LISTS {
+        let texts = texts(alloc, list)?;
+        let item = texts_constant(alloc, bound, texts.as_slice());
         assert_printed(&rt, alloc, item, want)?;
     }
     Ok(())
