@@ -13,10 +13,10 @@ pub const PROTO_NAME: Edit = (r#""name":"add""#, r#""name":"__proto__""#);
 /// One name for the two parameters.
 pub const ONE_NAME: Edit = (r#"["a","b"]"#, r#"["a"]"#);
 
-/// A return pointer in place of a number.
-pub const RETURN_POINTER: Edit = (
+/// An object of a class in place of a number.
+pub const CLASS_OBJECT: Edit = (
     r#"["CallExport",0],["WasmToInt32",false]"#,
-    r#"["CallExport",0],["Retptr",16]"#,
+    r#"["CallExport",0],["ClassFromPtr","C"]"#,
 );
 
 /// An instruction that nothing carries out.

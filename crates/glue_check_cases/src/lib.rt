@@ -20,6 +20,8 @@ mod described;
 #[cfg(test)]
 mod edits;
 #[cfg(test)]
+mod enums;
+#[cfg(test)]
 mod memory;
 #[cfg(test)]
 mod modules;
@@ -35,5 +37,7 @@ mod published;
 mod reexported;
 #[cfg(test)]
 mod references;
+#[cfg(test)]
+mod rooms;
 #[cfg(test)]
 mod unbuilt;

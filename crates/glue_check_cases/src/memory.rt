@@ -39,15 +39,8 @@ const TYPES: &[Group] = &[
             r#"["string",{"option":"string"}]"#,
             r#"[{"vec":"U8"},{"option":{"vec":"Value"}}]"#,
             r#"[{"option":"bool"},{"option":"u64"}]"#,
-        ],
-    ),
-    (
-        WITH_MEMORY,
-        ARGUMENTS,
-        "NotBuilt instructions",
-        &[
             r#"["string",{"string_enum":"E"}]"#,
-            r#"[{"option":{"enum":"E"}},"string"]"#,
+            r#"[{"option":{"enum":"E"}},{"union":"U"}]"#,
         ],
     ),
 ];

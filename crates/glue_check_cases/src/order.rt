@@ -3,9 +3,9 @@
 use crate::checking::{Asked, AskedCase, Case, assert_asked, assert_cases};
 use crate::described::Edit;
 use crate::edits::{
-    ADD_IMPORT, ADDING, BARE_LINK, CALL_MORE, CALLING_NOTHING, GLOBAL_WASM, LOGGING, MODULE,
-    NO_CODE, NO_PAIR, ONE_NAME, PACKAGE, PROTO_NAME, REEXPORT, RETURN_POINTER, SAME_PAIR,
-    SECOND_ADD, SECOND_LAST, SECOND_PAIR, SUM, UNSUPPORTED,
+    ADD_IMPORT, ADDING, BARE_LINK, CALL_MORE, CALLING_NOTHING, CLASS_OBJECT, GLOBAL_WASM, LOGGING,
+    MODULE, NO_CODE, NO_PAIR, ONE_NAME, PACKAGE, PROTO_NAME, REEXPORT, SAME_PAIR, SECOND_ADD,
+    SECOND_LAST, SECOND_PAIR, SUM, UNSUPPORTED,
 };
 use crate::modules::{
     ADD, BOTH_TWICE, CROSSED_EXPORTS, CROSSED_IMPORTS, EXPORTED_TWICE, TWO_IMPORTS,
@@ -34,12 +34,9 @@ const PAIRS: &[AskedCase] = &[
     (&[Asked::Web], (WITH_TABLE_IMPORT, &[], "NotBuilt target")),
     (
         &[],
-        (WITH_TABLE_IMPORT, &[RETURN_POINTER], "NotBuilt imports"),
+        (WITH_TABLE_IMPORT, &[CLASS_OBJECT], "NotBuilt imports"),
     ),
-    (
-        &[],
-        (ADD, &[RETURN_POINTER, CLASS], "NotBuilt instructions"),
-    ),
+    (&[], (ADD, &[CLASS_OBJECT, CLASS], "NotBuilt instructions")),
     (&[Asked::Debug], (ADD, &[CLASS], "NotBuilt classes")),
     (&[Asked::Debug], (ADD, &[REINIT], "NotBuilt settings")),
     (&[], (ADD, &[REINIT, SNIPPET], "NotBuilt lifecycle")),

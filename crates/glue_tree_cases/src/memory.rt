@@ -1,4 +1,5 @@
-//! Functions of steps that pass strings and vectors through memory: steps, the names that the parameters want, and the text.
+//! Functions of steps that pass strings, vectors and results through memory, or texts through lists: steps, the names that the parameters
+//! want, and the text.
 use crate::compare::assert_told;
 use glue_binding::bind;
 use glue_inputs::{printed, texts};
@@ -26,6 +27,16 @@ enum Row {
     WriteUnlessAbsent(&'static str, &'static [&'static str]),
     Free(&'static str, u32),
     Copied(&'static str),
+    /// Room of so many bytes.
+    Room(u32),
+    /// What a view reads so many bytes behind the address of the room, or writes so many behind that of the first parameter, in 32 or 64 bits.
+    Load32(&'static str, u32),
+    Load64(&'static str, u32),
+    Store32(&'static str, u32),
+    Store64(&'static str, u32),
+    /// The place of a text in a list, and the text at a place.
+    IndexOf(&'static str),
+    ItemAt(&'static str),
 }
 
 fn call_export(
@@ -54,6 +65,22 @@ fn write(
     })
 }
 
+fn load(alloc: Global, view: &str, offset: u32, is_wide: bool) -> Result<Step, AllocError> {
+    Ok(Step::LoadReturn {
+        view: Text::from_str(alloc, view)?,
+        offset,
+        is_wide,
+    })
+}
+
+fn store(alloc: Global, view: &str, offset: u32, is_wide: bool) -> Result<Step, AllocError> {
+    Ok(Step::StoreReturn {
+        view: Text::from_str(alloc, view)?,
+        offset,
+        is_wide,
+    })
+}
+
 fn step(alloc: Global, row: Row) -> Result<Step, AllocError> {
     match row {
         Row::Parameter(place) => Ok(Step::Parameter(place)),
@@ -75,6 +102,17 @@ fn step(alloc: Global, row: Row) -> Result<Step, AllocError> {
         }),
         Row::Copied(name) => Ok(Step::CopyOut {
             helper: Text::from_str(alloc, name)?,
+        }),
+        Row::Room(size) => Ok(Step::ReturnPointer { size }),
+        Row::Load32(view, offset) => load(alloc, view, offset, false),
+        Row::Load64(view, offset) => load(alloc, view, offset, true),
+        Row::Store32(view, offset) => store(alloc, view, offset, false),
+        Row::Store64(view, offset) => store(alloc, view, offset, true),
+        Row::IndexOf(name) => Ok(Step::IndexOf {
+            list: Text::from_str(alloc, name)?,
+        }),
+        Row::ItemAt(name) => Ok(Step::ItemAt {
+            list: Text::from_str(alloc, name)?,
         }),
     }
 }
@@ -263,4 +301,86 @@ const NAMES: &[Case] = &[
 #[test]
 fn addresses_and_lengths_have_names_of_their_own(rt: HostRuntime) -> Result<(), AllocError> {
     assert_all(&rt, rt.alloc(), NAMES)
+}
+
+/// The view of the first memory.
+const VIEW: &str = "getDataViewMemory0";
+
+const ROOMS: &[Case] = &[
+    // A string comes out by its address and its length.
+    (
+        &[
+            Row::Room(16),
+            Row::Done("name", 1),
+            Row::Load32(VIEW, 0),
+            Row::Load32(VIEW, 4),
+            Row::Free("free", 1),
+            Row::Helper("getStringFromWasm0", 2),
+        ],
+        &[],
+        "() {\nconst retptr = wasm.__wbindgen_add_to_stack_pointer(-16);\ntry {\nwasm.name(retptr);\nconst v0 = getDataViewMemory0().getInt32(retptr + 0, true);\nconst v1 = getDataViewMemory0().getInt32(retptr + 4, true);\ntry {\nconst v2 = getStringFromWasm0(v0, v1);\nreturn v2;\n} finally {\nwasm.free(v0, v1, 1);\n}\n} finally {\nwasm.__wbindgen_add_to_stack_pointer(16);\n}\n}",
+    ),
+    // An integer of 64 bits does, of another memory; the room's address stands before what was there, and its name is a parameter's already.
+    (
+        &[
+            Row::Room(8),
+            Row::Parameter(0),
+            Row::Done("wide", 2),
+            Row::Load64("getDataViewMemory1", 0),
+            Row::Unsigned64,
+        ],
+        &["retptr"],
+        "(retptr) {\nconst retptr2 = wasm.__wbindgen_add_to_stack_pointer(-8);\ntry {\nwasm.wide(retptr2, retptr);\nconst v0 = getDataViewMemory1().getBigInt64(retptr2 + 0, true);\nconst v1 = BigInt.asUintN(64, v0);\nreturn v1;\n} finally {\nwasm.__wbindgen_add_to_stack_pointer(8);\n}\n}",
+    ),
+    // Room of no bytes.
+    (
+        &[Row::Room(0), Row::Done("f", 1)],
+        &[],
+        "() {\nconst retptr = wasm.__wbindgen_add_to_stack_pointer(0);\ntry {\nwasm.f(retptr);\n} finally {\nwasm.__wbindgen_add_to_stack_pointer(0);\n}\n}",
+    ),
+    // Results are written behind the first parameter.
+    (
+        &[
+            Row::Parameter(1),
+            Row::Unsigned,
+            Row::Store32(VIEW, 0),
+            Row::Parameter(2),
+            Row::Store64(VIEW, 8),
+        ],
+        &["arg0", "low", "wide"],
+        "(arg0, low, wide) {\ngetDataViewMemory0().setInt32(arg0 + 0, low >>> 0, true);\ngetDataViewMemory0().setBigInt64(arg0 + 8, wide, true);\n}",
+    ),
+];
+
+#[test]
+fn results_stand_in_room_that_is_given_back(rt: HostRuntime) -> Result<(), AllocError> {
+    assert_all(&rt, rt.alloc(), ROOMS)
+}
+
+const LISTS: &[Case] = &[
+    (
+        &[
+            Row::Parameter(0),
+            Row::IndexOf("__wbindgen_enum_Color"),
+            Row::Export("next", 1),
+            Row::ItemAt("__wbindgen_enum_Color"),
+        ],
+        &["color"],
+        "(color) {\nconst v0 = __wbindgen_enum_Color.indexOf(color);\nconst ret = wasm.next(v0);\nconst v1 = __wbindgen_enum_Color[ret];\nreturn v1;\n}",
+    ),
+    // A place may hold an operator.
+    (
+        &[
+            Row::Parameter(0),
+            Row::Unsigned,
+            Row::ItemAt("__wbindgen_enum_Color"),
+        ],
+        &["place"],
+        "(place) {\nconst v0 = __wbindgen_enum_Color[place >>> 0];\nreturn v0;\n}",
+    ),
+];
+
+#[test]
+fn texts_of_string_enums_pass_as_their_places(rt: HostRuntime) -> Result<(), AllocError> {
+    assert_all(&rt, rt.alloc(), LISTS)
 }

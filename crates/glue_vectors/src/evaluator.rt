@@ -56,8 +56,20 @@ fn with_zero(operator: BinaryOperator, value: Value) -> Came {
     }
 }
 
-fn is_zero(e: &Expr) -> bool {
-    matches!(e, Expr::Num(0))
+// `v op number`, for the operators that operands and places have.
+fn with_number(operator: BinaryOperator, value: Value, number: i64) -> Came {
+    match (operator, value) {
+        (BinaryOperator::Add, Value::Number(first)) => {
+            Came::Value(Value::Number(first.wrapping_add(number)))
+        }
+        _ => {
+            if number == 0 {
+                with_zero(operator, value)
+            } else {
+                Came::Ended
+            }
+        }
+    }
 }
 
 // A step that a name is told by.
@@ -93,6 +105,22 @@ fn write_next(
     }
 }
 
+// The read of a slot.
+fn read_slot(
+    run: &mut Run<'_>,
+    alloc: Global,
+    object: Value,
+    place: Value,
+) -> Result<Came, AllocError> {
+    let mut entry = String::new(alloc);
+    entry.push_str("read ")?;
+    push_value(alloc, object, &mut entry)?;
+    entry.push_str("[")?;
+    push_value(alloc, place, &mut entry)?;
+    entry.push_str("]")?;
+    run.step(entry.as_str())
+}
+
 /// The value of an expression.
 #[cycle(expressions)]
 pub fn value_of(run: &mut Run<'_>, alloc: Global, e: &Expr) -> Result<Came, AllocError> {
@@ -108,11 +136,11 @@ pub fn value_of(run: &mut Run<'_>, alloc: Global, e: &Expr) -> Result<Came, Allo
             _ => Ok(Came::Ended),
         },
         Expr::Binary(operator, left, right) => {
-            if !is_zero(right.get()) {
+            let Expr::Num(number) = right.get() else {
                 return Ok(Came::Ended);
-            }
+            };
             match value_of(run, alloc, left.get())? {
-                Came::Value(value) => Ok(with_zero(*operator, value)),
+                Came::Value(value) => Ok(with_number(*operator, value, *number)),
                 other => Ok(other),
             }
         }
@@ -124,6 +152,13 @@ pub fn value_of(run: &mut Run<'_>, alloc: Global, e: &Expr) -> Result<Came, Allo
                     value_of(run, alloc, second.get())
                 }
             }
+            other => Ok(other),
+        },
+        Expr::At(object, place) => match value_of(run, alloc, object.get())? {
+            Came::Value(object) => match value_of(run, alloc, place.get())? {
+                Came::Value(place) => read_slot(run, alloc, object, place),
+                other => Ok(other),
+            },
             other => Ok(other),
         },
         Expr::Call(f, arguments) => {

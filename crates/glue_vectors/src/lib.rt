@@ -14,6 +14,8 @@ mod evaluator;
 #[cfg(test)]
 mod memory;
 #[cfg(test)]
+mod rooms;
+#[cfg(test)]
 mod run;
 #[cfg(test)]
 mod vectors;

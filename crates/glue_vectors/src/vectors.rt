@@ -29,6 +29,15 @@ pub enum Row {
     /// What an export frees at the end, bytes that are aligned in no way.
     Freed(&'static str),
     Copied(&'static str),
+    /// Room of so many bytes.
+    Room(u32),
+    /// An integer of 32 bits that a view reads so many bytes behind the address of the room, or writes so many behind that of the first
+    /// parameter.
+    Load(&'static str, u32),
+    Store(&'static str, u32),
+    /// The place of a text in a list, and the text at a place.
+    IndexOf(&'static str),
+    ItemAt(&'static str),
 }
 
 fn write(
@@ -71,6 +80,23 @@ fn step(alloc: Global, row: Row) -> Result<Step, AllocError> {
         },
         Row::Copied(name) => Step::CopyOut {
             helper: Text::from_str(alloc, name)?,
+        },
+        Row::Room(size) => Step::ReturnPointer { size },
+        Row::Load(view, offset) => Step::LoadReturn {
+            view: Text::from_str(alloc, view)?,
+            offset,
+            is_wide: false,
+        },
+        Row::Store(view, offset) => Step::StoreReturn {
+            view: Text::from_str(alloc, view)?,
+            offset,
+            is_wide: false,
+        },
+        Row::IndexOf(name) => Step::IndexOf {
+            list: Text::from_str(alloc, name)?,
+        },
+        Row::ItemAt(name) => Step::ItemAt {
+            list: Text::from_str(alloc, name)?,
         },
     })
 }
