@@ -388,6 +388,94 @@ checks.values = ({ pass, same, state, last }) => {
     checkValues(pass, same, state, last);
 };
 
+checks.enums = ({ same, place, text, odd, after, lists }) => {
+    const colors = ["red", "green", "blue"];
+    const odds = ['a "quote"', "a\nline", "\u2028", "", "\\"];
+    // Each enum that a function names has its list, and no other.
+    assert.deepEqual(lists, [colors, odds, "undefined"]);
+    colors.forEach((color, at) => {
+        assert.equal(same(color), color);
+        assert.equal(place(color), at);
+        assert.equal(text(at), color);
+    });
+    odds.forEach((other, at) => assert.equal(odd(at), other));
+    // A text that the enum doesn't have is -1, and a place that it doesn't have is undefined.
+    for (const other of ["yellow", "", "Red", undefined, null, 0]) {
+        assert.equal(place(other), -1);
+        assert.equal(same(other), undefined);
+    }
+    for (const other of [-1, 3, 2147483647]) assert.equal(text(other), undefined);
+    // The import is given a text, and gives one.
+    globalThis.next = (color) => (calls.push(color), colors[(colors.indexOf(color) + 1) % 3]);
+    assert.deepEqual(colors.map(after), ["green", "blue", "red"]);
+    assert.deepEqual(calls.splice(0), colors);
+    globalThis.next = () => "yellow";
+    assert.equal(after("red"), undefined);
+};
+
+checks.results = ({ made, wide, low, checked, told, ended, state, last }, names) => {
+    const first = [1024, 0, 0, 0];
+    assert.deepEqual(state(), first);
+    // What moves the stack is exported behind all that the module exports.
+    assert.equal(names.at(-1), "__wbindgen_add_to_stack_pointer");
+    // Room of 16 bytes is taken while the export runs, also within another call, and given back.
+    globalThis.look = () => calls.push(state()[0]);
+    for (const [count, byte, text] of [[3, 0x61, "aaa"], [0, 0x61, ""], [2, 0xff, "\ufffd\ufffd"], [300000, 0x78, "x".repeat(300000)]]) {
+        assert.equal(made(count, byte), text);
+        assert.deepEqual(calls.splice(0), [1008]);
+        assert.deepEqual(state(), first);
+        assert.deepEqual(last(), [count, 1]);
+    }
+    let inner;
+    globalThis.look = () => {
+        calls.push(state()[0]);
+        globalThis.look = () => calls.push(state()[0]);
+        inner = made(2, 0x62);
+    };
+    assert.equal(made(1, 0x63), "c");
+    assert.equal(inner, "bb");
+    assert.deepEqual(calls.splice(0), [1008, 992]);
+    assert.deepEqual(state(), first);
+    // It is given back where an import throws, and where there is no memory for what is made.
+    globalThis.look = throwing;
+    assert.throws(() => made(1, 0x61), isError);
+    assert.deepEqual(state(), first);
+    globalThis.look = () => {};
+    assert.throws(() => made(1048577, 0x61), WebAssembly.RuntimeError);
+    assert.deepEqual(state(), first);
+    // Integers of 64 bits at their ends, and the 32 low ones.
+    for (const value of [0n, 1n, -1n, 9223372036854775807n, -9223372036854775808n, 4294967296n]) {
+        assert.equal(wide(value), value);
+        assert.equal(low(value), Number(BigInt.asUintN(32, value)));
+        assert.deepEqual(state(), first);
+    }
+    // A result, or a value that is thrown and taken out of the table before.
+    for (const value of [1, -1, 2147483647, -2147483648]) assert.equal(checked(value), value);
+    for (const value of [error, "text", undefined]) {
+        globalThis.fail = () => value;
+        assert.throws(() => checked(0), (thrown) => thrown === value);
+        assert.deepEqual(state(), first);
+    }
+    globalThis.fail = throwing;
+    assert.throws(() => checked(0), isError);
+    assert.deepEqual(state(), first);
+    // An import writes its results into room that the module took.
+    const heard = [];
+    globalThis.hear = (text) => heard.push(text);
+    for (const [text, arrives, units] of TEXTS) {
+        globalThis.tell = () => text;
+        told();
+        assert.deepEqual(heard.splice(0), [arrives]);
+        assert.deepEqual(state(), first);
+        assert.deepEqual(last(), [units.length, 1]);
+    }
+    for (const value of [0n, -1n, 9223372036854775807n, -9223372036854775808n]) {
+        globalThis.end = () => value;
+        assert.equal(ended(), value);
+        assert.deepEqual(state(), first);
+    }
+};
+
 checks.references = checkReferences;
 
 checks.named = (glue, names) => {

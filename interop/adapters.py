@@ -8,11 +8,14 @@
 - strings: strings of every kind of character, in and out, also ones that may be absent.
 - vectors: vectors of each kind of integers, empty and large, in and out.
 - values: vectors of any values, by the object table.
+- results: several results in room on the stack of the module: strings, integers of 32 and 64 bits at their ends, and results that are
+  thrown, out of exports and out of imports; where the stack ends is compared before and after, also where an import throws.
 - references: values that are given, taken, looked at and thrown, and vectors of them, by a table of references of the module.
 - named, unnamed: the same, where the module exports neither its memory nor its table nor the functions that allocate and
   free, and the functions have names, or none; the names of the exports that are added are compared.
+- enums: texts of string enums, in and out, and those that an enum doesn't have.
 
-The modules from the third on allocate memory by functions of their own, which count what is in use, fill what is freed with
+The modules from that of strings on allocate memory by functions of their own, which count what is in use, fill what is freed with
 other bytes, and trap where something is freed twice. What is in use is compared before and after, also where an import
 throws in between.
 
@@ -204,6 +207,54 @@ PASSED = """
 
 VALUES = module([("see", "(param i32 i32)")], ALLOCATOR, PASSED, COUNTS, EXPORTED)
 
+ENUMS = """(module
+  (import "__wbindgen_placeholder__" "next" (func $next (param i32) (result i32)))
+  (func (export "same") (param i32) (result i32) (local.get 0))
+  (func (export "after") (param i32) (result i32) (call $next (local.get 0))))"""
+
+# Where the stack of the module ends, and functions whose results stand there.
+STACK = """
+  (global $stack (mut i32) (i32.const 1024))"""
+
+RESULTS = module(
+    [
+        ("look", ""),
+        ("fail", "(result i32)"),
+        ("tell", "(param i32)"),
+        ("hear", "(param i32 i32)"),
+        ("end", "(param i32)"),
+    ],
+    STACK,
+    ALLOCATOR,
+    """
+  (func (export "made") (param $at i32) (param $count i32) (param $byte i32)
+    (call $look)
+    (i32.store (local.get $at) (call $malloc (local.get $count) (i32.const 1)))
+    (i32.store offset=4 (local.get $at) (local.get $count))
+    (memory.fill (i32.load (local.get $at)) (local.get $byte) (local.get $count)))
+  (func (export "wide") (param $at i32) (param $value i64)
+    (i32.store offset=4 (local.get $at) (i32.wrap_i64 (local.get $value)))
+    (i64.store offset=8 (local.get $at) (local.get $value)))
+  (func (export "checked") (param $at i32) (param $value i32)
+    (i32.store (local.get $at) (local.get $value))
+    (i32.store offset=8 (local.get $at) (i32.eqz (local.get $value)))
+    (if (i32.eqz (local.get $value)) (then (i32.store offset=4 (local.get $at) (call $fail)))))
+  (func (export "told") (local $at i32)
+    (global.set $stack (local.tee $at (i32.sub (global.get $stack) (i32.const 16))))
+    (call $tell (local.get $at))
+    (call $hear (i32.load (local.get $at)) (i32.load offset=4 (local.get $at)))
+    (call $free (i32.load (local.get $at)) (i32.load offset=4 (local.get $at)) (i32.const 1))
+    (global.set $stack (i32.add (local.get $at) (i32.const 16))))
+  (func (export "ended") (result i64) (local $at i32)
+    (global.set $stack (local.tee $at (i32.sub (global.get $stack) (i32.const 16))))
+    (call $end (local.get $at))
+    (global.set $stack (i32.add (local.get $at) (i32.const 16)))
+    (i64.load offset=8 (local.get $at)))
+  (func (export "stack") (result i32) (global.get $stack))""",
+    COUNTS,
+    EXPORTED,
+)
+
 # The functions of OBJECTS, less those that lend.
 HANDLED = """
   (global $kept (mut i32) (i32.const 0))
@@ -256,8 +307,8 @@ def described(number, title):
 
 def description(exports, imports):
     """Of each export its title, its place, the types, and its code with `call` for the call of the export; of each import
-    its title, the types of its call, the code before and behind it, and the types of its own arguments where they are
-    others."""
+    its title, the types of its call, the code before and behind it, and the types of its own arguments and of its own
+    results where they are others."""
     adapters, told, pairs, entries = [], [], [], []
     for number, (title, place, args, results, code) in enumerate(exports):
         steps = [["CallExport", place] if step == "call" else step for step in code]
@@ -265,8 +316,8 @@ def description(exports, imports):
         told.append(published(number, title))
     for place, (title, args, results, before, behind, *own) in enumerate(imports):
         local, call = 100 + place, 200 + place
-        given = own[0] if own else args
-        adapters.append(adapter(local, given, results, [*before, ["CallAdapter", call], *behind]))
+        given, back = [*own, *[args, results][len(own) :]]
+        adapters.append(adapter(local, given, back, [*before, ["CallAdapter", call], *behind]))
         adapters.append(called(call, args, results))
         pairs.append([place, local])
         entries.append(described(call, title))
@@ -331,6 +382,27 @@ def objects():
             ("use", ["externref"], [], [get(0), take], []),
         ],
     )
+
+
+def enums():
+    to_place, to_text = ["EnumIndex", "Color"], ["EnumText", "Color"]
+    color, odd = {"string_enum": "Color"}, {"string_enum": "Odd"}
+    said = description(
+        [
+            ("same", 0, [color], [color], [get(0), to_place, "call", to_text]),
+            ("place", 0, [color], ["s32"], [get(0), to_place, "call", ["WasmToInt32", False]]),
+            ("text", 0, ["s32"], [color], [get(0), step("Int32ToWasm"), "call", to_text]),
+            ("odd", 0, ["s32"], [odd], [get(0), step("Int32ToWasm"), "call", ["EnumText", "Odd"]]),
+            ("after", 1, [color], [color], [get(0), to_place, "call", to_text]),
+        ],
+        [("next", [color], [color], [get(0), to_text], [to_place], ["i32"])],
+    )
+    listed = [
+        {"name": "Unnamed", "variants": ["a"]},
+        {"name": "Odd", "variants": ['a "quote"', "a\nline", "\u2028", "", "\\"]},
+        {"name": "Color", "variants": ["red", "green", "blue"]},
+    ]
+    return said | {"string_enums": listed}
 
 
 # The functions that allocate, behind so many imports, and the memory.
@@ -409,6 +481,67 @@ def vectors():
     return description(exports, imports)
 
 
+def results():
+    malloc, free, realloc, memory = allocating(5)
+    number = step("Int32ToWasm")
+    low, high = ["LoadRetptr", 0, "i32", memory], ["LoadRetptr", 4, "i32", memory]
+    freed = ["DeferFree", free, 1]
+    said = description(
+        [
+            (
+                "made",
+                0,
+                ["u32", "u32"],
+                ["string"],
+                [["Retptr", 16], get(0), number, get(1), number, "call", low, high, freed, ["MemoryToString", memory]],
+            ),
+            (
+                "wide",
+                1,
+                ["s64"],
+                ["s64"],
+                [["Retptr", 16], get(0), step("Int64ToWasm"), "call", ["LoadRetptr", 8, "i64", memory], ["WasmToInt64", False]],
+            ),
+            (
+                "low",
+                1,
+                ["s64"],
+                ["u32"],
+                [["Retptr", 16], get(0), step("Int64ToWasm"), "call", high, ["WasmToInt32", True]],
+            ),
+            # A value, the handle of what is thrown, and the flag that says which of both counts.
+            (
+                "checked",
+                2,
+                ["s32"],
+                ["s32"],
+                [
+                    *[["Retptr", 16], get(0), number, "call", high, ["LoadRetptr", 8, "i32", memory]],
+                    *[step("UnwrapResult"), low, ["WasmToInt32", False]],
+                ],
+            ),
+            ("told", 3, [], [], ["call"]),
+            ("ended", 4, [], ["s64"], ["call", ["WasmToInt64", False]]),
+        ],
+        [
+            ("look", [], [], [], []),
+            ("fail", [], ["externref"], [], [step("IndexFromOwned")]),
+            (
+                "tell",
+                [],
+                ["string"],
+                [],
+                [["StringToMemory", malloc, realloc, memory], ["StoreRetptr", 4, "i32", memory], ["StoreRetptr", 0, "i32", memory]],
+                ["i32"],
+                [],
+            ),
+            ("hear", ["string"], [], [get(0), get(1), ["MemoryToString", memory]], [], ["i32", "i32"]),
+            ("end", [], ["s64"], [], [step("Int64ToWasm"), ["StoreRetptr", 8, "i64", memory]], ["i32"], []),
+        ],
+    )
+    return said | {"parts": {"stack_pointer": 0}}
+
+
 def passing(imports):
     """The exports that pass vectors of any values, and the import that is given one, where there are so many imports."""
     malloc, free, _, memory = allocating(imports)
@@ -477,6 +610,9 @@ class Case:
 
 STATE = "export const state = () => [heap.length, heap_next, stack_pointer];\n"
 
+# The lists that the glue file has.
+LISTS = "export const lists = [__wbindgen_enum_Color, __wbindgen_enum_Odd, typeof __wbindgen_enum_Unnamed];\n"
+
 IN_USE = """export const last = () => [wasm.length(), wasm.align()];
 export const state = () => [wasm.bytes(), wasm.blocks()];
 """
@@ -490,6 +626,9 @@ export const state = () => {
 };
 """
 
+# So it is, behind where the stack of the module ends.
+WITH_STACK = WITH_OBJECTS.replace("return [", "return [wasm.stack(), ")
+
 WITH_PLACES = """export const last = () => [wasm.length(), wasm.align()];
 export const state = () => [wasm.bytes(), wasm.blocks(), wasm.placed()];
 """
@@ -497,9 +636,11 @@ export const state = () => [wasm.bytes(), wasm.blocks(), wasm.placed()];
 CASES = {
     "numbers": Case(NUMBERS, numbers()),
     "objects": Case(OBJECTS, objects(), STATE),
+    "enums": Case(ENUMS, enums(), LISTS),
     "strings": Case(STRINGS, strings(), IN_USE),
     "vectors": Case(VECTORS, vectors(), IN_USE),
     "values": Case(VALUES, values(), WITH_OBJECTS),
+    "results": Case(RESULTS, results(), WITH_STACK),
     "references": Case(REFERRED, references(), WITH_PLACES, has_references=True),
     "named": Case(HIDDEN, references(), WITH_PLACES, has_names=True, has_references=True),
     "unnamed": Case(HIDDEN, references(), WITH_PLACES, has_references=True),
