@@ -388,6 +388,55 @@ checks.values = ({ pass, same, state, last }) => {
     checkValues(pass, same, state, last);
 };
 
+checks.closures = ({ give, share, deepen, destroyed, functions }) => {
+    // Those that are made have their functions, also where only another closure makes them, and the others don't.
+    assert.deepEqual(functions, ["function", "function", "undefined"]);
+    const kept = [];
+    for (const title of ["hold", "lend", "nest"]) globalThis[title] = (made) => void kept.push(made);
+    globalThis.again = (more) => void calls.push(more);
+    // Kept and called: the number at its address, with what it is called with added, times the number that it holds.
+    give(64, 3);
+    const [growing] = kept.splice(0);
+    assert.equal(growing(2), 6);
+    assert.equal(growing(5), 21);
+    assert.equal(growing(-1), 18);
+    assert.deepEqual(calls.splice(0), [2, 5, -1]);
+    // While one that may change what it holds is called, it has no address; after that it has it again.
+    globalThis.again = (more) => void (more > 1 && growing(more - 1));
+    assert.throws(() => growing(2), WebAssembly.RuntimeError);
+    assert.equal(growing(1), 21);
+    // One that changes nothing is called from within itself: 1, and 2 more, and 3 more.
+    share(128, 10);
+    const [shared] = kept.splice(0);
+    globalThis.again = (more) => void (more > 1 && shared(more - 1));
+    assert.equal(shared(3), 60);
+    // What is thrown within comes out, and the closure stays.
+    globalThis.again = () => {
+        throw new Error("not again");
+    };
+    assert.throws(() => shared(1), /^Error: not again$/);
+    assert.throws(() => growing(1), /^Error: not again$/);
+    globalThis.again = () => {};
+    assert.equal(shared(1), 70);
+    assert.equal(growing(1), 24);
+    assert.equal(destroyed(), 0);
+    // Given back, it is destroyed, and has no address any more.
+    growing._wbg_cb_unref();
+    assert.equal(destroyed(), 1);
+    assert.throws(() => growing(1), WebAssembly.RuntimeError);
+    assert.equal(destroyed(), 1);
+    // Given back while it is called, it is destroyed when the call ends.
+    globalThis.again = () => shared._wbg_cb_unref();
+    assert.equal(shared(2), 90);
+    assert.equal(destroyed(), 2);
+    // A closure that makes closures.
+    globalThis.again = () => {};
+    deepen(192, 7);
+    const [making] = kept.splice(0);
+    const inner = making();
+    assert.equal(inner(4), 28);
+    assert.equal(making()(1), 35);
+};
 checks.enums = ({ same, place, text, odd, after, lists }) => {
     const colors = ["red", "green", "blue"];
     const odds = ['a "quote"', "a\nline", "\u2028", "", "\\"];

@@ -14,6 +14,8 @@
 - named, unnamed: the same, where the module exports neither its memory nor its table nor the functions that allocate and
   free, and the functions have names, or none; the names of the exports that are added are compared.
 - enums: texts of string enums, in and out, and those that an enum doesn't have.
+- closures: functions of closures of the module that JavaScript keeps: called, called from within themselves, called where an import
+  throws, given back, and called after that; a closure that makes closures; and which closures' functions the glue file has.
 
 The modules from that of strings on allocate memory by functions of their own, which count what is in use, fill what is freed with
 other bytes, and trap where something is freed twice. What is in use is compared before and after, also where an import
@@ -212,6 +214,28 @@ ENUMS = """(module
   (func (export "same") (param i32) (result i32) (local.get 0))
   (func (export "after") (param i32) (result i32) (call $next (local.get 0))))"""
 
+# A closure is the address of a number and what it is multiplied by. Destroying one that has no address does nothing.
+CLOSURES = """(module
+  (import "__wbindgen_placeholder__" "hold" (func $hold (param i32 i32)))
+  (import "__wbindgen_placeholder__" "lend" (func $lend (param i32 i32)))
+  (import "__wbindgen_placeholder__" "nest" (func $nest (param i32 i32)))
+  (import "__wbindgen_placeholder__" "again" (func $again (param i32)))
+  (memory 1)
+  (global $destroyed (mut i32) (i32.const 0))
+  (func (export "held") (param i32 i32) (call $hold (local.get 0) (local.get 1)))
+  (func (export "lent") (param i32 i32) (call $lend (local.get 0) (local.get 1)))
+  (func (export "nested") (param i32 i32) (call $nest (local.get 0) (local.get 1)))
+  (func (export "grow") (param $at i32) (param $by i32) (param $more i32) (result i32)
+    (if (i32.eqz (local.get $at)) (then (unreachable)))
+    (call $again (local.get $more))
+    (i32.store (local.get $at) (i32.add (i32.load (local.get $at)) (local.get $more)))
+    (i32.mul (i32.load (local.get $at)) (local.get $by)))
+  (func (export "same") (param i32) (result i32) (local.get 0))
+  (func (export "spare") (param i32 i32))
+  (func (param $at i32) (param $by i32)
+    (if (local.get $at) (then (global.set $destroyed (i32.add (global.get $destroyed) (i32.const 1))))))
+  (func (export "destroyed") (result i32) (global.get $destroyed)))"""
+
 # Where the stack of the module ends, and functions whose results stand there.
 STACK = """
   (global $stack (mut i32) (i32.const 1024))"""
@@ -403,6 +427,41 @@ def enums():
         {"name": "Color", "variants": ["red", "green", "blue"]},
     ]
     return said | {"string_enums": listed}
+
+
+def closures():
+    to_32, plain, two = step("Int32ToWasm"), ["WasmToInt32", False], ["i32", "i32"]
+
+    # The import is given a function of the closure that has these two numbers.
+    def given(title, number, mutable):
+        return title, ["externref"], [], [get(0), get(1), ["Closure", number, mutable]], [], two, []
+
+    def passed(title, place):
+        return title, place, ["u32", "u32"], [], [get(0), to_32, get(1), to_32, "call"]
+
+    grow, make, spare = 300, 301, 302
+    said = description(
+        [
+            passed("give", 0),
+            passed("share", 1),
+            passed("deepen", 2),
+            ("destroyed", 6, [], ["s32"], ["call", plain]),
+        ],
+        [
+            given("hold", grow, True),
+            given("lend", grow, False),
+            given("nest", make, False),
+            ("again", ["s32"], [], [get(0), plain], []),
+        ],
+    )
+    made = [get(0), get(1), ["Closure", grow, True], step("IndexFromOwned"), ["CallExport", 4], step("TakeIndex")]
+    said["adapters"] += [
+        adapter(grow, [*two, "s32"], ["s32"], [get(0), get(1), get(2), to_32, ["CallExport", 3], plain]),
+        adapter(make, two, ["externref"], made),
+        adapter(spare, two, [], [get(0), get(1), ["CallExport", 5]]),
+    ]
+    called_back = [[3, grow], [4, make], [5, spare]]
+    return said | {"adapter_exports": called_back, "parts": {"destroy_closure": 10}}
 
 
 # The functions that allocate, behind so many imports, and the memory.
@@ -613,6 +672,9 @@ STATE = "export const state = () => [heap.length, heap_next, stack_pointer];\n"
 # The lists that the glue file has.
 LISTS = "export const lists = [__wbindgen_enum_Color, __wbindgen_enum_Odd, typeof __wbindgen_enum_Unnamed];\n"
 
+# Which functions of closures the glue file has.
+FUNCTIONS = "export const functions = [typeof grow, typeof same, typeof spare];\n"
+
 IN_USE = """export const last = () => [wasm.length(), wasm.align()];
 export const state = () => [wasm.bytes(), wasm.blocks()];
 """
@@ -637,6 +699,7 @@ CASES = {
     "numbers": Case(NUMBERS, numbers()),
     "objects": Case(OBJECTS, objects(), STATE),
     "enums": Case(ENUMS, enums(), LISTS),
+    "closures": Case(CLOSURES, closures(), FUNCTIONS),
     "strings": Case(STRINGS, strings(), IN_USE),
     "vectors": Case(VECTORS, vectors(), IN_USE),
     "values": Case(VALUES, values(), WITH_OBJECTS),

@@ -169,7 +169,7 @@ fn list(alloc: Global, checked: &Checked) -> Result<(Seq<Text>, Seq<Text>), Allo
 }
 
 // The items of a description, under names that are drawn for it.
-#[tactic(auto, using(glue_context::proofs::Facts::apart_built, glue_context::proofs::Facts::bindable_built, glue_context::proofs::Facts::definable_built))]
+#[tactic(auto, using(glue_context::proofs::Facts::apart_built, glue_context::proofs::Facts::bindable_built, glue_context::proofs::Facts::declarable_built, glue_context::proofs::Facts::definable_built))]
 fn planned_items(alloc: Global, checked: &Checked) -> Result<Seq<Item>, AllocError>
     ensures items { IfOk result (λ items. spec.AreItemsOf checked.now.settings checked.now.lowered items) }
 {

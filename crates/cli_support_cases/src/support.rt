@@ -54,8 +54,8 @@ fn the_input_gives_the_stem(rt: HostRuntime) -> Result<(), AllocError> {
     Ok(())
 }
 
-/// What is made for Deno or for no target by this generator, with this name and these bytes.
-pub fn make(
+// What is made for Deno or for no target by this generator, with this name and these bytes.
+fn make(
     alloc: Global,
     generator: &mut Bindgen,
     deno: bool,
@@ -75,13 +75,8 @@ pub fn made(alloc: Global, deno: bool, name: &str, bytes: &[u8]) -> Result<Outpu
     make(alloc, &mut Bindgen::new(false, false), deno, name, bytes)
 }
 
-/// The fault of that, nothing without one.
-pub fn fault_told(
-    alloc: Global,
-    deno: bool,
-    name: &str,
-    bytes: &[u8],
-) -> Result<String, AllocError> {
+// The fault of that, nothing without one.
+fn fault_told(alloc: Global, deno: bool, name: &str, bytes: &[u8]) -> Result<String, AllocError> {
     shown_fault(alloc, made(alloc, deno, name, bytes).err())
 }
 

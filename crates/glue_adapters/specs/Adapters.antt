@@ -15,6 +15,7 @@ use Rattle.glue_shared.specs.Names.{has_number}
 use Rattle.glue_faults.specs.declared.fault.Fault.{Fault}
 use Rattle.glue_faults.specs.declared.fault.Fault.TheVariants as faults
 use Rattle.glue_faults.specs.First.{first_of}
+use Rattle.glue_adapters.specs.declared.environment.Environment.{Environment}
 use Rattle.glue_adapters.specs.declared.kind.Kind.{Kind}
 use Rattle.glue_adapters.specs.Stack.{kinds_of, js_kinds, is_well_stacked}
 
@@ -88,22 +89,31 @@ calls_one_import code = count_by is_import_call code == 1 && not (list_any is_ex
 abbrev pub calls_import : Lowered → List ℕ → List Instruction → Bool
 calls_import l entries code = calls_one_import code && list_all (is_described_call l entries) code
 
--- JavaScript values are passed to an export, and its result comes back as one, where these string enums are described
-unfoldable pub fits_outward : Lowered → (enums : List (List ℕ)) → Adapter → Bool
-fits_outward l enums a =
-    (is_few a.results && calls_export (code_of a.kind)) && is_well_stacked l enums (js_kinds a.args) (js_kinds a.results) (code_of a.kind)
+-- a result is written to room that a caller took
+unfoldable pub writes_result : Instruction → Bool
+writes_result (instr.StoreRetptr offset ty memory) = true
+writes_result other = false
 
--- the same of values of these kinds
-abbrev pub passes_kinds : Lowered → (enums : List (List ℕ)) → List Instruction → (params results : Option (List Kind)) → Bool
-passes_kinds l enums code (Some params) (Some results) = is_well_stacked l enums params results code
-passes_kinds l enums code params results = false
+-- one export is called, and no import, and no result is written to room of a caller
+abbrev pub is_outward : List Instruction → Bool
+is_outward code = calls_export code && not (list_any writes_result code)
+
+-- values of these kinds are passed to an export, and its result comes back as a JavaScript value
+unfoldable pub fits_outward : Lowered → Environment → (params : List Kind) → Adapter → Bool
+fits_outward l environment params a =
+    (is_few a.results && is_outward (code_of a.kind)) && is_well_stacked l environment params (js_kinds a.results) (code_of a.kind)
+
+-- a code passes values of these kinds, and leaves those of these
+abbrev pub passes_kinds : Lowered → Environment → List Instruction → (params results : Option (List Kind)) → Bool
+passes_kinds l environment code (Some params) (Some results) = is_well_stacked l environment params results code
+passes_kinds l environment code params results = false
 
 -- as many arguments and results as the type of the import has
 abbrev pub has_counts : Adapter → FuncType → Bool
 has_counts a ty = (length a.args == length ty.params && length a.results == length ty.results) && is_few ty.results
 
 -- the values of an import's type are passed to what is described, and its result comes back as one of that type
-unfoldable pub fits_inward : Lowered → (enums : List (List ℕ)) → (entries : List ℕ) → Adapter → FuncType → Bool
-fits_inward l enums entries a ty =
+unfoldable pub fits_inward : Lowered → Environment → (entries : List ℕ) → Adapter → FuncType → Bool
+fits_inward l environment entries a ty =
     ((has_code a.kind && has_counts a ty) && calls_import l entries (code_of a.kind))
-    && passes_kinds l enums (code_of a.kind) (kinds_of ty.params) (kinds_of ty.results)
+    && passes_kinds l environment (code_of a.kind) (kinds_of ty.params) (kinds_of ty.results)

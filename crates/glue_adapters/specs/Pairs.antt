@@ -12,6 +12,7 @@ use Rattle.wasm_core.specs.declared.types.ImportKind.{ImportKind}
 use Rattle.wasm_core.specs.declared.types.ImportKind.TheVariants as import_kinds
 use Rattle.wasm_core.specs.Contents.{Contents}
 use Rattle.glue_shared.specs.declared.adapter.Adapter.{Adapter}
+use Rattle.glue_shared.specs.declared.adapter.AdapterType.{AdapterType}
 use Rattle.glue_shared.specs.declared.adapter.NonstandardWitSection.{NonstandardWitSection}
 use Rattle.glue_shared.specs.declared.aux.AuxExport.{AuxExport}
 use Rattle.glue_shared.specs.declared.aux.AuxExportKind.{AuxExportKind}
@@ -27,9 +28,11 @@ use Rattle.glue_steps.specs.Resolving.{entry_at, type_of}
 use Rattle.glue_faults.specs.declared.fault.Fault.{Fault}
 use Rattle.glue_faults.specs.declared.fault.Fault.TheVariants as faults
 use Rattle.glue_faults.specs.First.{first_some, first_after}
+use Rattle.glue_adapters.specs.declared.environment.Environment.{Environment}
+use Rattle.glue_adapters.specs.declared.kind.Kind.{Kind}
 use Rattle.glue_adapters.specs.Adapters.{adapter_at, has_code, is_local, is_import, fits_outward, fits_inward}
 use Rattle.glue_adapters.specs.Called.{fits_import}
-use Rattle.glue_adapters.specs.Stack.{enum_names, export_type}
+use Rattle.glue_adapters.specs.Stack.{closure_kinds, enum_names, export_type, js_kinds}
 
 -- ---- the lists in which adapters stand
 
@@ -45,11 +48,22 @@ called_back l = map (λ pair. pair.1) l.wit.exports
 abbrev pub described : Lowered → List ℕ
 described l = map (λ entry. entry.0) l.aux.imports
 
+-- what instructions may refer to: all string enums that are described, and all adapters that closures call
+abbrev pub environment_of : Lowered → Environment
+environment_of l = record { enums = enum_names l; closures = called_back l }
+
 -- ---- adapters with code
 
--- an adapter with code that stands for no import isn't one that an export could have
-unfoldable pub is_bad_code : Lowered → (enums : List (List ℕ)) → (pairs : List ℕ) → ℕ × Adapter → Bool
-is_bad_code l enums pairs entry = has_code entry.1.kind && (not (has_number entry.0 pairs) && not (fits_outward l enums entry.1))
+-- the kinds of the parameters of an adapter with code that stands for no import: of one that closures call or not
+abbrev pub outward_kinds : (is_called_back : Bool) → List AdapterType → List Kind
+outward_kinds true tys = closure_kinds tys
+outward_kinds false tys = js_kinds tys
+
+-- an adapter has code, stands for no import, and isn't fit for a closure, where closures call it, or for an export else
+unfoldable pub is_bad_code : Lowered → Environment → (pairs : List ℕ) → ℕ × Adapter → Bool
+is_bad_code l environment pairs entry =
+    has_code entry.1.kind
+    && (not (has_number entry.0 pairs) && not (fits_outward l environment (outward_kinds (has_number entry.0 environment.closures) entry.1.args) entry.1))
 
 -- ---- adapters that stand for imports
 
@@ -62,22 +76,22 @@ import_type m other = None
 abbrev pub imported_type : Contents → ℕ → Option FuncType
 imported_type m place = option_and_then (λ (i : Import). import_type m i.kind) (entry_at m.imports place)
 
-abbrev pub fits_type : Lowered → (enums : List (List ℕ)) → (entries : List ℕ) → Option FuncType → Option Adapter → Bool
-fits_type l enums entries (Some ty) (Some a) = fits_inward l enums entries a ty
-fits_type l enums entries ty a = false
+abbrev pub fits_type : Lowered → Environment → (entries : List ℕ) → Option FuncType → Option Adapter → Bool
+fits_type l environment entries (Some ty) (Some a) = fits_inward l environment entries a ty
+fits_type l environment entries ty a = false
 
 -- the adapter passes the values of the function that is imported
-unfoldable pub fits_pair : Lowered → (enums : List (List ℕ)) → (entries : List ℕ) → ImportId × ℕ → Bool
-fits_pair l enums entries pair = fits_type l enums entries (imported_type l.«module» pair.0.0) (adapter_at l pair.1)
+unfoldable pub fits_pair : Lowered → Environment → (entries : List ℕ) → ImportId × ℕ → Bool
+fits_pair l environment entries pair = fits_type l environment entries (imported_type l.«module» pair.0.0) (adapter_at l pair.1)
 
 -- the import or the adapter is one of these, or the two don't fit
-abbrev pub is_repeated_pair : Lowered → (enums : List (List ℕ)) → (entries places ids : List ℕ) → ImportId × ℕ → Bool
-is_repeated_pair l enums entries places ids pair =
-    (has_number pair.0.0 places || has_number pair.1 ids) || not (fits_pair l enums entries pair)
+abbrev pub is_repeated_pair : Lowered → Environment → (entries places ids : List ℕ) → ImportId × ℕ → Bool
+is_repeated_pair l environment entries places ids pair =
+    (has_number pair.0.0 places || has_number pair.1 ids) || not (fits_pair l environment entries pair)
 
 -- the import or the adapter stands in an earlier pair, or the two don't fit
-unfoldable pub is_bad_pair : Lowered → (enums : List (List ℕ)) → (entries : List ℕ) → (before : List (ImportId × ℕ)) → ImportId × ℕ → Bool
-is_bad_pair l enums entries before pair = is_repeated_pair l enums entries (map (λ p. p.0.0) before) (map (λ p. p.1) before) pair
+unfoldable pub is_bad_pair : Lowered → Environment → (entries : List ℕ) → (before : List (ImportId × ℕ)) → ImportId × ℕ → Bool
+is_bad_pair l environment entries before pair = is_repeated_pair l environment entries (map (λ p. p.0.0) before) (map (λ p. p.1) before) pair
 
 -- ---- adapters that closures call
 
@@ -143,20 +157,20 @@ lacks_call l id = not (is_import (adapter_at l id))
 -- ---- the first of these, in the description's order
 
 -- the first of the adapters
-unfoldable pub bad_local : Lowered → Option ℕ
-bad_local l = option_map (λ entry. entry.0) (find (is_bad_code l (enum_names l) (paired l)) l.wit.adapters)
+unfoldable pub bad_local : Lowered → Environment → Option ℕ
+bad_local l environment = option_map (λ entry. entry.0) (find (is_bad_code l environment (paired l)) l.wit.adapters)
 
 -- of the pairs
-unfoldable pub bad_paired : Lowered → Option ℕ
-bad_paired l = option_map (λ pair. pair.1) (first_after (is_bad_pair l (enum_names l) (described l)) [] l.wit.implements)
+unfoldable pub bad_paired : Lowered → Environment → Option ℕ
+bad_paired l environment = option_map (λ pair. pair.1) (first_after (is_bad_pair l environment (described l)) [] l.wit.implements)
 
 -- of the adapters that closures call
 unfoldable pub bad_called : Lowered → Option ℕ
 bad_called l = option_map (λ pair. pair.1) (find (is_bad_callback l (paired l)) l.wit.exports)
 
 -- of the exports
-unfoldable pub bad_exported : Lowered → Option ℕ
-bad_exported l = option_map (λ e. e.adapter) (first_after (is_bad_export l (paired l) (called_back l)) [] l.aux.exports)
+unfoldable pub bad_exported : Lowered → Environment → Option ℕ
+bad_exported l environment = option_map (λ e. e.adapter) (first_after (is_bad_export l (paired l) environment.closures) [] l.aux.exports)
 
 -- of the imports
 unfoldable pub bad_described : Lowered → Option ℕ
@@ -166,19 +180,19 @@ bad_described l = option_map (λ entry. entry.0) (find (is_bad_entry l l.aux.imp
 unfoldable pub bad_listed : Lowered → Option ℕ
 bad_listed l = first_some (find (lacks_code l) l.aux.imports_with_catch ∷ find (lacks_call l) l.aux.imports_with_variadic ∷ [])
 
-unfoldable pub bad_id : Lowered → Option ℕ
-bad_id l = first_some (
-    bad_local l
-    ∷ bad_paired l
+unfoldable pub bad_id : Lowered → Environment → Option ℕ
+bad_id l environment = first_some (
+    bad_local l environment
+    ∷ bad_paired l environment
     ∷ bad_called l
-    ∷ bad_exported l
+    ∷ bad_exported l environment
     ∷ bad_described l
     ∷ bad_listed l
     ∷ [])
 
 -- an adapter isn't what its place in the description asks for
 abbrev pub bad_adapter : Lowered → Option Fault
-bad_adapter l = option_map faults.BadAdapter (bad_id l)
+bad_adapter l = option_map faults.BadAdapter (bad_id l (environment_of l))
 
 -- ---- imports that nothing defines
 

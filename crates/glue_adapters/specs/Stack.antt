@@ -11,15 +11,18 @@ use Rattle.wasm_core.specs.entries.ExportItem.{ExportItem}
 use Rattle.wasm_core.specs.entries.ExportItem.TheVariants as items
 use Rattle.wasm_core.specs.Contents.{Contents}
 use Rattle.glue_shared.specs.declared.adapter.Adapter.{Adapter}
+use Rattle.glue_shared.specs.declared.adapter.AdapterKind.{AdapterKind}
+use Rattle.glue_shared.specs.declared.adapter.AdapterKind.TheVariants as kinds
 use Rattle.glue_shared.specs.declared.adapter.AdapterType.{AdapterType}
 use Rattle.glue_shared.specs.declared.adapter.AdapterType.TheVariants as adapter_types
 use Rattle.glue_shared.specs.declared.adapter.Instruction.{Instruction}
 use Rattle.glue_shared.specs.declared.adapter.Instruction.TheVariants as instr
 use Rattle.glue_shared.specs.declared.description.Lowered.{Lowered}
-use Rattle.glue_shared.specs.Names.{is_one_of}
+use Rattle.glue_shared.specs.Names.{has_number, is_one_of}
 use Rattle.glue_shared.specs.Roots.{instruction_items, is_live_item}
 use Rattle.glue_steps.specs.Resolving.{entry_at, type_of}
 use Rattle.glue_steps.specs.Room.{is_room}
+use Rattle.glue_adapters.specs.declared.environment.Environment.{Environment}
 use Rattle.glue_adapters.specs.declared.kind.Kind.{Kind}
 use Rattle.glue_adapters.specs.declared.kind.Kind.TheVariants as kind
 use Rattle.glue_adapters.specs.declared.stack.Effect.{Effect}
@@ -80,6 +83,10 @@ argument_kind other = kind.Js
 -- a JavaScript value for each of the types
 abbrev pub js_kinds : List AdapterType → List Kind
 js_kinds tys = map (λ ty. kind.Js) tys
+
+-- of a closure's adapter: the two numbers that a closure holds, as far as there are as many, and a JavaScript value for each of the others
+abbrev pub closure_kinds : List AdapterType → List Kind
+closure_kinds tys = map (λ ty. kind.I32) (take 2 tys) ++ js_kinds (drop 2 tys)
 
 -- ---- what is called
 
@@ -148,35 +155,59 @@ memory_effect params other = None
 abbrev pub enum_names : Lowered → List (List ℕ)
 enum_names l = map (λ e. e.name) l.aux.string_enums
 
--- a string enum of this name is described
-abbrev pub is_described_enum : Lowered → List ℕ → Bool
-is_described_enum l name = is_one_of (enum_names l) name
-
 -- a text of a string enum is passed for its place, or the other way, where the enum is one of these
 abbrev pub enum_effect : (enums : List (List ℕ)) → (name : List ℕ) → (popped pushed : Kind) → Option Effect
 enum_effect enums name popped pushed = if is_one_of enums name then Some (effect_of (popped ∷ []) (pushed ∷ [])) else None
 
--- what an instruction pops and pushes in an adapter whose parameters are of these kinds, where these string enums are described; none where it
--- isn't built or names nothing
-unfoldable pub effect : Lowered → (enums : List (List ℕ)) → (params : List Kind) → Instruction → Option Effect
-effect l enums params (instr.ArgGet n) = option_map (λ k. effect_of [] (k ∷ [])) (slice_get params n)
-effect l enums params instr.Int32ToWasm = Some (effect_of (kind.Js ∷ []) (kind.I32 ∷ []))
-effect l enums params instr.Int64ToWasm = Some (effect_of (kind.Js ∷ []) (kind.I64 ∷ []))
-effect l enums params instr.I32FromBool = Some (effect_of (kind.Js ∷ []) (kind.I32 ∷ []))
-effect l enums params (instr.WasmToInt32 unsigned) = Some (effect_of (kind.I32 ∷ []) (kind.Js ∷ []))
-effect l enums params (instr.WasmToInt64 unsigned) = Some (effect_of (kind.I64 ∷ []) (kind.Js ∷ []))
-effect l enums params instr.BoolFromI32 = Some (effect_of (kind.I32 ∷ []) (kind.Js ∷ []))
-effect l enums params (instr.CallExport id) = option_and_then call_effect (export_type l.«module» id.0)
-effect l enums params (instr.CallAdapter id) = option_map adapter_effect (look_up nat_cmp l.wit.adapters id)
-effect l enums params instr.IndexFromOwned = Some (effect_of (kind.Js ∷ []) (kind.I32 ∷ []))
-effect l enums params instr.IndexFromBorrow = Some (effect_of (kind.Js ∷ []) (kind.I32 ∷ []))
-effect l enums params instr.TakeIndex = Some (effect_of (kind.I32 ∷ []) (kind.Js ∷ []))
-effect l enums params instr.GetIndex = Some (effect_of (kind.I32 ∷ []) (kind.Js ∷ []))
-effect l enums params instr.UnwrapResult = Some (effect_of (kind.I32 ∷ kind.I32 ∷ []) [])
-effect l enums params (instr.Retptr size) = Some (effect_of [] (kind.I32 ∷ []))
-effect l enums params (instr.EnumIndex name) = enum_effect enums name kind.Js kind.I32
-effect l enums params (instr.EnumText name) = enum_effect enums name kind.I32 kind.Js
-effect l enums params other = if names_live l other then memory_effect params other else None
+-- an adapter of this kind, with these parameters, has code, and takes the two numbers that a closure holds
+abbrev pub takes_numbers : AdapterKind → (args : List AdapterType) → Bool
+takes_numbers (kinds.Local code) args = nat_le 2 (length args)
+takes_numbers (kinds.Import call) args = false
+
+-- an adapter that can be called by a closure
+abbrev pub is_callback : Option Adapter → Bool
+is_callback None = false
+is_callback (Some a) = takes_numbers a.kind a.args
+
+-- a closure is made of the two numbers that it holds, where its adapter is one of these and can be called by a closure
+abbrev pub closure_effect : Lowered → (closures : List ℕ) → (id : ℕ) → Option Effect
+closure_effect l closures id =
+    if has_number id closures && is_callback (look_up nat_cmp l.wit.adapters id)
+    then Some (effect_of (kind.I32 ∷ kind.I32 ∷ []) (kind.Js ∷ []))
+    else None
+
+-- What an instruction pops and pushes in an adapter whose parameters are of these kinds. None where
+-- * it takes a parameter that the adapter hasn't;
+-- * it calls an export that isn't there or is no function, or a function with several results or with a type that JavaScript can't pass;
+-- * it calls an adapter that isn't there;
+-- * it names a function or a memory that isn't there;
+-- * it reads or writes a result in room that is no integer, or writes one where the first parameter is no address;
+-- * it names a string enum that isn't described;
+-- * it makes a closure of an adapter that closures don't call, that has no code, or that has fewer than two parameters;
+-- * nothing carries it out.
+unfoldable pub effect : Lowered → Environment → (params : List Kind) → Instruction → Option Effect
+effect l environment params (instr.ArgGet n) = option_map (λ k. effect_of [] (k ∷ [])) (slice_get params n)
+effect l environment params instr.Int32ToWasm = Some (effect_of (kind.Js ∷ []) (kind.I32 ∷ []))
+effect l environment params instr.Int64ToWasm = Some (effect_of (kind.Js ∷ []) (kind.I64 ∷ []))
+effect l environment params instr.I32FromBool = Some (effect_of (kind.Js ∷ []) (kind.I32 ∷ []))
+effect l environment params (instr.WasmToInt32 unsigned) = Some (effect_of (kind.I32 ∷ []) (kind.Js ∷ []))
+effect l environment params (instr.WasmToInt64 unsigned) = Some (effect_of (kind.I64 ∷ []) (kind.Js ∷ []))
+effect l environment params instr.BoolFromI32 = Some (effect_of (kind.I32 ∷ []) (kind.Js ∷ []))
+effect l environment params (instr.CallExport id) = option_and_then call_effect (export_type l.«module» id.0)
+effect l environment params (instr.CallAdapter id) = option_map adapter_effect (look_up nat_cmp l.wit.adapters id)
+effect l environment params instr.IndexFromOwned = Some (effect_of (kind.Js ∷ []) (kind.I32 ∷ []))
+effect l environment params instr.IndexFromBorrow = Some (effect_of (kind.Js ∷ []) (kind.I32 ∷ []))
+effect l environment params instr.TakeIndex = Some (effect_of (kind.I32 ∷ []) (kind.Js ∷ []))
+effect l environment params instr.GetIndex = Some (effect_of (kind.I32 ∷ []) (kind.Js ∷ []))
+effect l environment params (instr.ClassIntoPtr class) = Some (effect_of (kind.Js ∷ []) (kind.I32 ∷ []))
+effect l environment params (instr.ClassPtr class) = Some (effect_of (kind.Js ∷ []) (kind.I32 ∷ []))
+effect l environment params (instr.ClassFromPtr class) = Some (effect_of (kind.I32 ∷ []) (kind.Js ∷ []))
+effect l environment params instr.UnwrapResult = Some (effect_of (kind.I32 ∷ kind.I32 ∷ []) [])
+effect l environment params (instr.Retptr size) = Some (effect_of [] (kind.I32 ∷ []))
+effect l environment params (instr.EnumIndex name) = enum_effect environment.enums name kind.Js kind.I32
+effect l environment params (instr.EnumText name) = enum_effect environment.enums name kind.I32 kind.Js
+effect l environment params (instr.Closure id mutable) = closure_effect l environment.closures id
+effect l environment params other = if names_live l other then memory_effect params other else None
 
 -- ---- the whole code
 
@@ -191,20 +222,20 @@ leaves results None = false
 leaves results (Some stack) = same_kinds stack results
 
 -- the stack never lacks a value nor has another kind, and holds the results in the end
-abbrev pub keeps_stack : Lowered → (enums : List (List ℕ)) → (params results : List Kind) → List Instruction → Bool
-keeps_stack l enums params results code = leaves results (stack_after (effect l enums params) [] code)
+abbrev pub keeps_stack : Lowered → Environment → (params results : List Kind) → List Instruction → Bool
+keeps_stack l environment params results code = leaves results (stack_after (effect l environment params) [] code)
 
--- an instruction that takes room stands where none was taken, and one that reads a result from room where some was
+-- an instruction that takes room stands where none was taken, and one that reads a result from room where some was; `taken`: whether some was
 abbrev pub fits_room : (taken : Bool) → Instruction → Bool
 fits_room taken (instr.Retptr size) = not taken
 fits_room taken (instr.LoadRetptr offset ty memory) = taken
 fits_room taken other = true
 
--- room is taken at most once, and results are read from it only behind that, where some was taken before or not
+-- Room is taken at most once, and results are read from it only behind that. `taken`: whether code before this one took room.
 abbrev pub uses_room : (taken : Bool) → List Instruction → Bool
 uses_room taken [] = true
 uses_room taken (i ∷ code) = fits_room taken i && uses_room (taken || is_room i) code
 
--- room and stack are used so
-abbrev pub is_well_stacked : Lowered → (enums : List (List ℕ)) → (params results : List Kind) → List Instruction → Bool
-is_well_stacked l enums params results code = uses_room false code && keeps_stack l enums params results code
+-- room and stack are used so, by a whole code
+abbrev pub is_well_stacked : Lowered → Environment → (params results : List Kind) → List Instruction → Bool
+is_well_stacked l environment params results code = uses_room false code && keeps_stack l environment params results code

@@ -6,11 +6,13 @@ ghost use Rattle.glue_faults.specs.First.{first_of};
 ghost use Rattle.glue_adapters.specs.Adapters as spec;
 ghost use Rattle.glue_adapters.specs.Pairs as pairs_spec;
 
-use crate::kind::{Kind, js_kinds, kinds_of};
+use crate::environment::Environment;
+use crate::kind::{Kind, closure_kinds, js_kinds, kinds_of};
 use crate::stack::is_well_stacked;
 use glue_faults::{Fault, IdSet};
-use glue_shared::{Adapter, AdapterId, AdapterKind, Instruction, Lowered, NonstandardWitSection};
-use name_set::NameSet;
+use glue_shared::{
+    Adapter, AdapterId, AdapterKind, AdapterType, Instruction, Lowered, NonstandardWitSection,
+};
 use std::alloc::{AllocError, Global};
 use values::{Duplicate, Seq, Text};
 use wasm_core::FuncType;
@@ -182,27 +184,48 @@ fn calls_import(lowered: &Lowered, entries: &IdSet, code: &[Instruction]) -> boo
     calls_one_import(code) && calls_described(lowered, entries, code)
 }
 
-// Whether an adapter passes JavaScript values to an export, and its result back as one, where these string enums are described.
+#[tactic(auto, unfolding(crate::specs::Adapters::writes_result))]
+fn writes_result(instruction: &Instruction) -> bool
+    ensures test { result ≡ spec.writes_result instruction.now }
+{
+    matches!(instruction, Instruction::StoreRetptr(_, _, _))
+}
+
+// Whether a result is written to room that a caller took.
+fn has_written_result(code: &[Instruction]) -> bool
+    ensures test { result ≡ list_any spec.writes_result code.now }
+{
+    code.iter().any(|instruction| writes_result(instruction))
+}
+
+// Whether one export is called, and no import, and no result is written to room of a caller.
+fn is_outward(code: &[Instruction]) -> bool
+    ensures test { result ≡ spec.is_outward code.now }
+{
+    calls_export(code) && !has_written_result(code)
+}
+
+// Whether an adapter passes values of these kinds to an export, and its result back as a JavaScript value.
 #[tactic(auto, unfolding(crate::specs::Adapters::fits_outward))]
 fn fits_outward(
     alloc: Global,
     lowered: &Lowered,
-    enums: &NameSet,
+    environment: &Environment,
+    params: &[Kind],
     adapter: &Adapter,
 ) -> Result<bool, AllocError>
-    ensures test { IfOk result (λ fits. fits ≡ spec.fits_outward lowered.now enums.now adapter.now) }
+    ensures test { IfOk result (λ fits. fits ≡ spec.fits_outward lowered.now environment.now params.now adapter.now) }
 {
     let code = code_of(&adapter.kind);
-    if !(adapter.results.len() <= 1 && calls_export(code)) {
+    if !(adapter.results.len() <= 1 && is_outward(code)) {
         return Ok(false);
     }
-    let params = js_kinds(alloc, adapter.args.as_slice())?;
     let results = js_kinds(alloc, adapter.results.as_slice())?;
     is_well_stacked(
         alloc,
         lowered,
-        enums,
-        params.as_slice(),
+        environment,
+        params,
         results.as_slice(),
         code,
     )
@@ -212,12 +235,12 @@ fn fits_outward(
 fn passes_kinds(
     alloc: Global,
     lowered: &Lowered,
-    enums: &NameSet,
+    environment: &Environment,
     code: &[Instruction],
     params: Option<Seq<Kind>>,
     results: Option<Seq<Kind>>,
 ) -> Result<bool, AllocError>
-    ensures test { IfOk result (λ fits. fits ≡ spec.passes_kinds lowered.now enums.now code.now params results) }
+    ensures test { IfOk result (λ fits. fits ≡ spec.passes_kinds lowered.now environment.now code.now params results) }
 {
     match params {
         None => Ok(false),
@@ -226,7 +249,7 @@ fn passes_kinds(
             Some(results) => is_well_stacked(
                 alloc,
                 lowered,
-                enums,
+                environment,
                 params.as_slice(),
                 results.as_slice(),
                 code,
@@ -249,12 +272,12 @@ fn has_counts(adapter: &Adapter, ty: &FuncType) -> bool
 pub(crate) fn fits_inward(
     alloc: Global,
     lowered: &Lowered,
-    enums: &NameSet,
+    environment: &Environment,
     entries: &IdSet,
     adapter: &Adapter,
     ty: &FuncType,
 ) -> Result<bool, AllocError>
-    ensures test { IfOk result (λ fits. fits ≡ spec.fits_inward lowered.now enums.now entries.now adapter.now ty.now) }
+    ensures test { IfOk result (λ fits. fits ≡ spec.fits_inward lowered.now environment.now entries.now adapter.now ty.now) }
 {
     let code = code_of(&adapter.kind);
     if !(has_code(&adapter.kind)
@@ -265,38 +288,55 @@ pub(crate) fn fits_inward(
     }
     let params = kinds_of(alloc, ty.params.as_slice())?;
     let results = kinds_of(alloc, ty.results.as_slice())?;
-    passes_kinds(alloc, lowered, enums, code, params, results)
+    passes_kinds(alloc, lowered, environment, code, params, results)
 }
 
-// Whether an adapter has code, stands for no import, and isn't one that an export could have.
+// The kinds of the parameters of an adapter with code that stands for no import: of one that closures call or not.
+fn outward_kinds(
+    alloc: Global,
+    is_called_back: bool,
+    types: &[AdapterType],
+) -> Result<Vec<Kind>, AllocError>
+    ensures kinds { IfOk result (λ kinds. kinds.items ≡ pairs_spec.outward_kinds is_called_back types.now) }
+{
+    if is_called_back {
+        closure_kinds(alloc, types)
+    } else {
+        js_kinds(alloc, types)
+    }
+}
+
+// Whether an adapter has code, stands for no import, and isn't fit for a closure, where closures call it, or for an export else.
 #[tactic(auto, unfolding(crate::specs::Pairs::is_bad_code))]
 fn is_bad_code(
     alloc: Global,
     lowered: &Lowered,
-    enums: &NameSet,
+    environment: &Environment,
     pairs: &IdSet,
     id: AdapterId,
     adapter: &Adapter,
 ) -> Result<bool, AllocError>
-    ensures test { IfOk result (λ bad. bad ≡ pairs_spec.is_bad_code lowered.now enums.now pairs.now (id, adapter.now)) }
+    ensures test { IfOk result (λ bad. bad ≡ pairs_spec.is_bad_code lowered.now environment.now pairs.now (id, adapter.now)) }
 {
     if !has_code(&adapter.kind) || pairs.has(id.0) {
         return Ok(false);
     }
-    Ok(!fits_outward(alloc, lowered, enums, adapter)?)
+    let is_called_back = environment.closures.has(id.0);
+    let params = outward_kinds(alloc, is_called_back, adapter.args.as_slice())?;
+    Ok(!fits_outward(alloc, lowered, environment, params.as_slice(), adapter)?)
 }
 
 // The first such adapter.
 pub(crate) fn bad_code(
     alloc: Global,
     lowered: &Lowered,
-    enums: &NameSet,
+    environment: &Environment,
     pairs: &IdSet,
 ) -> Result<Option<AdapterId>, AllocError>
-    ensures bad { IfOk result (λ bad. bad ≡ option_map (λ entry. entry.0) (find (pairs_spec.is_bad_code lowered.now enums.now pairs.now) lowered.now.wit.adapters)) }
+    ensures bad { IfOk result (λ bad. bad ≡ option_map (λ entry. entry.0) (find (pairs_spec.is_bad_code lowered.now environment.now pairs.now) lowered.now.wit.adapters)) }
 {
     for (id, adapter) in lowered.wit.adapters.iter() {
-        if is_bad_code(alloc, lowered, enums, pairs, *id, adapter)? {
+        if is_bad_code(alloc, lowered, environment, pairs, *id, adapter)? {
             return Ok(Some(*id));
         }
     }

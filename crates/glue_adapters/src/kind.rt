@@ -110,3 +110,19 @@ pub fn js_kinds(alloc: Global, types: &[AdapterType]) -> Result<Vec<Kind>, Alloc
 {
     types.iter().map(|_ty| Kind::Js).collect(alloc)
 }
+
+/// The kinds of the parameters of a closure's adapter: the two numbers that a closure holds, and a JavaScript value for each of the others.
+/// Want of memory is the only error.
+pub fn closure_kinds(alloc: Global, types: &[AdapterType]) -> Result<Vec<Kind>, AllocError>
+    ensures kinds { IfOk result (λ kinds. kinds.items ≡ spec.closure_kinds types.now) }
+{
+    let Some((_, later)) = types.split_first() else {
+        return Ok(Vec::new(alloc));
+    };
+    let Some((_, others)) = later.split_first() else {
+        return Vec::from_slice(alloc, &[Kind::I32]);
+    };
+    let mut kinds = Vec::from_slice(alloc, &[Kind::I32, Kind::I32])?;
+    kinds.extend_from_slice(js_kinds(alloc, others)?.as_slice())?;
+    Ok(kinds)
+}

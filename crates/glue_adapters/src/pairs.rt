@@ -5,10 +5,10 @@ ghost use Rattle.glue_faults.specs.First.{first_after};
 ghost use Rattle.glue_adapters.specs.Pairs as spec;
 
 use crate::adapters::fits_inward;
+use crate::environment::Environment;
 use glue_faults::IdSet;
 use glue_shared::{Adapter, AdapterId, Lowered};
 use glue_steps::function_type;
-use name_set::NameSet;
 use std::alloc::{AllocError, Global};
 use wasm_core::{FuncType, ImportId, ImportKind, Module};
 
@@ -33,18 +33,18 @@ fn imported_type(module: &Module, id: ImportId) -> Option<&FuncType>
 fn fits_type(
     alloc: Global,
     lowered: &Lowered,
-    enums: &NameSet,
+    environment: &Environment,
     entries: &IdSet,
     ty: Option<&FuncType>,
     adapter: Option<&Adapter>,
 ) -> Result<bool, AllocError>
-    ensures test { IfOk result (λ fits. fits ≡ spec.fits_type lowered.now enums.now entries.now (option_copied ty.entry) (option_copied adapter.entry)) }
+    ensures test { IfOk result (λ fits. fits ≡ spec.fits_type lowered.now environment.now entries.now (option_copied ty.entry) (option_copied adapter.entry)) }
 {
     match ty {
         None => Ok(false),
         Some(ty) => match adapter {
             None => Ok(false),
-            Some(adapter) => fits_inward(alloc, lowered, enums, entries, adapter, ty),
+            Some(adapter) => fits_inward(alloc, lowered, environment, entries, adapter, ty),
         },
     }
 }
@@ -54,17 +54,17 @@ fn fits_type(
 fn fits_pair(
     alloc: Global,
     lowered: &Lowered,
-    enums: &NameSet,
+    environment: &Environment,
     entries: &IdSet,
     pair: &(ImportId, AdapterId),
 ) -> Result<bool, AllocError>
-    ensures test { IfOk result (λ fits. fits ≡ spec.fits_pair lowered.now enums.now entries.now pair.now) }
+    ensures test { IfOk result (λ fits. fits ≡ spec.fits_pair lowered.now environment.now entries.now pair.now) }
 {
     let ty = imported_type(&lowered.module, pair.0);
     fits_type(
         alloc,
         lowered,
-        enums,
+        environment,
         entries,
         ty,
         lowered.wit.adapters.get(&pair.1),
@@ -75,35 +75,43 @@ fn fits_pair(
 fn is_bad_pair(
     alloc: Global,
     lowered: &Lowered,
-    enums: &NameSet,
+    environment: &Environment,
     entries: &IdSet,
     imports: &IdSet,
     adapters: &IdSet,
     pair: &(ImportId, AdapterId),
 ) -> Result<bool, AllocError>
-    ensures test { IfOk result (λ bad. bad ≡ spec.is_repeated_pair lowered.now enums.now entries.now imports.now adapters.now pair.now) }
+    ensures test { IfOk result (λ bad. bad ≡ spec.is_repeated_pair lowered.now environment.now entries.now imports.now adapters.now pair.now) }
 {
     if imports.has(pair.0.0) || adapters.has(pair.1.0) {
         return Ok(true);
     }
-    Ok(!fits_pair(alloc, lowered, enums, entries, pair)?)
+    Ok(!fits_pair(alloc, lowered, environment, entries, pair)?)
 }
 
 /// The adapter of the first pair whose import or adapter stands in an earlier pair, or whose adapter doesn't fit its import.
-/// `enums` are the string enums that are described, `entries` the adapters that are. Want of memory is the only error.
+/// `entries` are the import adapters that are described. Want of memory is the only error.
 #[tactic(auto, unfolding(crate::specs::Pairs::is_bad_pair))]
 pub fn bad_pair(
     alloc: Global,
     lowered: &Lowered,
-    enums: &NameSet,
+    environment: &Environment,
     entries: &IdSet,
 ) -> Result<Option<AdapterId>, AllocError>
-    ensures bad { IfOk result (λ bad. bad ≡ option_map (λ pair. pair.1) (first_after (spec.is_bad_pair lowered.now enums.now entries.now) [] lowered.now.wit.implements)) }
+    ensures bad { IfOk result (λ bad. bad ≡ option_map (λ pair. pair.1) (first_after (spec.is_bad_pair lowered.now environment.now entries.now) [] lowered.now.wit.implements)) }
 {
     let mut imports = IdSet::new(alloc);
     let mut adapters = IdSet::new(alloc);
     for pair in lowered.wit.implements.as_slice() {
-        if is_bad_pair(alloc, lowered, enums, entries, &imports, &adapters, pair)? {
+        if is_bad_pair(
+            alloc,
+            lowered,
+            environment,
+            entries,
+            &imports,
+            &adapters,
+            pair,
+        )? {
             return Ok(Some(pair.1));
         }
         imports = imports.with(pair.0.0)?;

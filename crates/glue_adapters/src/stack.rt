@@ -5,8 +5,13 @@ ghost use Rattle.std.specs.Option.{option_copied};
 ghost use Rattle.glue_shared.specs.Roots.{instruction_items, is_live_item};
 ghost use Rattle.glue_adapters.specs.Stack as spec;
 
+use crate::environment::Environment;
 use crate::kind::{Kind, are_same, argument_kinds, js_kinds, kinds_of, number_kind};
-use glue_shared::{Adapter, AdapterType, Instruction, Lowered, is_live_item, push_instruction};
+use glue_faults::IdSet;
+use glue_shared::{
+    Adapter, AdapterId, AdapterKind, AdapterType, Instruction, Lowered, is_live_item,
+    push_instruction,
+};
 use glue_steps::{function_type, is_room};
 use name_set::NameSet;
 use std::alloc::{AllocError, Global};
@@ -201,27 +206,74 @@ fn enum_effect(
     effect_of(alloc, &[popped], &[pushed])
 }
 
-// What an instruction pops and pushes, where the parameters are of these kinds and these string enums are described.
+// Whether an adapter can be called by a closure: it has code, and takes the two numbers that a closure holds.
+fn is_callback(adapter: Option<&Adapter>) -> bool
+    ensures test { result ≡ spec.is_callback (option_copied adapter.entry) }
+{
+    match adapter {
+        None => false,
+        Some(adapter) => match adapter.kind {
+            AdapterKind::Local(_) => adapter.args.len() >= 2,
+            AdapterKind::Import(_) => false,
+        },
+    }
+}
+
+// What is popped and pushed where a closure is made of an adapter.
+fn closure_effect(
+    alloc: Global,
+    lowered: &Lowered,
+    closures: &IdSet,
+    id: AdapterId,
+) -> Result<Option<Effect>, AllocError>
+    ensures effect { IfOk result (λ e. e ≡ spec.closure_effect lowered.now closures.now id) }
+{
+    if !(closures.has(id.0) && is_callback(lowered.wit.adapters.get(&id))) {
+        return Ok(None);
+    }
+    effect_of(alloc, &[Kind::I32, Kind::I32], &[Kind::Js])
+}
+
+// What passes through memory, where all that the instruction names is there.
+fn named_effect(
+    alloc: Global,
+    lowered: &Lowered,
+    params: &[Kind],
+    instruction: &Instruction,
+) -> Result<Option<Effect>, AllocError>
+    ensures effect { IfOk result (λ e. e ≡ (if spec.names_live lowered.now instruction.now then spec.memory_effect params.now instruction.now else None)) }
+{
+    if !names_live(alloc, &lowered.module, instruction)? {
+        return Ok(None);
+    }
+    memory_effect(alloc, params, instruction)
+}
+
+// What an instruction pops and pushes, where the parameters are of these kinds.
 #[tactic(auto, unfolding(crate::specs::Stack::effect))]
 fn instruction_effect(
     alloc: Global,
     lowered: &Lowered,
-    enums: &NameSet,
+    environment: &Environment,
     params: &[Kind],
     instruction: &Instruction,
 ) -> Result<Option<Effect>, AllocError>
-    ensures effect { IfOk result (λ e. e ≡ spec.effect lowered.now enums.now params.now instruction.now) }
+    ensures effect { IfOk result (λ e. e ≡ spec.effect lowered.now environment.now params.now instruction.now) }
 {
+    let Environment { enums, closures } = environment;
     match instruction {
         Instruction::ArgGet(n) => parameter_effect(alloc, params.get(*n as usize)),
         Instruction::Int32ToWasm
         | Instruction::I32FromBool
         | Instruction::IndexFromOwned
-        | Instruction::IndexFromBorrow => effect_of(alloc, &[Kind::Js], &[Kind::I32]),
+        | Instruction::IndexFromBorrow
+        | Instruction::ClassIntoPtr(_)
+        | Instruction::ClassPtr(_) => effect_of(alloc, &[Kind::Js], &[Kind::I32]),
         Instruction::WasmToInt32(_)
         | Instruction::BoolFromI32
         | Instruction::TakeIndex
-        | Instruction::GetIndex => effect_of(alloc, &[Kind::I32], &[Kind::Js]),
+        | Instruction::GetIndex
+        | Instruction::ClassFromPtr(_) => effect_of(alloc, &[Kind::I32], &[Kind::Js]),
         Instruction::Int64ToWasm => effect_of(alloc, &[Kind::Js], &[Kind::I64]),
         Instruction::WasmToInt64(_) => effect_of(alloc, &[Kind::I64], &[Kind::Js]),
         Instruction::UnwrapResult => effect_of(alloc, &[Kind::I32, Kind::I32], &[]),
@@ -230,13 +282,8 @@ fn instruction_effect(
         Instruction::Retptr(_) => effect_of(alloc, &[], &[Kind::I32]),
         Instruction::EnumIndex(name) => enum_effect(alloc, enums, name, Kind::Js, Kind::I32),
         Instruction::EnumText(name) => enum_effect(alloc, enums, name, Kind::I32, Kind::Js),
-        other => {
-            if names_live(alloc, &lowered.module, other)? {
-                memory_effect(alloc, params, other)
-            } else {
-                Ok(None)
-            }
-        }
+        Instruction::Closure(id, _) => closure_effect(alloc, lowered, closures, *id),
+        other => named_effect(alloc, lowered, params, other),
     }
 }
 
@@ -244,14 +291,14 @@ fn instruction_effect(
 fn step(
     alloc: Global,
     lowered: &Lowered,
-    enums: &NameSet,
+    environment: &Environment,
     params: &[Kind],
     stack: &mut Vec<Kind>,
     instruction: &Instruction,
 ) -> Result<bool, AllocError>
-    ensures after { IfOk result (λ fits. option_and_then (λ e. spec.after e stack.old.items) (spec.effect lowered.now enums.now params.now instruction.now) ≡ (if fits then Some stack.new.items else None)) }
+    ensures after { IfOk result (λ fits. option_and_then (λ e. spec.after e stack.old.items) (spec.effect lowered.now environment.now params.now instruction.now) ≡ (if fits then Some stack.new.items else None)) }
 {
-    match instruction_effect(alloc, lowered, enums, params, instruction)? {
+    match instruction_effect(alloc, lowered, environment, params, instruction)? {
         None => Ok(false),
         Some(effect) => apply(stack, &effect),
     }
@@ -261,16 +308,16 @@ fn step(
 fn keeps_stack(
     alloc: Global,
     lowered: &Lowered,
-    enums: &NameSet,
+    environment: &Environment,
     params: &[Kind],
     results: &[Kind],
     code: &[Instruction],
 ) -> Result<bool, AllocError>
-    ensures test { IfOk result (λ test. test ≡ spec.keeps_stack lowered.now enums.now params.now results.now code.now) }
+    ensures test { IfOk result (λ test. test ≡ spec.keeps_stack lowered.now environment.now params.now results.now code.now) }
 {
     let mut stack = Vec::new(alloc);
     for instruction in code {
-        if !step(alloc, lowered, enums, params, &mut stack, instruction)? {
+        if !step(alloc, lowered, environment, params, &mut stack, instruction)? {
             return Ok(false);
         }
     }
@@ -303,19 +350,19 @@ fn uses_room(code: &[Instruction]) -> bool
 }
 
 /// Whether the stack never lacks a value nor has another kind, and holds the results in the end, and room for results is taken at most once and
-/// read only behind that, where these string enums are described. Want of memory is the only error.
+/// read only behind that. Want of memory is the only error.
 pub fn is_well_stacked(
     alloc: Global,
     lowered: &Lowered,
-    enums: &NameSet,
+    environment: &Environment,
     params: &[Kind],
     results: &[Kind],
     code: &[Instruction],
 ) -> Result<bool, AllocError>
-    ensures test { IfOk result (λ test. test ≡ spec.is_well_stacked lowered.now enums.now params.now results.now code.now) }
+    ensures test { IfOk result (λ test. test ≡ spec.is_well_stacked lowered.now environment.now params.now results.now code.now) }
 {
     if !uses_room(code) {
         return Ok(false);
     }
-    keeps_stack(alloc, lowered, enums, params, results, code)
+    keeps_stack(alloc, lowered, environment, params, results, code)
 }

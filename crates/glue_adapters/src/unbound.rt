@@ -6,13 +6,13 @@ ghost use Rattle.glue_adapters.specs.Pairs as spec;
 
 use crate::adapters::bad_code;
 use crate::called::bad_entry;
+use crate::environment::{Environment, environment_of};
 use crate::exports::{bad_callback, bad_export, first_not_import, first_not_local};
 use crate::pairs::bad_pair;
 use glue_faults::{Fault, IdSet};
-use glue_shared::{AdapterId, AuxImport, AuxStringEnum, Lowered, Settings, own_imports};
-use name_set::NameSet;
+use glue_shared::{AdapterId, AuxImport, Lowered, Settings, own_imports};
 use std::alloc::{AllocError, Global};
-use wasm_core::{ExportId, FuncId, Import, ImportId, ImportKind, Memory, MemoryId, TagId};
+use wasm_core::{FuncId, Import, ImportId, ImportKind, Memory, MemoryId, TagId};
 
 // The adapters that stand for imports.
 fn paired(alloc: Global, pairs: &[(ImportId, AdapterId)]) -> Result<IdSet, AllocError>
@@ -36,17 +36,6 @@ fn implemented(alloc: Global, pairs: &[(ImportId, AdapterId)]) -> Result<IdSet, 
     Ok(places)
 }
 
-// The adapters that closures call.
-fn called_back(alloc: Global, pairs: &[(ExportId, AdapterId)]) -> Result<IdSet, AllocError>
-    ensures ids { IfOk result (λ ids. ids ≡ map (λ pair. pair.1) pairs.now) }
-{
-    let mut ids = IdSet::new(alloc);
-    for pair in pairs {
-        ids = ids.with(pair.1.0)?;
-    }
-    Ok(ids)
-}
-
 // The import adapters that are described.
 fn described(alloc: Global, entries: &[(AdapterId, AuxImport)]) -> Result<IdSet, AllocError>
     ensures ids { IfOk result (λ ids. ids ≡ map (λ entry. entry.0) entries.now) }
@@ -58,35 +47,30 @@ fn described(alloc: Global, entries: &[(AdapterId, AuxImport)]) -> Result<IdSet,
     Ok(ids)
 }
 
-// The names of the string enums that are described.
-fn enum_names(alloc: Global, enums: &[AuxStringEnum]) -> Result<NameSet, AllocError>
-    ensures names { IfOk result (λ names. names ≡ map (λ e. e.name) enums.now) }
-{
-    let mut names = NameSet::new(alloc);
-    for texts in enums {
-        names = names.with(alloc, texts.name.as_str())?;
-    }
-    Ok(names)
-}
-
 // The first adapter that isn't what its place asks for: of the adapters.
 #[tactic(auto, unfolding(crate::specs::Pairs::bad_local))]
-fn bad_local(alloc: Global, lowered: &Lowered) -> Result<Option<AdapterId>, AllocError>
-    ensures bad { IfOk result (λ bad. bad ≡ spec.bad_local lowered.now) }
+fn bad_local(
+    alloc: Global,
+    lowered: &Lowered,
+    environment: &Environment,
+) -> Result<Option<AdapterId>, AllocError>
+    ensures bad { IfOk result (λ bad. bad ≡ spec.bad_local lowered.now environment.now) }
 {
-    let enums = enum_names(alloc, lowered.aux.string_enums.as_slice())?;
     let pairs = paired(alloc, lowered.wit.implements.as_slice())?;
-    bad_code(alloc, lowered, &enums, &pairs)
+    bad_code(alloc, lowered, environment, &pairs)
 }
 
 // Of the pairs.
 #[tactic(auto, unfolding(crate::specs::Pairs::bad_paired))]
-fn bad_paired(alloc: Global, lowered: &Lowered) -> Result<Option<AdapterId>, AllocError>
-    ensures bad { IfOk result (λ bad. bad ≡ spec.bad_paired lowered.now) }
+fn bad_paired(
+    alloc: Global,
+    lowered: &Lowered,
+    environment: &Environment,
+) -> Result<Option<AdapterId>, AllocError>
+    ensures bad { IfOk result (λ bad. bad ≡ spec.bad_paired lowered.now environment.now) }
 {
-    let enums = enum_names(alloc, lowered.aux.string_enums.as_slice())?;
     let entries = described(alloc, lowered.aux.imports.as_slice())?;
-    bad_pair(alloc, lowered, &enums, &entries)
+    bad_pair(alloc, lowered, environment, &entries)
 }
 
 // Of the adapters that closures call.
@@ -100,12 +84,15 @@ fn bad_called(alloc: Global, lowered: &Lowered) -> Result<Option<AdapterId>, All
 
 // Of the exports.
 #[tactic(auto, unfolding(crate::specs::Pairs::bad_exported))]
-fn bad_exported(alloc: Global, lowered: &Lowered) -> Result<Option<AdapterId>, AllocError>
-    ensures bad { IfOk result (λ bad. bad ≡ spec.bad_exported lowered.now) }
+fn bad_exported(
+    alloc: Global,
+    lowered: &Lowered,
+    environment: &Environment,
+) -> Result<Option<AdapterId>, AllocError>
+    ensures bad { IfOk result (λ bad. bad ≡ spec.bad_exported lowered.now environment.now) }
 {
     let pairs = paired(alloc, lowered.wit.implements.as_slice())?;
-    let callbacks = called_back(alloc, lowered.wit.exports.as_slice())?;
-    bad_export(alloc, lowered, &pairs, &callbacks)
+    bad_export(alloc, lowered, &pairs, &environment.closures)
 }
 
 // Of the adapters whose throws are caught, and of those whose last argument is spread.
@@ -122,14 +109,18 @@ fn bad_listed(lowered: &Lowered) -> Option<AdapterId>
 
 // The first of all of these, in the description's order.
 #[tactic(auto, unfolding(crate::specs::Pairs::bad_id))]
-fn bad_id(alloc: Global, lowered: &Lowered) -> Result<Option<AdapterId>, AllocError>
-    ensures bad { IfOk result (λ bad. bad ≡ spec.bad_id lowered.now) }
+fn bad_id(
+    alloc: Global,
+    lowered: &Lowered,
+    environment: &Environment,
+) -> Result<Option<AdapterId>, AllocError>
+    ensures bad { IfOk result (λ bad. bad ≡ spec.bad_id lowered.now environment.now) }
 {
-    let coded = bad_local(alloc, lowered)?;
+    let coded = bad_local(alloc, lowered, environment)?;
     if coded.is_some() {
         return Ok(coded);
     }
-    let paired = bad_paired(alloc, lowered)?;
+    let paired = bad_paired(alloc, lowered, environment)?;
     if paired.is_some() {
         return Ok(paired);
     }
@@ -137,7 +128,7 @@ fn bad_id(alloc: Global, lowered: &Lowered) -> Result<Option<AdapterId>, AllocEr
     if called.is_some() {
         return Ok(called);
     }
-    let exported = bad_exported(alloc, lowered)?;
+    let exported = bad_exported(alloc, lowered, environment)?;
     if exported.is_some() {
         return Ok(exported);
     }
@@ -152,7 +143,8 @@ fn bad_id(alloc: Global, lowered: &Lowered) -> Result<Option<AdapterId>, AllocEr
 pub fn bad_adapter(alloc: Global, lowered: &Lowered) -> Result<Option<Fault>, AllocError>
     ensures fault { IfOk result (λ fault. fault ≡ spec.bad_adapter lowered.now) }
 {
-    match bad_id(alloc, lowered)? {
+    let environment = environment_of(alloc, lowered)?;
+    match bad_id(alloc, lowered, &environment)? {
         Some(adapter) => Ok(Some(Fault::BadAdapter { adapter })),
         None => Ok(None),
     }

@@ -10,7 +10,7 @@ use Rattle.glue_tree.specs.Term.{Export, Lines, NoLines}
 use Rattle.glue_tree.specs.Plainly.{terms_of}
 use Rattle.glue_tree.proofs.Fit.{fit, all_fit, line_fit, lines_fit}
 use Rattle.glue_steps.specs.declared.step.Step.{Step}
-use Rattle.glue_binding.specs.Spelling.{Plain, Missing, Local, Unsigned, NotZero, term_of, terms, write_call, address_term, load_call, store_call, Piece, Ahead, Cleanup, pieces_of, nested, tree_of, temporaries}
+use Rattle.glue_binding.specs.Spelling.{Plain, Missing, Local, Unsigned, NotZero, term_of, terms, write_call, address_term, load_call, store_call, closure_call, Piece, Ahead, Cleanup, pieces_of, nested, tree_of, temporaries}
 use Rattle.glue_binding.proofs.Each.{Each}
 use Rattle.glue_binding.proofs.Standing.{IsNamed, step_fit, fitting, steps_each, run_stands, bound_stands}
 use Rattle.glue_binding.proofs.Rowwise.{IsRowwise, AllHave, pieces_have}
@@ -65,6 +65,14 @@ store_fit view offset true p q f h k =
     and_true _ _ (and_true _ _ (and_true _ _ f refl) (ascii_prop (codes "setBigInt64") refl))
     (and_true _ _ (and_true _ _ (plain_fit p h) refl) (and_true _ _ (plain_fit q k) refl))
 
+-- what a helper makes a closure by
+closure_fit : (helper function : List ℕ) (p q : Plain)
+    → ((is_ident helper && not (is_wasm helper)) && (is_ident function && not (is_wasm function))) ≡ true → IsNamed p → IsNamed q
+    → fit (closure_call helper function (p ∷ q ∷ [])) ≡ true
+closure_fit helper function p q f h k =
+    let names = and_parts (is_ident helper && not (is_wasm helper)) (is_ident function && not (is_wasm function)) f in
+    and_true _ _ names.0 (and_true _ _ (plain_fit p h) (and_true _ _ (plain_fit q k) (and_true _ _ names.1 refl)))
+
 fits : IsRowwise (λ l. line_fit l ≡ true) IsNamed IsName (λ s. step_fit s ≡ true)
 fits = record {
   missing = tt;
@@ -98,6 +106,7 @@ fits = record {
   gives_room_back = λ size f. refl;
   loads = λ view offset is_wide f x d p h. and_true _ _ d (load_fit view offset is_wide p f h);
   stores = λ view offset is_wide f p q h k. store_fit view offset is_wide p q f h k;
+  makes = λ helper function f x d p q h k. and_true _ _ d (closure_fit helper function p q f h k);
   finds = λ list f x d p h. and_true _ _ d (and_true _ _ (and_true _ _ f (ascii_prop (codes "indexOf") refl)) (terms_fit (p ∷ []) (h, tt)));
   picks = λ list f x d p h. and_true _ _ d (and_true _ _ f (plain_fit p h));
 }

@@ -20,8 +20,8 @@ use Rattle.glue_binding.proofs.Parts.{parts_found}
 use Rattle.glue_steps.specs.Stack.{top, below, item_at, last_of, operands, without}
 use Rattle.glue_steps.specs.AdapterMeaning.{reading_method, writing_method, known}
 use Rattle.glue_steps.specs.declared.step.Step.{Step}
-use Rattle.glue_steps.specs.declared.step.Step.TheVariants.{Parameter, Unchanged, CallExport, CallImport, ToUnsigned, IsNotZero, ToUnsigned64, CallHelper, IndexFromBorrow, UnwrapResult, PassToMemory, DeferFree, CopyOut, ReturnPointer, LoadReturn, StoreReturn, IndexOf, ItemAt}
-use Rattle.glue_binding.specs.Spelling.{Plain, Missing, Local, Unsigned, NotZero, term_of, terms, first, later, next_names, write_call, address_term, written_length, copy_call, view_method, load_call, store_call, parts_words, import_line_words, Piece, Ahead, Cleanup, ending, import_row, row, pieces_of, nested, tree_of}
+use Rattle.glue_steps.specs.declared.step.Step.TheVariants.{Parameter, Unchanged, CallExport, CallImport, ToUnsigned, IsNotZero, ToUnsigned64, CallHelper, IndexFromBorrow, UnwrapResult, PassToMemory, DeferFree, CopyOut, ReturnPointer, LoadReturn, StoreReturn, MakeClosure, IndexOf, ItemAt}
+use Rattle.glue_binding.specs.Spelling.{Plain, Missing, Local, Unsigned, NotZero, term_of, terms, first, later, next_names, write_call, address_term, written_length, copy_call, view_method, load_call, store_call, closure_call, parts_words, import_line_words, Piece, Ahead, Cleanup, ending, import_row, row, pieces_of, nested, tree_of}
 use Rattle.glue_binding.specs.Outer.{outer_in, seed_words}
 
 -- operands have no names of a kind that locals have none of
@@ -88,6 +88,7 @@ row_many (CopyOut helper) p t p' t' n n' h = without_many 2 t t' h
 row_many (ReturnPointer size) p t p' t' n n' h = h
 row_many (LoadReturn view offset is_wide) p t p' t' n n' h = h
 row_many (StoreReturn view offset is_wide) p t p' t' n n' h = below_many t t' h
+row_many (MakeClosure helper function) p t p' t' n n' h = without_many 2 t t' h
 row_many (IndexOf list) p t p' t' n n' h = below_many t t' h
 row_many (ItemAt list) p t p' t' n n' h = below_many t t' h
 
@@ -166,6 +167,12 @@ module _ (kind : Word → Option (List ℕ)) (outer : IsOuter kind) where
       beside (equal (leaves (view_method view (writing_method is_wide))))
       (beside (beside (operand p p') (equal [])) (beside (operand q q') (equal [])))
 
+  -- `helper(p, q, function)`
+  closure_same : (helper function : List ℕ) (p q p' q' : Plain)
+      → Alike (leaves (closure_call helper function (p ∷ q ∷ []))) (leaves (closure_call helper function (p' ∷ q' ∷ [])))
+  closure_same helper function p q p' q' =
+      kept (w.Refer helper false) (beside (operand p p') (beside (operand q q') (equal (w.Refer function false ∷ []))))
+
   -- the same pieces, but for the locals
   abbrev AllAlike : List Piece → List Piece → Type 0
   AllAlike [] [] = Unit {0}
@@ -238,6 +245,11 @@ module _ (kind : Word → Option (List ℕ)) (outer : IsOuter kind) where
   )
   row_same (StoreReturn view offset is_wide) p t p' t' n n' = (
     store_same view offset is_wide (item_at Missing p 0) (top Missing t) (item_at Missing p' 0) (top Missing t'),
+    tt,
+  )
+  row_same (MakeClosure helper function) p t p' t' n n' = (
+    bind (first n) (first n')
+        (closure_same helper function (top Missing (below t)) (top Missing t) (top Missing (below t')) (top Missing t')),
     tt,
   )
   row_same (IndexOf list) p t p' t' n n' = (

@@ -29,8 +29,8 @@ use Rattle.glue_tree.proofs.Functions.{local_kind, local_bound_kind}
 use Rattle.glue_steps.specs.Stack.{top, below, item_at, last_of, operands, without}
 use Rattle.glue_steps.specs.AdapterMeaning.{stack_mover, reading_method, writing_method}
 use Rattle.glue_steps.specs.declared.step.Step.{Step}
-use Rattle.glue_steps.specs.declared.step.Step.TheVariants.{Parameter, Unchanged, CallExport, CallImport, ToUnsigned, IsNotZero, ToUnsigned64, CallHelper, IndexFromBorrow, UnwrapResult, PassToMemory, DeferFree, CopyOut, ReturnPointer, LoadReturn, StoreReturn, IndexOf, ItemAt}
-use Rattle.glue_binding.specs.Spelling.{Plain, Missing, Local, Unsigned, NotZero, term_of, terms, is_comparison, word_if, plain_words, guarded_words, argument_words, arguments_words, next_names, write_call, address_term, copy_call, load_call, store_call, part_words, parts_words, start_words, import_line_words, Piece, Ahead, Cleanup, ending, import_row, pieces_of, nested, tree_of, result_of, counted, wanted_from, temporaries}
+use Rattle.glue_steps.specs.declared.step.Step.TheVariants.{Parameter, Unchanged, CallExport, CallImport, ToUnsigned, IsNotZero, ToUnsigned64, CallHelper, IndexFromBorrow, UnwrapResult, PassToMemory, DeferFree, CopyOut, ReturnPointer, LoadReturn, StoreReturn, MakeClosure, IndexOf, ItemAt}
+use Rattle.glue_binding.specs.Spelling.{Plain, Missing, Local, Unsigned, NotZero, term_of, terms, is_comparison, word_if, plain_words, guarded_words, argument_words, arguments_words, next_names, write_call, address_term, copy_call, load_call, store_call, closure_call, part_words, parts_words, start_words, import_line_words, Piece, Ahead, Cleanup, ending, import_row, pieces_of, nested, tree_of, result_of, counted, wanted_from, temporaries}
 use Rattle.glue_binding.proofs.Each.{Each, each_by, each_there, each_item, each_below}
 use Rattle.glue_binding.proofs.Coming.{next_count, next_rest, first_enough, left_exact}
 use Rattle.glue_binding.proofs.Standing.{part_good, expression_fits, step_fit, fitting, fitting_good, steps_each, prelude_places, value_places}
@@ -63,6 +63,7 @@ outside_words (CopyOut helper) = w.Refer helper false ∷ w.Prop (codes "slice")
 outside_words (ReturnPointer size) = w.Refer (codes "wasm") false ∷ w.Wasm stack_mover ∷ []
 outside_words (LoadReturn view offset is_wide) = w.Refer view false ∷ w.Prop (reading_method is_wide) ∷ []
 outside_words (StoreReturn view offset is_wide) = w.Refer view false ∷ w.Prop (writing_method is_wide) ∷ []
+outside_words (MakeClosure helper function) = w.Refer helper false ∷ w.Refer function false ∷ []
 outside_words (IndexOf list) = w.Refer list false ∷ w.Prop (codes "indexOf") ∷ []
 outside_words (ItemAt list) = w.Refer list false ∷ []
 outside_words other = []
@@ -286,6 +287,12 @@ module _ (kind : Word → Option (List ℕ)) (is : IsKind kind) where
         let both = split (w.Refer helper false ∷ []) (w.Prop (codes "slice") ∷ []) f in
         merge (merge (merge both.0 (terms_hold args h)) both.1) none
 
+    closure_holds : (helper function : List ℕ) → Holds (outside_words (MakeClosure helper function)) → (p q : Plain) → OfPlain p → OfPlain q
+        → Holds (leaves (closure_call helper function (p ∷ q ∷ [])))
+    closure_holds helper function f p q h k =
+        let both = split (w.Refer helper false ∷ []) (w.Refer function false ∷ []) f in
+        merge both.0 (merge (plain_holds p h) (merge (plain_holds q k) both.1))
+
     held : IsRowwise (λ l. Holds (line_leaves l)) OfPlain OfName (λ s. Holds (outside_words s) × Known s)
     held = record {
       missing = tt;
@@ -313,6 +320,7 @@ module _ (kind : Word → Option (List ℕ)) (is : IsKind kind) where
       gives_room_back = λ size f. f.0;
       loads = λ view offset is_wide f x d p h. merge d.declared (merge f.0 (merge (merge (plain_holds p h) none) none));
       stores = λ view offset is_wide f p q h k. merge f.0 (merge (merge (plain_holds p h) none) (merge (plain_holds q k) none));
+      makes = λ helper function f x d p q h k. merge d.declared (closure_holds helper function f.0 p q h k);
       finds = λ list f x d p h. merge d.declared (merge f.0 (terms_hold (p ∷ []) (h, tt)));
       picks = λ list f x d p h. merge d.declared (merge f.0 (plain_holds p h));
     }
@@ -519,6 +527,12 @@ store_declares : (view : List ℕ) (offset : ℕ) (is_wide : Bool) (p q : Plain)
 store_declares view offset is_wide p q = place_declares p (leaves (term_of q) ++ [])
     (none_declared (leaves (term_of q)) [] (plain_none local_bound_name (λ n. refl) q) refl)
 
+-- nor does what a helper makes a closure by
+closure_declares : (helper function : List ℕ) (p q : Plain) → local_bound_in (leaves (closure_call helper function (p ∷ q ∷ []))) ≡ []
+closure_declares helper function p q =
+    none_declared (leaves (term_of p)) (leaves (term_of q) ++ w.Refer function false ∷ []) (plain_none local_bound_name (λ n. refl) p)
+    (none_declared (leaves (term_of q)) (w.Refer function false ∷ []) (plain_none local_bound_name (λ n. refl) q) refl)
+
 ending_declares : (stack : List Plain) → declared_in (ending stack) ≡ []
 ending_declares [] = refl
 ending_declares (p ∷ stack) = after_none (leaves (term_of p)) [] [] (plain_none local_bound_name (λ n. refl) p) refl
@@ -603,6 +617,11 @@ pieces_declare (LoadReturn view offset is_wide ∷ steps) params stack (x ∷ na
 pieces_declare (StoreReturn view offset is_wide ∷ steps) params stack names count g e =
     after_none (leaves (store_call view offset is_wide (item_at Missing params 0) (top Missing stack))) _ names
     (store_declares view offset is_wide (item_at Missing params 0) (top Missing stack)) (pieces_declare steps params _ names count g.1 e)
+pieces_declare (MakeClosure helper function ∷ steps) params stack [] count g e = absurd (omega (arith, e))
+pieces_declare (MakeClosure helper function ∷ steps) params stack (x ∷ names) count g e =
+    ap (λ (ns : List (List ℕ)). x ∷ ns) (after_none (leaves (closure_call helper function (operands Missing 2 stack []))) _ names
+    (closure_declares helper function (top Missing (below stack)) (top Missing stack))
+    (pieces_declare steps params _ names (counted (MakeClosure helper function) count) g.1 (omega (arith, e))))
 pieces_declare (IndexOf list ∷ steps) params stack [] count g e = absurd (omega (arith, e))
 pieces_declare (IndexOf list ∷ steps) params stack (x ∷ names) count g e =
     ap (λ (ns : List (List ℕ)). x ∷ ns) (after_none (leaves_of (terms (top Missing stack ∷ []))) _ names

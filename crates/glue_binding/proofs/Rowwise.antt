@@ -6,8 +6,8 @@ use Rattle.glue_imports.specs.declared.part.Expression.{Expression}
 use Rattle.glue_steps.specs.Stack.{top, below, item_at, last_of, operands, without}
 use Rattle.glue_steps.specs.AdapterMeaning.{known}
 use Rattle.glue_steps.specs.declared.step.Step.{Step}
-use Rattle.glue_steps.specs.declared.step.Step.TheVariants.{Parameter, Unchanged, CallExport, CallImport, ToUnsigned, IsNotZero, ToUnsigned64, CallHelper, IndexFromBorrow, UnwrapResult, PassToMemory, DeferFree, CopyOut, ReturnPointer, LoadReturn, StoreReturn, IndexOf, ItemAt}
-use Rattle.glue_binding.specs.Spelling.{Plain, Missing, Local, Unsigned, NotZero, term_of, export_call, helper_call, unsigned_64_call, import_call, gives_back_line, throw_line, address_term, written_length, free_line, copy_call, mover_call, load_call, store_call, index_call, item_term, next_names, Piece, Ahead, Cleanup, ending, import_row, row, pieces_of, result_of, wanted_by, counted, wanted_from}
+use Rattle.glue_steps.specs.declared.step.Step.TheVariants.{Parameter, Unchanged, CallExport, CallImport, ToUnsigned, IsNotZero, ToUnsigned64, CallHelper, IndexFromBorrow, UnwrapResult, PassToMemory, DeferFree, CopyOut, ReturnPointer, LoadReturn, StoreReturn, MakeClosure, IndexOf, ItemAt}
+use Rattle.glue_binding.specs.Spelling.{Plain, Missing, Local, Unsigned, NotZero, term_of, export_call, helper_call, unsigned_64_call, import_call, gives_back_line, throw_line, address_term, written_length, free_line, copy_call, mover_call, load_call, store_call, closure_call, index_call, item_term, next_names, Piece, Ahead, Cleanup, ending, import_row, row, pieces_of, result_of, wanted_by, counted, wanted_from}
 use Rattle.glue_binding.proofs.Each.{Each, each_both, each_item, each_last, each_top, each_below, each_without, each_operands}
 use Rattle.glue_binding.proofs.Coming.{next_count, first_enough, left_enough, next_each, left_each}
 
@@ -46,6 +46,8 @@ pub record IsRowwise (D : Line → Type 0) (S : Plain → Type 0) (N : List ℕ 
       → D (Bind x (load_call view offset is_wide p))
   pub stores : (view : List ℕ) (offset : ℕ) (is_wide : Bool) → F (StoreReturn view offset is_wide) → (p q : Plain) → S p → S q
       → D (Run (store_call view offset is_wide p q))
+  pub makes : (helper function : List ℕ) → F (MakeClosure helper function) → (x : List ℕ) → N x → (p q : Plain) → S p → S q
+      → D (Bind x (closure_call helper function (p ∷ q ∷ [])))
   pub finds : (list : List ℕ) → F (IndexOf list) → (x : List ℕ) → N x → (p : Plain) → S p → D (Bind x (index_call list p))
   pub picks : (list : List ℕ) → F (ItemAt list) → (x : List ℕ) → N x → (p : Plain) → S p → D (Bind x (item_term list p))
 
@@ -99,6 +101,8 @@ row_enough (ReturnPointer size) params stack (x ∷ names) count rest le = omega
 row_enough (LoadReturn view offset is_wide) params stack [] count rest le = absurd (omega (arith, le))
 row_enough (LoadReturn view offset is_wide) params stack (x ∷ names) count rest le = omega (arith, le)
 row_enough (StoreReturn view offset is_wide) params stack names count rest le = le
+row_enough (MakeClosure helper function) params stack [] count rest le = absurd (omega (arith, le))
+row_enough (MakeClosure helper function) params stack (x ∷ names) count rest le = omega (arith, le)
 row_enough (IndexOf list) params stack [] count rest le = absurd (omega (arith, le))
 row_enough (IndexOf list) params stack (x ∷ names) count rest le = omega (arith, le)
 row_enough (ItemAt list) params stack [] count rest le = absurd (omega (arith, le))
@@ -285,6 +289,17 @@ module _ {D : Line → Type 0} {S : Plain → Type 0} {N : List ℕ → Type 0} 
     stack_has = each_below S Missing is.missing stack t;
     names_have = m;
   }
+  row_has (MakeClosure helper function) params stack [] count rest f le p t m = absurd (omega (arith, le))
+  row_has (MakeClosure helper function) params stack (x ∷ names) count rest f le p t m =
+      let under = each_below S Missing is.missing stack t in record {
+        pieces_have = (
+          is.makes helper function f x m.0 (top Missing (below stack)) (top Missing stack)
+              (each_top S Missing is.missing (below stack) under) (each_top S Missing is.missing stack t),
+          tt,
+        );
+        stack_has = (is.local x m.0, each_below S Missing is.missing (below stack) under);
+        names_have = m.1;
+      }
   row_has (IndexOf list) params stack [] count rest f le p t m = absurd (omega (arith, le))
   row_has (IndexOf list) params stack (x ∷ names) count rest f le p t m = record {
     pieces_have = (is.finds list f x m.0 (top Missing stack) (each_top S Missing is.missing stack t), tt);

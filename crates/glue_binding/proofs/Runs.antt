@@ -8,15 +8,15 @@ use Rattle.std.proofs.lemmas.List.{map-append}
 use Rattle.std.proofs.lemmas.Slice.Eq.{bytes_eq-Decides}
 use Rattle.values.specs.Lists.{IsIn, IsAway, AreDistinct}
 use Rattle.values.proofs.Members.{in_left, in_right}
-use Rattle.values.specs.Value.{Thing, Helper, OfExport, Value, Undefined, Null, Number, Entry, Reads, ReadsAt, Calls, CallsOn, CallsAdapter, Answer, Ran, Went, Threw, Ended, Act, goes_on, step, and_then_cleans, is_true, unsigned, is_not_zero, sum_of, Truth}
+use Rattle.values.specs.Value.{Thing, Helper, OfExport, Value, Undefined, Null, Number, Entry, Reads, Calls, CallsOn, CallsAdapter, Answer, Ran, Went, Threw, Ended, Act, goes_on, step, and_then_cleans, is_true, unsigned, is_not_zero}
 use Rattle.glue_tree.specs.Term.{Export, Line, Run, Fail, Lines, NoLines, AndLine}
 use Rattle.glue_tree.specs.Plainly.{terms_of}
 use Rattle.glue_tree.specs.TreeMeaning.{Locals, locals_of, value_in, if_true, value_of, values_of, unless_left, and_always, runs, tree_meaning}
 use Rattle.glue_steps.specs.Stack.{top, below, item_at, last_of, operands, without}
-use Rattle.glue_steps.specs.AdapterMeaning.{Left, gives_back, throws_if, unsigned_64, exports_of, writes, unless_absent, address_of, frees, copies, takes_room, gives_room_back, loads, stores, index_of, item_of, known, helpers_of, act, cleans, after_act, newest, means, seen, adapter_meaning}
+use Rattle.glue_steps.specs.AdapterMeaning.{Left, gives_back, throws_if, unsigned_64, exports_of, writes, unless_absent, address_of, frees, copies, takes_room, gives_room_back, loads, stores, makes, index_of, item_of, known, helpers_of, act, cleans, after_act, newest, means, seen, adapter_meaning}
 use Rattle.glue_steps.specs.declared.step.Step.{Step}
-use Rattle.glue_steps.specs.declared.step.Step.TheVariants.{Parameter, Unchanged, CallExport, CallImport, ToUnsigned, IsNotZero, ToUnsigned64, CallHelper, IndexFromBorrow, UnwrapResult, PassToMemory, DeferFree, CopyOut, ReturnPointer, LoadReturn, StoreReturn, IndexOf, ItemAt}
-use Rattle.glue_binding.specs.Spelling.{Plain, Missing, Local, Unsigned, NotZero, term_of, plain_value, terms, helper_call, unsigned_64_call, next_names, gives_back_line, write_call, address_term, free_line, copy_call, mover_call, load_call, store_call, index_call, item_term, import_row, pieces_of, cleaned_by, nested, tree_of, result_of, wanted_from, counted, temporaries}
+use Rattle.glue_steps.specs.declared.step.Step.TheVariants.{Parameter, Unchanged, CallExport, CallImport, ToUnsigned, IsNotZero, ToUnsigned64, CallHelper, IndexFromBorrow, UnwrapResult, PassToMemory, DeferFree, CopyOut, ReturnPointer, LoadReturn, StoreReturn, MakeClosure, IndexOf, ItemAt}
+use Rattle.glue_binding.specs.Spelling.{Plain, Missing, Local, Unsigned, NotZero, term_of, plain_value, terms, helper_call, unsigned_64_call, next_names, gives_back_line, write_call, address_term, free_line, copy_call, mover_call, load_call, store_call, closure_call, index_call, item_term, import_row, pieces_of, cleaned_by, nested, tree_of, result_of, wanted_from, counted, temporaries}
 use Rattle.glue_binding.specs.Binding.{KnowsHelpers}
 use Rattle.glue_imports.specs.declared.part.Expression.{Expression}
 use Rattle.glue_binding.proofs.Each.{Each, each_both, each_item, each_top, each_below, each_without}
@@ -46,6 +46,14 @@ gathered : (ran : Ran (List Value)) (v : Value) (next : List Value → Act Value
 gathered (Went vs trace answers) v next = refl
 gathered (Threw u trace answers) v next = refl
 gathered (Ended trace) v next = refl
+
+-- a value behind two others, and then a step with all of them
+gathered_last : (ran : Ran Value) (u v : Value) (next : List Value → Act Value)
+    → goes_on (goes_on (goes_on (goes_on ran (λ w. Went (w ∷ []))) (λ vs. Went (v ∷ vs))) (λ vs. Went (u ∷ vs))) next
+    ≡ goes_on ran (λ w. next (u ∷ v ∷ w ∷ []))
+gathered_last (Went w trace answers) u v next = refl
+gathered_last (Threw w trace answers) u v next = refl
+gathered_last (Ended trace) u v next = refl
 
 nothing_after : (ran : Ran (Option Value)) → unless_left ran (Went None) ≡ ran
 nothing_after (Went None trace answers) = refl
@@ -352,6 +360,25 @@ module _ (thing_of : List ℕ → Thing) where
       (goes_alike (step (Calls (Helper view) []) trace answers) _ _
       (λ v trace answers. rw (value_is p env trace answers, value_is q env trace answers) refl))
 
+  -- so is a closure made: a function of the file is read, and then a helper makes it
+  makes_is : (helper function : List ℕ) (stack : List Plain) (env : Locals) → thing_of helper ≡ Helper helper
+      → thing_of function ≡ Helper function → (trace : List Entry) (answers : List Answer)
+      → value_of thing_of (closure_call helper function (operands Missing 2 stack [])) env trace answers
+      ≡ makes helper function (map (plain_value env) stack) trace answers
+  makes_is helper function stack env e k trace answers =
+      let values = map (plain_value env) stack in
+      rw (
+        value_is (top Missing (below stack)) env trace answers,
+        value_is (top Missing stack) env trace answers,
+        e,
+        k,
+        top_is env stack,
+        top_is env (below stack),
+        below_is env stack,
+      )
+      (gathered_last (step (Reads (Helper function)) trace answers) (top Null (below values)) (top Null values)
+      (λ vs. step (Calls (Helper helper) vs)))
+
   -- so is a text found in a list, or taken from it
   index_is : (list : List ℕ) (p : Plain) (env : Locals) → thing_of list ≡ Helper list
       → (trace : List Entry) (answers : List Answer) → value_of thing_of (index_call list p) env trace answers
@@ -593,6 +620,14 @@ module _ (thing_of : List ℕ → Thing) where
       _ _ _ (λ v trace answers.
       same steps params (below stack) names env count (λ key at. k key (inr at)) (fresh_without 1 f) le trace answers
       ∙ ap (λ s. means steps (map (plain_value env) params) s [] trace answers) (below_is env stack)))
+  same (MakeClosure helper function ∷ steps) params stack [] env count k f le trace answers = absurd (omega (arith, le))
+  same (MakeClosure helper function ∷ steps) params stack (x ∷ names) env count k f le trace answers =
+      rw (makes_is helper function stack env (k helper (inl refl)) (k function (inr (inl refl))) trace answers)
+      (one_step (makes helper function (map (plain_value env) stack) trace answers) _ _ _ (λ v trace answers.
+      same steps params (Local x ∷ without 2 stack) names ((x, v) ∷ env) (counted (MakeClosure helper function) count)
+      (λ key at. k key (inr (inr at))) (fresh_push (fresh_without 2 f)) (omega (arith, le)) trace answers
+      ∙ bound steps params (without 2 stack) x v env _ (without_is env 2 stack) (f.from_params x (inl refl))
+      ((fresh_without 2 f).from_stack x (inl refl)) trace answers))
   same (IndexOf list ∷ steps) params stack [] env count k f le trace answers = absurd (omega (arith, le))
   same (IndexOf list ∷ steps) params stack (x ∷ names) env count k f le trace answers =
       rw (index_is list (top Missing stack) env (k list (inl refl)) trace answers, top_is env stack)

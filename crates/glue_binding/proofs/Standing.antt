@@ -28,7 +28,7 @@ use Rattle.glue_imports.specs.declared.part.Part.{Part}
 use Rattle.glue_imports.specs.declared.part.Part.TheVariants as part
 use Rattle.glue_imports.specs.declared.part.Expression.{Expression}
 use Rattle.glue_steps.specs.declared.step.Step.{Step}
-use Rattle.glue_steps.specs.declared.step.Step.TheVariants.{CallImport, CallHelper, UnwrapResult, PassToMemory, CopyOut, LoadReturn, StoreReturn, IndexOf, ItemAt}
+use Rattle.glue_steps.specs.declared.step.Step.TheVariants.{CallImport, CallHelper, UnwrapResult, PassToMemory, CopyOut, LoadReturn, StoreReturn, MakeClosure, IndexOf, ItemAt}
 use Rattle.glue_binding.specs.Spelling.{Plain, Missing, Local, Unsigned, NotZero, path_words, shift_words, unequal_words, is_comparison, word_if, plain_words, guarded_words, argument_words, arguments_words, without_dot, chained_words, part_words, parts_words, import_line_words}
 use Rattle.glue_binding.proofs.Each.{Each, each_there, each_item, each_below}
 use Rattle.glue_binding.proofs.Parts.{bound_places}
@@ -173,6 +173,7 @@ step_fit (PassToMemory helper exports _) = is_ident helper && not (is_wasm helpe
 step_fit (CopyOut helper) = is_ident helper && not (is_wasm helper)
 step_fit (LoadReturn view offset is_wide) = is_ident view && not (is_wasm view)
 step_fit (StoreReturn view offset is_wide) = is_ident view && not (is_wasm view)
+step_fit (MakeClosure helper function) = (is_ident helper && not (is_wasm helper)) && (is_ident function && not (is_wasm function))
 step_fit (IndexOf list) = is_ident list && not (is_wasm list)
 step_fit (ItemAt list) = is_ident list && not (is_wasm list)
 step_fit other = true

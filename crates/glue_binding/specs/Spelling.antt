@@ -25,7 +25,7 @@ use Rattle.glue_tree.specs.FixedWords.{semicolon}
 use Rattle.glue_steps.specs.Stack.{top, below, item_at, last_of, operands, without}
 use Rattle.glue_steps.specs.AdapterMeaning.{stack_mover, reading_method, writing_method, known}
 use Rattle.glue_steps.specs.declared.step.Step.{Step}
-use Rattle.glue_steps.specs.declared.step.Step.TheVariants.{Parameter, Unchanged, CallExport, CallImport, ToUnsigned, IsNotZero, ToUnsigned64, CallHelper, IndexFromBorrow, UnwrapResult, PassToMemory, DeferFree, CopyOut, ReturnPointer, LoadReturn, StoreReturn, IndexOf, ItemAt}
+use Rattle.glue_steps.specs.declared.step.Step.TheVariants.{Parameter, Unchanged, CallExport, CallImport, ToUnsigned, IsNotZero, ToUnsigned64, CallHelper, IndexFromBorrow, UnwrapResult, PassToMemory, DeferFree, CopyOut, ReturnPointer, LoadReturn, StoreReturn, MakeClosure, IndexOf, ItemAt}
 
 -- ---- operands
 
@@ -258,6 +258,10 @@ store_call view offset is_wide address stored =
     Apply (view_method view (writing_method is_wide))
     (AndTerm (place_term address offset) (AndTerm (term_of stored) (AndTerm (Const constant.True) NoTerms)))
 
+-- `helper(address, other, function)`
+abbrev pub closure_call : (helper function : List ℕ) → (args : List Plain) → Term
+closure_call helper function args = Apply (Name helper) (terms_of (map term_of args ++ Name function ∷ []))
+
 -- `list.indexOf(p)`
 abbrev pub index_call : (list : List ℕ) → Plain → Term
 index_call list p = Apply (Field (Name list) (codes "indexOf")) (terms (p ∷ []))
@@ -333,6 +337,9 @@ row (LoadReturn view offset is_wide) params stack names =
     (Local (first names) ∷ stack) (later names)
 row (StoreReturn view offset is_wide) params stack names =
     made (Ahead (Run (store_call view offset is_wide (item_at Missing params 0) (top Missing stack))) ∷ []) (below stack) names
+row (MakeClosure helper function) params stack names =
+    made (Ahead (Bind (first names) (closure_call helper function (operands Missing 2 stack []))) ∷ [])
+    (Local (first names) ∷ without 2 stack) (later names)
 row (IndexOf list) params stack names =
     made (Ahead (Bind (first names) (index_call list (top Missing stack))) ∷ []) (Local (first names) ∷ below stack) (later names)
 row (ItemAt list) params stack names =
@@ -383,6 +390,7 @@ wanted_by (PassToMemory helper exports optional) count = numbered (codes "ptr") 
 wanted_by (CopyOut helper) count = numbered (codes "v") count ∷ []
 wanted_by (ReturnPointer size) count = codes "retptr" ∷ []
 wanted_by (LoadReturn view offset is_wide) count = numbered (codes "v") count ∷ []
+wanted_by (MakeClosure helper function) count = numbered (codes "v") count ∷ []
 wanted_by (IndexOf list) count = numbered (codes "v") count ∷ []
 wanted_by (ItemAt list) count = numbered (codes "v") count ∷ []
 wanted_by other count = []
@@ -395,6 +403,7 @@ counted IndexFromBorrow count = count + 1
 counted (PassToMemory helper exports optional) count = count + 1
 counted (CopyOut helper) count = count + 1
 counted (LoadReturn view offset is_wide) count = count + 1
+counted (MakeClosure helper function) count = count + 1
 counted (IndexOf list) count = count + 1
 counted (ItemAt list) count = count + 1
 counted other count = count

@@ -8,6 +8,7 @@ ghost use Rattle.glue_steps.specs.AdapterMeaning.{known};
 ghost use Rattle.glue_steps.specs.Stack.{item_at};
 
 use crate::calls::{call_export, call_import};
+use crate::closures::make_closure;
 use crate::lists::{index_of, item_at};
 use crate::memory::{copy_out, defer_free, pass_to_memory};
 use crate::numbers::{is_not_zero, to_unsigned, to_unsigned_64};
@@ -190,6 +191,7 @@ impl Body {
                 offset,
                 is_wide,
             } => store_return(alloc, self, view, *offset, *is_wide, names.as_slice()),
+            Step::MakeClosure { helper, function } => make_closure(alloc, self, helper, function),
             Step::IndexOf { list } => index_of(alloc, self, list),
             Step::ItemAt { list } => item_at(alloc, self, list),
         }

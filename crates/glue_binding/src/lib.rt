@@ -10,6 +10,7 @@ mod arguments;
 mod binding;
 mod body;
 mod calls;
+mod closures;
 mod draw;
 mod import;
 mod lists;

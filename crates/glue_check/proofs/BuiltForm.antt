@@ -1,11 +1,10 @@
 -- What is known of a description of which all is built.
 use Rattle.std.proofs.Common.{◌≡◌, ℕ, List, [], ◌∷◌, Bool, true, false, not, ◌&&◌, ◌||◌, Option, Some, None, true≢false, refl, sym, ap, ◌∙◌, inl, inr, rules}
-use Rattle.std.specs.List.{list_any, list_all}
+use Rattle.std.specs.List.{list_any}
 use Rattle.std.specs.Option.{is_some}
 use Rattle.std.proofs.lemmas.Slice.Eq.{bytes_eq-Decides}
 use Rattle.std.specs.Str.{bytes_eq}
 use Rattle.values.specs.Lists.{IsIn, IsAway}
-use Rattle.glue_shared.specs.declared.adapter.Adapter.{Adapter}
 use Rattle.glue_shared.specs.declared.aux.AuxExport.{AuxExport}
 use Rattle.glue_shared.specs.declared.aux.AuxExportKind.{AuxExportKind}
 use Rattle.glue_shared.specs.declared.aux.AuxExportKind.TheVariants as export_kinds
@@ -18,14 +17,13 @@ use Rattle.glue_shared.specs.Names.{is_one_of, own_imports}
 use Rattle.glue_adapters.specs.Resolving.{entry_at, is_some_item}
 use Rattle.glue_published.specs.Things.{stands_alone}
 use Rattle.glue_faults.proofs.First.{where_true-none, list_any-none, neither}
-use Rattle.glue_adapters.specs.Adapters.{code_of}
 use Rattle.glue_check.specs.declared.files.FileFlags.{FileFlags}
 use Rattle.glue_check.specs.declared.verdict.Condition.TheVariants as conditions
 use Rattle.glue_check.specs.Answers.{answer}
 use Rattle.glue_check.specs.Unbuilt as spec
 use Rattle.glue_imports.specs.Expressions.{has_expression}
 use Rattle.glue_names.proofs.Called.{or_last}
-use Rattle.glue_check.specs.Unbuilt.{is_told, is_unbuilt_entry, is_unbuilt_adapter}
+use Rattle.glue_check.specs.Unbuilt.{is_told, is_unbuilt_entry}
 use Rattle.glue_check.specs.Verdict.{unbuilt}
 use Rattle.glue_check.proofs.Conditions.{none_unbuilt}
 
@@ -151,41 +149,25 @@ unfolding answer
 exports_built f s l h e i =
     let classes = neither (is_some_item l.aux.structs) (list_any spec.is_member l.aux.exports) (no_classes f s l h).0 in
     let alone = list_any-none spec.is_member l.aux.exports e classes.1 i in
-    let codes = list_any is_unbuilt_adapter l.wit.adapters || is_some_item l.wit.exports in
-    let kept = is_some_item l.aux.imports_with_catch || list_any spec.is_special_export l.aux.exports in
-    let passed = neither codes kept (where_true-none (codes || kept) _ (none_unbuilt conditions.UnbuiltInstructions f s l (search rules) h)) in
-    let special = list_any-none spec.is_special_export l.aux.exports e (neither (is_some_item l.aux.imports_with_catch) (list_any spec.is_special_export l.aux.exports) passed.1).1 i in
+    let kept = neither (is_some_item l.aux.imports_with_catch) (list_any spec.is_special_export l.aux.exports)
+    (where_true-none (is_some_item l.aux.imports_with_catch || list_any spec.is_special_export l.aux.exports) _ (none_unbuilt conditions.UnbuiltInstructions f s l (search rules) h)) in
+    let special = list_any-none spec.is_special_export l.aux.exports e kept.1 i in
     let this = (neither (spec.takes_this e.kind) (e.variadic || e.jsdoc) special).0 in record { function = function_is e.kind alone this }
 
--- no class is described, no closure and no caught import
+-- no class is described, and no caught import
 pub record AreAbsent (l : Lowered) : Type 0 where
   pub structs : l.aux.structs ≡ []
-  pub callbacks : l.wit.exports ≡ []
   pub caught : l.aux.imports_with_catch ≡ []
 
 pub absent_built : (f : FileFlags) (s : Settings) (l : Lowered) → unbuilt f s l ≡ None → AreAbsent l
 unfolding answer
 absent_built f s l h =
     let classes = neither (is_some_item l.aux.structs) (list_any spec.is_member l.aux.exports) (no_classes f s l h).0 in
-    let codes = list_any is_unbuilt_adapter l.wit.adapters || is_some_item l.wit.exports in
-    let kept = is_some_item l.aux.imports_with_catch || list_any spec.is_special_export l.aux.exports in
-    let passed = neither codes kept (where_true-none (codes || kept) _ (none_unbuilt conditions.UnbuiltInstructions f s l (search rules) h)) in record {
+    let kept = neither (is_some_item l.aux.imports_with_catch) (list_any spec.is_special_export l.aux.exports)
+    (where_true-none (is_some_item l.aux.imports_with_catch || list_any spec.is_special_export l.aux.exports) _ (none_unbuilt conditions.UnbuiltInstructions f s l (search rules) h)) in record {
       structs = nothing l.aux.structs classes.0;
-      callbacks = nothing l.wit.exports (neither (list_any is_unbuilt_adapter l.wit.adapters) (is_some_item l.wit.exports) passed.0).1;
-      caught = nothing l.aux.imports_with_catch (neither (is_some_item l.aux.imports_with_catch) (list_any spec.is_special_export l.aux.exports) passed.1).0;
+      caught = nothing l.aux.imports_with_catch kept.0;
     }
-
--- ---- adapters
-
--- an adapter of simple types, each instruction of which is built
-pub adapters_built : (f : FileFlags) (s : Settings) (l : Lowered) → unbuilt f s l ≡ None → (e : ℕ × Adapter) → IsIn e l.wit.adapters → list_any spec.is_unbuilt_instruction (code_of e.1.kind) ≡ false
-unfolding answer is_unbuilt_adapter
-adapters_built f s l h e i =
-    let codes = list_any is_unbuilt_adapter l.wit.adapters || is_some_item l.wit.exports in
-    let kept = is_some_item l.aux.imports_with_catch || list_any spec.is_special_export l.aux.exports in
-    let passed = neither codes kept (where_true-none (codes || kept) _ (none_unbuilt conditions.UnbuiltInstructions f s l (search rules) h)) in
-    let each = list_any-none is_unbuilt_adapter l.wit.adapters e (neither (list_any is_unbuilt_adapter l.wit.adapters) (is_some_item l.wit.exports) passed.0).0 i in
-    (neither (not (list_all spec.is_simple e.1.args && list_all spec.is_simple e.1.results)) (list_any spec.is_unbuilt_instruction (code_of e.1.kind)) each).1
 
 -- ---- lifecycle
 

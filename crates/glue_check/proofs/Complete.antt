@@ -1,8 +1,9 @@
 -- Where code lacks no part and keeps the stack, each of its instructions has what it needs: no object is lent to a table of references, the
--- parts that it goes by are there, a global that tells where the stack of the module ends, where it takes room there, and the string enum that
--- it names is described. Of a description without a fault each adapter that becomes a function has such code.
+-- parts that it goes by are there, and so is the function that destroys closures, where it makes one, and a global that tells where the stack of
+-- the module ends, where it takes room there; the string enum that it names is described, and closures are made of adapters that they can call.
+-- Of a description without a fault each adapter that becomes a function has such code.
 use Rattle.std.proofs.Common.{◌≡◌, List, [], ◌∷◌, Bool, true, false, Option, Some, None, refl, sym, ap, ◌∙◌, subst, inl, inr, arith, true≢false}
-use Rattle.std.specs.Prelude.{ℕ, ◌&&◌, ◌||◌, cond, codes, is_some, not, option_and_then}
+use Rattle.std.specs.Prelude.{ℕ, All, ◌&&◌, ◌||◌, cond, codes, is_some, not, option_and_then}
 use Rattle.std.specs.List.{flat_map, list_any}
 use Rattle.std.specs.Option.{option_or}
 use Rattle.std.specs.Ordering.{nat_cmp}
@@ -10,6 +11,7 @@ use Rattle.std.proofs.lemmas.Bool.{and_parts}
 use Rattle.values.specs.Lists.{IsIn}
 use Rattle.values.specs.Map.{look_up}
 use Rattle.values.proofs.Members.{in_either}
+use Rattle.wasm_core.specs.ids.ExportId.{ExportId}
 use Rattle.wasm_core.specs.ids.ImportId.{ImportId}
 use Rattle.glue_shared.specs.declared.adapter.Adapter.{Adapter}
 use Rattle.glue_shared.specs.declared.adapter.Instruction.{Instruction}
@@ -18,32 +20,41 @@ use Rattle.glue_shared.specs.declared.aux.AuxExport.{AuxExport}
 use Rattle.glue_shared.specs.declared.description.Lowered.{Lowered}
 use Rattle.glue_shared.specs.declared.settings.Settings.{Settings}
 use Rattle.glue_shared.specs.Names as described_names
-use Rattle.glue_shared.specs.Names.{has_number, own_imports}
+use Rattle.glue_shared.specs.Names.{has_number, is_one_of, own_imports}
 use Rattle.glue_steps.specs.declared.needed.ReferencePart.{ReferencePart}
 use Rattle.glue_steps.specs.declared.needed.ReferencePart.TheVariants as parts
 use Rattle.glue_steps.specs.declared.needed.TheConstants.{REFERENCE_PARTS}
-use Rattle.glue_steps.specs.Needed.{goes_by, part_item}
+use Rattle.glue_steps.specs.Needed.{destroyer_item, goes_by, makes_closure, part_item}
 use Rattle.glue_steps.specs.Room.{is_room, makes_room, has_stack}
 use Rattle.glue_adapters.specs.declared.kind.Kind.{Kind}
 use Rattle.glue_adapters.specs.declared.kind.Kind.TheVariants as kind
-use Rattle.glue_adapters.specs.Adapters.{adapter_at, code_of, calls_export, calls_import, fits_inward, fits_outward, has_code, has_counts, is_few, passes_kinds}
-use Rattle.glue_adapters.specs.Pairs.{described}
-use Rattle.glue_adapters.specs.Stack.{after, effect, effect_of, enum_names, is_described_enum, is_well_stacked, js_kinds, keeps_stack, kinds_of, leaves, stack_after, uses_room}
+use Rattle.glue_adapters.specs.Adapters.{adapter_at, code_of, calls_import, fits_inward, fits_outward, has_code, has_counts, is_few, is_outward, passes_kinds}
+use Rattle.glue_adapters.specs.Pairs.{called_back, described, environment_of}
+use Rattle.glue_adapters.specs.Stack.{after, closure_kinds, effect, effect_of, enum_names, is_callback, is_well_stacked, js_kinds, keeps_stack, kinds_of, leaves, stack_after, uses_room}
 use Rattle.glue_faults.specs.First.{first_of}
 use Rattle.glue_faults.proofs.First.{first_of-none, list_any-none}
-use Rattle.glue_names.proofs.Called.{or_last}
+use Rattle.glue_names.proofs.Called.{number_in, or_last}
 use Rattle.glue_names.proofs.Globals.{from_flat}
-use Rattle.glue_names.specs.Printed.{code_by, enum_named, export_code, pair_code, printed_code, uses_shim}
-use Rattle.glue_check.specs.Missing.{lacked_unless, lends, part_name, lacks_part, part_lacked, reference_lacked, memory_lacked, stack_lacked, code_lacks}
+use Rattle.glue_names.proofs.MappedLists.{from_map, from_part}
+use Rattle.printed_adapters.specs.Printed.{adapter_ids, adapters_among, closure_id, closures_in, code_by, enum_named, export_code, outer_code, pair_code, printed_code, used_closures, uses_shim}
+use Rattle.printed_adapters.proofs.Choices.{each_by, from_filter, number_there}
+use Rattle.printed_adapters.proofs.Used.{used_least}
+use Rattle.glue_check.specs.Missing.{lacked_unless, lends, part_name, lacks_part, part_lacked, reference_lacked, closure_lacked, memory_lacked, stack_lacked, code_lacks}
 use Rattle.glue_check.specs.Verdict.{verdict}
 use Rattle.glue_check.proofs.Embedded.{code_complete, or_none, there_if}
-use Rattle.glue_check.proofs.Passed.{exports_fit, looked_up, pairs_fit}
+use Rattle.glue_check.proofs.Passed.{callbacks_fit, exports_fit, looked_up, pairs_fit}
+
+-- an adapter that closures call, with code and the parameters for what a closure holds
+abbrev pub is_closure_adapter : Lowered → ℕ → Bool
+is_closure_adapter l id = has_number id (called_back l) && is_callback (adapter_at l id)
 
 pub record IsComplete (s : Settings) (l : Lowered) (i : Instruction) : Type 0 where
   pub unlent : s.externref ≡ true → lends i ≡ false
   pub parts : s.externref ≡ true → (part : ReferencePart) → goes_by i part ≡ true → is_some (part_item l part) ≡ true
   pub room : is_room i ≡ true → has_stack l ≡ true
-  pub enums : (name : List ℕ) → IsIn name (enum_named i) → is_described_enum l name ≡ true
+  pub destroys : makes_closure i ≡ true → is_some (destroyer_item l) ≡ true
+  pub enums : (name : List ℕ) → IsIn name (enum_named i) → is_one_of (enum_names l) name ≡ true
+  pub closures : (id : ℕ) → closure_id i ≡ Some id → is_closure_adapter l id ≡ true
 
 -- all parts are listed
 part_listed : (part : ReferencePart) → IsIn part REFERENCE_PARTS
@@ -74,11 +85,15 @@ by_reference true l code h on =
           (first_of-none (part_lacked l code) REFERENCE_PARTS part both.1 (part_listed part)),
     )
 
+-- an instruction of a code passes a test where one of them does
+one_makes : (test : Instruction → Bool) (code : List Instruction) (i : Instruction) → IsIn i code → test i ≡ true → list_any test code ≡ true
+one_makes test [] i at h = absurd at
+one_makes test (j ∷ code) i (inl same) h = ap (λ (b : Bool). b || list_any test code) (ap test (sym same) ∙ h)
+one_makes test (j ∷ code) i (inr at) h = or_last (test j) (list_any test code) (one_makes test code i at h)
+
 -- code takes room where one of its instructions does, and then one of them does
 pub room_made : (code : List Instruction) (i : Instruction) → IsIn i code → is_room i ≡ true → makes_room code ≡ true
-room_made [] i at h = absurd at
-room_made (j ∷ code) i (inl same) h = ap (λ (b : Bool). b || makes_room code) (ap is_room (sym same) ∙ h)
-room_made (j ∷ code) i (inr at) h = or_last (is_room j) (makes_room code) (room_made code i at h)
+room_made code i at h = one_makes is_room code i at h
 
 made_by : (code : List Instruction) → makes_room code ≡ true → (i : Instruction) × IsIn i code × (is_room i ≡ true)
 made_by [] h = absurd (true≢false (sym h))
@@ -116,36 +131,47 @@ moved results go later (Some x) h = by (go x) h
 module _ (l : Lowered) (params results : List Kind) where
   -- where a code leaves the results, its first instruction has an effect, and the code behind it leaves them on what that leaves
   pub moved_on : (stack : List Kind) (i : Instruction) (code : List Instruction)
-      → leaves results (stack_after (effect l (enum_names l) params) stack (i ∷ code)) ≡ true
-      → (next : List Kind) × (is_some (effect l (enum_names l) params i) ≡ true) × (leaves results (stack_after (effect l (enum_names l) params) next code) ≡ true)
+      → leaves results (stack_after (effect l (environment_of l) params) stack (i ∷ code)) ≡ true
+      → (next : List Kind) × (is_some (effect l (environment_of l) params i) ≡ true) × (leaves results (stack_after (effect l (environment_of l) params) next code) ≡ true)
   moved_on stack i code h =
-      moved results (λ e. after e stack) (λ next. stack_after (effect l (enum_names l) params) next code) (effect l (enum_names l) params i) h
+      moved results (λ e. after e stack) (λ next. stack_after (effect l (environment_of l) params) next code) (effect l (environment_of l) params i) h
 
   -- so each of its instructions has one
-  has_effect : (stack : List Kind) (code : List Instruction) → leaves results (stack_after (effect l (enum_names l) params) stack code) ≡ true
-      → (i : Instruction) → IsIn i code → is_some (effect l (enum_names l) params i) ≡ true
+  has_effect : (stack : List Kind) (code : List Instruction) → leaves results (stack_after (effect l (environment_of l) params) stack code) ≡ true
+      → (i : Instruction) → IsIn i code → is_some (effect l (environment_of l) params i) ≡ true
   has_effect stack [] h i at = absurd at
   has_effect stack (j ∷ code) h i (inl same) =
-      ap (λ (k : Instruction). is_some (effect l (enum_names l) params k)) same ∙ (moved_on stack j code h).1
+      ap (λ (k : Instruction). is_some (effect l (environment_of l) params k)) same ∙ (moved_on stack j code h).1
   has_effect stack (j ∷ code) h i (inr at) = let went = moved_on stack j code h in has_effect went.0 code went.2 i at
 
 -- a string enum that an instruction with an effect names is described
-described_by : (l : Lowered) (params : List Kind) (i : Instruction) → is_some (effect l (enum_names l) params i) ≡ true
-    → (name : List ℕ) → IsIn name (enum_named i) → is_described_enum l name ≡ true
+described_by : (l : Lowered) (params : List Kind) (i : Instruction) → is_some (effect l (environment_of l) params i) ≡ true
+    → (name : List ℕ) → IsIn name (enum_named i) → is_one_of (enum_names l) name ≡ true
 unfolding effect
 described_by l params (instr.EnumIndex own) e name (inl same) =
-    ap (is_described_enum l) same ∙ only_if (is_described_enum l own) (Some (effect_of (kind.Js ∷ []) (kind.I32 ∷ []))) e
+    ap (is_one_of (enum_names l)) same ∙ only_if (is_one_of (enum_names l) own) (Some (effect_of (kind.Js ∷ []) (kind.I32 ∷ []))) e
 described_by l params (instr.EnumIndex own) e name (inr none) = absurd none
 described_by l params (instr.EnumText own) e name (inl same) =
-    ap (is_described_enum l) same ∙ only_if (is_described_enum l own) (Some (effect_of (kind.I32 ∷ []) (kind.Js ∷ []))) e
+    ap (is_one_of (enum_names l)) same ∙ only_if (is_one_of (enum_names l) own) (Some (effect_of (kind.I32 ∷ []) (kind.Js ∷ []))) e
 described_by l params (instr.EnumText own) e name (inr none) = absurd none
 described_by l params other e name none = absurd none
 
+-- a closure that an instruction with an effect makes is one of an adapter that closures can call
+closed_by : (l : Lowered) (params : List Kind) (i : Instruction) → is_some (effect l (environment_of l) params i) ≡ true
+    → (id : ℕ) → closure_id i ≡ Some id → is_closure_adapter l id ≡ true
+unfolding effect
+closed_by l params (instr.Closure own mutable) e id h =
+    let same : own ≡ id = cc in
+    ap (is_closure_adapter l) (sym same) ∙ only_if (is_closure_adapter l own) (Some (effect_of (kind.I32 ∷ kind.I32 ∷ []) (kind.Js ∷ []))) e
+closed_by l params other e id h = cc
+
 pub complete_code : (s : Settings) (l : Lowered) (params results : List Kind) (code : List Instruction) → code_lacks s l code ≡ None
-    → is_well_stacked l (enum_names l) params results code ≡ true → (i : Instruction) → IsIn i code → IsComplete s l i
+    → is_well_stacked l (environment_of l) params results code ≡ true → (i : Instruction) → IsIn i code → IsComplete s l i
 complete_code s l params results code h stacked i at =
-    let kept = (and_parts (uses_room false code) (keeps_stack l (enum_names l) params results code) stacked).1 in
-    let parts = or_none (reference_lacked s.externref l code) (option_or (memory_lacked l code) (stack_lacked l code)) h in
+    let kept = (and_parts (uses_room false code) (keeps_stack l (environment_of l) params results code) stacked).1 in
+    let passing = option_or (reference_lacked s.externref l code) (option_or (memory_lacked l code) (stack_lacked l code)) in
+    let all = or_none (closure_lacked l code) passing h in
+    let parts = or_none (reference_lacked s.externref l code) (option_or (memory_lacked l code) (stack_lacked l code)) all.1 in
     let stack = (or_none (memory_lacked l code) (stack_lacked l code) parts.1).1 in record {
       unlent = λ on. list_any-none lends code i (by_reference s.externref l code parts.0 on).0 at;
       parts = λ on part goes.
@@ -154,7 +180,12 @@ complete_code s l params results code h stacked i at =
       room = λ takes.
           where_met (makes_room code) (has_stack l) (there_if (not (makes_room code) || has_stack l) (codes "stack_pointer") stack)
           (room_made code i at takes);
+      destroys = λ makes.
+          where_met (list_any makes_closure code) (is_some (destroyer_item l))
+          (there_if (not (list_any makes_closure code) || is_some (destroyer_item l)) (codes "destroy_closure") all.0)
+          (one_makes makes_closure code i at makes);
       enums = described_by l params i (has_effect l params results [] code kept i at);
+      closures = closed_by l params i (has_effect l params results [] code kept i at);
     }
 
 -- ---- a description without a fault
@@ -164,8 +195,8 @@ pub same_code : (a : Adapter) → described_names.code_of (Some a) ≡ code_of a
 same_code a = grind arith
 
 -- values of some kinds are passed
-passed_kinds : (l : Lowered) (code : List Instruction) (params results : Option (List Kind)) → passes_kinds l (enum_names l) code params results ≡ true
-    → (ps : List Kind) × (rs : List Kind) × (is_well_stacked l (enum_names l) ps rs code ≡ true)
+passed_kinds : (l : Lowered) (code : List Instruction) (params results : Option (List Kind)) → passes_kinds l (environment_of l) code params results ≡ true
+    → (ps : List Kind) × (rs : List Kind) × (is_well_stacked l (environment_of l) ps rs code ≡ true)
 passed_kinds l code (Some ps) (Some rs) h = (ps, rs, h)
 passed_kinds l code (Some ps) None h = absurd (true≢false (sym h))
 passed_kinds l code None results h = absurd (true≢false (sym h))
@@ -173,21 +204,32 @@ passed_kinds l code None results h = absurd (true≢false (sym h))
 module _ (s : Settings) (l : Lowered) (passed : verdict s l ≡ None) where
   -- each instruction of an adapter that keeps the stack has what it needs
   complete_at : (id : ℕ) (a : Adapter) → adapter_at l id ≡ Some a → (params results : List Kind)
-      → is_well_stacked l (enum_names l) params results (code_of a.kind) ≡ true → (i : Instruction) → IsIn i (code_by l id) → IsComplete s l i
+      → is_well_stacked l (environment_of l) params results (code_of a.kind) ≡ true → (i : Instruction) → IsIn i (code_by l id) → IsComplete s l i
   complete_at id a there params results stacked i at =
       complete_code s l params results (code_of a.kind) (code_complete s l passed (id, a) (looked_up l.wit.adapters id a there)) stacked i
       (subst (λ (code : List Instruction). IsIn i code) (ap described_names.code_of there ∙ same_code a) at)
 
-  -- so has each of the adapter of an export, and of one that stands for an import
-  complete_export : (e : AuxExport) → IsIn e l.aux.exports → (i : Instruction) → IsIn i (code_by l e.adapter) → IsComplete s l i
+  -- so has each of one that passes values to an export
+  complete_outward : (id : ℕ) (a : Adapter) → adapter_at l id ≡ Some a → (params : List Kind) → fits_outward l (environment_of l) params a ≡ true
+      → (i : Instruction) → IsIn i (code_by l id) → IsComplete s l i
   unfolding fits_outward
-  complete_export e k =
-      let fit = exports_fit s l passed e k in
-      let a = fit.adapter in
-      let params = js_kinds a.args in
-      let results = js_kinds a.results in
-      let stacked = and_parts (is_few a.results && calls_export (code_of a.kind)) (is_well_stacked l (enum_names l) params results (code_of a.kind)) fit.passes in
-      complete_at e.adapter a fit.there params results stacked.1
+  complete_outward id a there params passes =
+      let stacked = and_parts (is_few a.results && is_outward (code_of a.kind)) (is_well_stacked l (environment_of l) params (js_kinds a.results) (code_of a.kind)) passes in
+      complete_at id a there params (js_kinds a.results) stacked.1
+
+  -- so has each of the adapter of an export, of a closure, and of one that stands for an import
+  complete_export : (e : AuxExport) → IsIn e l.aux.exports → (i : Instruction) → IsIn i (code_by l e.adapter) → IsComplete s l i
+  complete_export e k = let fit = exports_fit s l passed e k in let a = fit.adapter in
+      complete_outward e.adapter a fit.there (js_kinds a.args) fit.passes
+
+  complete_callback : (pair : ExportId × ℕ) → IsIn pair l.wit.exports → (i : Instruction) → IsIn i (code_by l pair.1) → IsComplete s l i
+  complete_callback pair k = let fit = callbacks_fit s l passed pair k in complete_outward pair.1 fit.adapter fit.there (closure_kinds (fit.adapter).args) fit.passes
+
+  complete_closure : (id : ℕ) → is_closure_adapter l id ≡ true → (i : Instruction) → IsIn i (code_by l id) → IsComplete s l i
+  complete_closure id h i at =
+      let called = number_in id (called_back l) (and_parts (has_number id (called_back l)) (is_callback (adapter_at l id)) h).0 in
+      let pair = from_map (λ (p : ExportId × ℕ). p.1) id l.wit.exports called in
+      complete_callback pair.0 pair.1 i (subst (λ (n : ℕ). IsIn i (code_by l n)) pair.2 at)
 
   complete_pair : (pair : ImportId × ℕ) → IsIn pair l.wit.implements → (i : Instruction) → IsIn i (code_by l pair.1) → IsComplete s l i
   unfolding fits_inward
@@ -196,13 +238,13 @@ module _ (s : Settings) (l : Lowered) (passed : verdict s l ≡ None) where
       let a = fit.adapter in
       let code = code_of a.kind in
       let whole = (has_code a.kind && has_counts a fit.ty) && calls_import l (described l) code in
-      let kinds = (and_parts whole (passes_kinds l (enum_names l) code (kinds_of (fit.ty).params) (kinds_of (fit.ty).results)) fit.passes).1 in
+      let kinds = (and_parts whole (passes_kinds l (environment_of l) code (kinds_of (fit.ty).params) (kinds_of (fit.ty).results)) fit.passes).1 in
       let r = passed_kinds l code (kinds_of (fit.ty).params) (kinds_of (fit.ty).results) kinds in
       complete_at pair.1 a fit.there r.0 r.1 r.2
 
-  -- so has each of an adapter that becomes a function
-  pub complete_printed : (i : Instruction) → IsIn i (printed_code s l) → IsComplete s l i
-  complete_printed i at =
+  -- so has each of the adapters of exports and of own imports
+  complete_outer : (i : Instruction) → IsIn i (outer_code s l) → IsComplete s l i
+  complete_outer i at =
       let own = own_imports s l.«module» l.wit l.aux in
       elim (in_either i (flat_map (export_code l) l.aux.exports) (flat_map (pair_code own l) l.wit.implements) at) [
         | inl here ↦ let r = from_flat (export_code l) l.aux.exports i here in complete_export r.0 r.1 i r.2
@@ -212,6 +254,26 @@ module _ (s : Settings) (l : Lowered) (passed : verdict s l ≡ None) where
       paired : (pair : ImportId × ℕ) → IsIn pair l.wit.implements → (b : Bool) → IsIn i (cond b (code_by l pair.1) []) → IsComplete s l i
       paired pair k true at = complete_pair pair k i at
       paired pair k false none = absurd none
+
+  -- closures that are used are of adapters that closures can call
+  pub used_called : (id : ℕ) → IsIn id (used_closures s l) → is_closure_adapter l id ≡ true
+  used_called id at =
+      (used_least s l).least (is_closure_adapter l) (among (outer_code s l) (λ i q. complete_outer i q))
+      (λ k held. among (code_by l k) (λ i q. complete_closure k held i q)) id (number_there id (used_closures s l) at)
+    where
+      -- each closure that such code makes is of one
+      among : (code : List Instruction) → ((i : Instruction) → IsIn i code → IsComplete s l i)
+          → All (λ (n : ℕ). is_closure_adapter l n ≡ true) (adapters_among l (closures_in code))
+      among code k = each_by (λ (n : ℕ). is_closure_adapter l n ≡ true) (adapters_among l (closures_in code)) (λ n at.
+          let made = (from_filter (λ (m : ℕ). has_number m (adapter_ids l)) n (closures_in code) at).0 in
+          let r = from_part closure_id n code made in (k r.0 r.1).closures n r.2)
+
+  -- so has each of an adapter that becomes a function
+  pub complete_printed : (i : Instruction) → IsIn i (printed_code s l) → IsComplete s l i
+  complete_printed i at = elim (in_either i (outer_code s l) (flat_map (code_by l) (used_closures s l)) at) [
+    | inl outer ↦ complete_outer i outer
+    | inr closed ↦ let r = from_flat (code_by l) (used_closures s l) i closed in complete_closure r.0 (used_called r.0 r.1) i r.2
+  ]
 
   -- where one of these adapters takes room, a global is there that tells where the stack ends
   pub room_there : uses_shim s l ≡ true → has_stack l ≡ true

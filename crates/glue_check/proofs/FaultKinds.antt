@@ -14,9 +14,10 @@ use Rattle.glue_adapters.specs.Pairs.{bad_adapter, unbound_import}
 use Rattle.glue_published.specs.Clash.{thing_clash}
 use Rattle.glue_published.specs.Fixed.{fixed_thing}
 use Rattle.glue_published.specs.Reexports.{bad_reexport}
+use Rattle.glue_check.specs.Classes.{unknown_class}
 use Rattle.glue_check.specs.Links.{link_not_embedded}
 use Rattle.glue_check.specs.Missing.{missing_part}
-use Rattle.glue_names.specs.Modules.{module_clash}
+use Rattle.claimed_modules.specs.Modules.{module_clash}
 use Rattle.glue_names.specs.Naming.{bad_name, global_twice, import_clash, given_clash, wasm_clash, shim_clash, start_clash, name_clash, written_clash}
 use Rattle.glue_check.specs.TargetValues.{intrinsic_target}
 use Rattle.glue_check.specs.Unbuilt.{unbuilt_target, unbuilt_imports, unbuilt_instructions, unbuilt_classes, unbuilt_settings, unbuilt_lifecycle, unbuilt_files}
@@ -76,10 +77,10 @@ unfolding verdict
 verdict_kind s l =
     let m = l.«module» in
     first_some-kind
-    (threads m ∷ package_json l.aux ∷ unsupported l.wit ∷ bad_adapter l ∷ unbound_import s l ∷ bad_name s l ∷ global_twice s l ∷ name_clash s l ∷ module_clash s l ∷ thing_clash s l.aux ∷ fixed_thing s (own_names s m l.wit l.aux) l.aux ∷ bad_reexport s l.aux ∷ intrinsic_target s l ∷ link_not_embedded s l ∷ missing_part s l ∷ [])
+    (threads m ∷ package_json l.aux ∷ unsupported l.wit ∷ bad_adapter l ∷ unbound_import s l ∷ bad_name s l ∷ global_twice s l ∷ name_clash s l ∷ module_clash s l ∷ unknown_class l ∷ thing_clash s l.aux ∷ fixed_thing s (own_names s m l.wit l.aux) l.aux ∷ bad_reexport s l.aux ∷ intrinsic_target s l ∷ link_not_embedded s l ∷ missing_part s l ∷ [])
     (where_true-kind _ _ refl ▸ where_true-kind _ _ refl ▸ first_of-kind unsupported_in l.wit.adapters (λ entry. option_map-kind _ _ (λ name. refl))
     ▸ option_map-kind _ _ (λ id. refl) ▸ option_map-kind _ _ (λ place. refl) ▸ option_map-kind _ _ (λ name. refl) ▸ option_map-kind _ _ (λ name. refl)
-    ▸ clash_kind s l ▸ option_map-kind _ _ (λ name. refl) ▸ option_map-kind _ _ (λ t. refl) ▸ option_map-kind _ _ (λ t. refl) ▸ option_map-kind _ _ (λ r. refl)
+    ▸ clash_kind s l ▸ option_map-kind _ _ (λ name. refl) ▸ option_map-kind _ _ (λ name. refl) ▸ option_map-kind _ _ (λ t. refl) ▸ option_map-kind _ _ (λ t. refl) ▸ option_map-kind _ _ (λ r. refl)
     ▸ where_true-kind _ _ refl ▸ option_map-kind _ _ (λ path. refl) ▸ option_map-kind _ _ (λ part. refl) ▸ tt)
 
 -- the first fault of a description is one

@@ -1,10 +1,12 @@
+mod Operands
 pub mod BuiltForm
+pub mod Callbacks
 pub mod Complete
 pub mod Conditions
-pub mod FaultKinds
 pub mod Embedded
+pub mod FaultKinds
 pub mod ListNames
-mod Operands
+pub mod NoClass
 pub mod OwnPairs
 pub mod Passed
 pub mod Steps

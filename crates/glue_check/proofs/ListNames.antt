@@ -17,7 +17,7 @@ use Rattle.glue_faults.specs.declared.fault.Fault.TheVariants as faults
 use Rattle.glue_faults.specs.Clash.{first_clash_after}
 use Rattle.glue_faults.specs.First.{first_of}
 use Rattle.glue_faults.proofs.First.{first_of-none, option_map-none, where_true-none}
-use Rattle.glue_names.specs.Given.{given_names, kept, other_names, values_name}
+use Rattle.glue_names.specs.Given.{closure_names, given_names, kept, other_names, values_name}
 use Rattle.glue_names.specs.Naming.{bad_values}
 use Rattle.glue_names.proofs.GivenNames.{either_host, imported_given, none_other, none_twice, omitted_either, reexported_given}
 use Rattle.glue_names.proofs.Globals.{described_host, from_flat}
@@ -43,11 +43,11 @@ module _ (s : Settings) (l : Lowered) (passed : verdict s l ≡ None) where
   value_ident : (e : AuxStringEnum) → IsIn e l.aux.string_enums → is_ident (values_name e) ≡ true
   unfolding bad_values
   value_ident e i =
-      let bad = no_bad s l passed (first_of bad_values l.aux.string_enums) (inr (inr (inr (inl refl)))) in
+      let bad = no_bad s l passed (first_of bad_values l.aux.string_enums) (inr (inr (inr (inr (inl refl))))) in
       let none = first_of-none bad_values l.aux.string_enums e bad i in
       not_false (is_ident (values_name e)) (where_true-none (not (is_ident (values_name e))) (values_name e) none)
 
-  -- given names are those from modules, those of lists, and others from modules
+  -- given names are those that closures call, those from modules, those of lists, and others from modules
   abbrev first : List (List ℕ)
   first = imported_given s.omit_imports l.aux
 
@@ -55,16 +55,19 @@ module _ (s : Settings) (l : Lowered) (passed : verdict s l ≡ None) where
   later = reexported_given s.omit_imports l.aux
 
   abbrev given : List (List ℕ)
-  given = given_names s.omit_imports l.aux
+  given = given_names s.omit_imports l
 
   value_given : (name : List ℕ) → IsIn name (values s l) → IsIn name given
-  value_given name i = in_right name first (values s l ++ later) (in_left name (values s l) later i)
+  value_given name i =
+      in_right name (closure_names l) (first ++ (values s l ++ later)) (in_right name first (values s l ++ later) (in_left name (values s l) later i))
 
   none_given : first_clash_after bytes_eq (other_names s l) given ≡ None
   none_given = option_map-none faults.NameClash (first_clash_after bytes_eq (other_names s l) given) (no_clashes s l passed).0
 
   once : AreDistinct first × AreDistinct (values s l ++ later) × AreApart first (values s l ++ later)
-  once = distinct_parts first (values s l ++ later) (none_twice (other_names s l) given none_given)
+  once =
+      let all = distinct_parts (closure_names l) (first ++ (values s l ++ later)) (none_twice (other_names s l) given none_given) in
+      distinct_parts first (values s l ++ later) all.1
 
   behind : AreDistinct (values s l) × AreDistinct later × AreApart (values s l) later
   behind = distinct_parts (values s l) later once.1

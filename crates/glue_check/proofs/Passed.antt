@@ -1,6 +1,6 @@
 -- What is known of a description that has no fault: one lemma a condition, in the words of its users.
-use Rattle.std.proofs.Common.{◌≡◌, ℕ, ℤ, zero, suc, ◌+◌, ◌==◌, List, [], ◌∷◌, map, length, arith, Bool, true, false, not, ◌&&◌, ◌||◌, cond, Option, Some, None, true≢false, refl, sym, ap, ◌∙◌, inl, inr, rules}
-use Rattle.std.specs.Prelude.{option_map, option_and_then}
+use Rattle.std.proofs.Common.{◌≡◌, ℕ, ℤ, zero, suc, ◌+◌, ◌==◌, List, [], ◌∷◌, map, length, arith, Bool, true, false, not, ◌&&◌, ◌||◌, cond, Option, Some, None, true≢false, refl, sym, ap, subst, ◌∙◌, inl, inr, rules}
+use Rattle.std.specs.Prelude.{is_some, option_map, option_and_then}
 use Rattle.std.specs.Option.{option_or}
 use Rattle.std.specs.Str.{bytes_eq}
 use Rattle.std.specs.List.{list_any, filter_map, find, flat_map}
@@ -8,11 +8,13 @@ use Rattle.std.specs.Ordering.{nat_cmp}
 use Rattle.std.specs.BTreeMap.{is_at}
 use Rattle.std.specs.Cmp.{Equal-is}
 use Rattle.std.proofs.lemmas.Bool.{and_parts, eqb-true, false≢true}
+use Rattle.std.proofs.lemmas.Bool.Decides.{nat_tests}
 use Rattle.std.proofs.lemmas.Map.Lookups.{exact_unsigned}
 use Rattle.std.proofs.lemmas.Slice.Eq.{bytes_eq-Decides}
 use Rattle.values.specs.Lists.{IsIn, IsAway, AreDistinct}
 use Rattle.values.specs.Map.{look_up}
 use Rattle.values.proofs.Members.{in_left, in_either}
+use Rattle.wasm_core.specs.ids.ExportId.{ExportId}
 use Rattle.wasm_core.specs.ids.ImportId.{ImportId}
 use Rattle.wasm_core.specs.types.FuncType.{FuncType}
 use Rattle.wasm_core.specs.declared.types.Import.{Import}
@@ -38,9 +40,9 @@ use Rattle.glue_faults.proofs.After.{after-none, new_numbers}
 use Rattle.glue_faults.proofs.Apart.{compatible}
 use Rattle.glue_adapters.specs.Adapters as adapters
 use Rattle.glue_adapters.specs.Adapters.{adapter_at, code_of, has_code, fits_outward, fits_inward}
-use Rattle.glue_adapters.specs.Stack.{enum_names}
+use Rattle.glue_adapters.specs.Stack.{closure_kinds, export_type, js_kinds}
 use Rattle.glue_adapters.specs.Pairs as pairs
-use Rattle.glue_adapters.specs.Pairs.{is_bad_code, is_bad_pair, is_bad_export, bad_id, bad_local, bad_paired, bad_called, bad_exported, bad_described, bad_listed, fits_export, fits_pair, is_unbound}
+use Rattle.glue_adapters.specs.Pairs.{is_bad_code, is_bad_pair, is_bad_export, bad_id, bad_local, bad_paired, bad_called, bad_exported, bad_described, bad_listed, environment_of, fits_export, fits_pair, is_bad_callback, is_unbound, outward_kinds}
 use Rattle.glue_check.specs.declared.verdict.Condition.TheVariants as conditions
 use Rattle.glue_check.specs.Answers.{answer}
 use Rattle.glue_adapters.specs.Exported.{export_name, export_names}
@@ -49,10 +51,10 @@ use Rattle.glue_published.specs.Clash.{thing_clash}
 use Rattle.glue_published.specs.Fixed.{fixed_thing}
 use Rattle.glue_published.specs.Named.{is_proto_name, bad_path, is_bad_variant, bad_class, bad_enum, bad_declared_name, bad_export_name}
 use Rattle.glue_published.specs.Reexports.{bad_reexport}
-use Rattle.glue_names.specs.declared.modules.Claimed.{Claimed}
+use Rattle.claimed_modules.specs.declared.modules.Claimed.{Claimed}
 use Rattle.glue_names.specs.Given.{given_names, other_names}
-use Rattle.glue_names.specs.Modules as modules
-use Rattle.glue_names.specs.Modules.{clashing_module, foreign_module}
+use Rattle.claimed_modules.specs.Modules as modules
+use Rattle.claimed_modules.specs.Modules.{clashing_module, foreign_module}
 use Rattle.glue_names.specs.Naming as naming
 use Rattle.glue_names.specs.Naming.{bad_text, name_clash, written_clash}
 use Rattle.glue_names.specs.Taken.{brought, global_of, name_if}
@@ -60,7 +62,7 @@ use Rattle.glue_check.specs.Verdict.{verdict, is_shared}
 use Rattle.glue_check.proofs.Conditions.{none_of}
 use Rattle.glue_check.proofs.BuiltForm.{away, not_false}
 use Rattle.glue_names.proofs.GivenNames.{either_host, none_other, omitted_given}
-use Rattle.glue_names.proofs.Called.{number_in}
+use Rattle.glue_names.proofs.Called.{number_in, or_last}
 use Rattle.glue_names.proofs.Globals.{from_flat, in_flat}
 
 -- no memory is shared
@@ -87,23 +89,27 @@ looked_up (e ∷ entries) id a h = here (is_at (nat_cmp id) e.0) refl h (looked_
 
 -- what is known of the adapters of a description without a fault
 pub record AreFit (l : Lowered) : Type 0 where
-  pub coded : (e : ℕ × Adapter) → IsIn e l.wit.adapters → is_bad_code l (enum_names l) (pairs.paired l) e ≡ false
-  pub paired : first_after (is_bad_pair l (enum_names l) (pairs.described l)) [] l.wit.implements ≡ None
+  pub coded : (e : ℕ × Adapter) → IsIn e l.wit.adapters → is_bad_code l (environment_of l) (pairs.paired l) e ≡ false
+  pub paired : first_after (is_bad_pair l (environment_of l) (pairs.described l)) [] l.wit.implements ≡ None
+  pub called : (pair : ExportId × ℕ) → IsIn pair l.wit.exports → is_bad_callback l (pairs.paired l) pair ≡ false
   pub exported : first_after (is_bad_export l (pairs.paired l) (pairs.called_back l)) [] l.aux.exports ≡ None
   pub entries : (e : ℕ × AuxImport) → IsIn e l.aux.imports → pairs.is_bad_entry l l.aux.imports_with_variadic e ≡ false
 
 pub fit_adapters : (s : Settings) (l : Lowered) → verdict s l ≡ None → AreFit l
-unfolding answer bad_id bad_local bad_paired bad_exported bad_described
+unfolding answer bad_id bad_local bad_paired bad_called bad_exported bad_described
 fit_adapters s l h =
-    let none = option_map-none faults.BadAdapter (bad_id l) (none_of conditions.BadAdapter s l (search rules) h) in
-    let answers = bad_local l ∷ bad_paired l ∷ bad_called l ∷ bad_exported l ∷ bad_described l ∷ bad_listed l ∷ [] in
-    let code = find (is_bad_code l (enum_names l) (pairs.paired l)) l.wit.adapters in
-    let pair = first_after (is_bad_pair l (enum_names l) (pairs.described l)) [] l.wit.implements in
+    let env = environment_of l in
+    let none = option_map-none faults.BadAdapter (bad_id l env) (none_of conditions.BadAdapter s l (search rules) h) in
+    let answers = bad_local l env ∷ bad_paired l env ∷ bad_called l ∷ bad_exported l env ∷ bad_described l ∷ bad_listed l ∷ [] in
+    let callback = find (is_bad_callback l (pairs.paired l)) l.wit.exports in
+    let code = find (is_bad_code l (environment_of l) (pairs.paired l)) l.wit.adapters in
+    let pair = first_after (is_bad_pair l (environment_of l) (pairs.described l)) [] l.wit.implements in
     let export = first_after (is_bad_export l (pairs.paired l) (pairs.called_back l)) [] l.aux.exports in
     let entry = find (pairs.is_bad_entry l l.aux.imports_with_variadic) l.aux.imports in record {
-      coded = λ e i. find-none (is_bad_code l (enum_names l) (pairs.paired l)) l.wit.adapters e (option_map-none (λ (e : ℕ × Adapter). e.0) code (some-none answers (bad_local l) none (inl refl))) i;
-      paired = option_map-none (λ (p : ImportId × ℕ). p.1) pair (some-none answers (bad_paired l) none (inr (inl refl)));
-      exported = option_map-none (λ (e : AuxExport). e.adapter) export (some-none answers (bad_exported l) none (inr (inr (inr (inl refl)))));
+      coded = λ e i. find-none (is_bad_code l (environment_of l) (pairs.paired l)) l.wit.adapters e (option_map-none (λ (e : ℕ × Adapter). e.0) code (some-none answers (bad_local l env) none (inl refl))) i;
+      paired = option_map-none (λ (p : ImportId × ℕ). p.1) pair (some-none answers (bad_paired l env) none (inr (inl refl)));
+      called = λ pair i. find-none (is_bad_callback l (pairs.paired l)) l.wit.exports pair (option_map-none (λ (p : ExportId × ℕ). p.1) callback (some-none answers (bad_called l) none (inr (inr (inl refl))))) i;
+      exported = option_map-none (λ (e : AuxExport). e.adapter) export (some-none answers (bad_exported l env) none (inr (inr (inr (inl refl)))));
       entries = λ e i. find-none (pairs.is_bad_entry l l.aux.imports_with_variadic) l.aux.imports e (option_map-none (λ (e : ℕ × AuxImport). e.0) entry (some-none answers (bad_described l) none (inr (inr (inr (inr (inl refl))))))) i;
     }
 
@@ -114,30 +120,38 @@ pub record IsFitExport (l : Lowered) (e : AuxExport) : Type 0 where
   pub adapter : Adapter
   pub there : adapter_at l e.adapter ≡ Some adapter
   pub coded : has_code adapter.kind ≡ true
-  pub passes : fits_outward l (enum_names l) adapter ≡ true
+  pub passes : fits_outward l (environment_of l) (js_kinds adapter.args) adapter ≡ true
   pub names : pairs.names_fit e.args (length adapter.args) ≡ true
   pub fits : pairs.fits_kind e.kind e adapter ≡ true
 
-fit_export : (l : Lowered) (e : AuxExport) (o : Option Adapter) → adapter_at l e.adapter ≡ o → pairs.fits_described e o ≡ true → has_number e.adapter (pairs.paired l) ≡ false → AreFit l → IsFitExport l e
+-- an adapter with code that stands for no import passes values of the kinds that its parameters have
+passing : (l : Lowered) (id : ℕ) (a : Adapter) (is_called_back : Bool) → adapter_at l id ≡ Some a → has_code a.kind ≡ true → has_number id (pairs.paired l) ≡ false
+    → has_number id (pairs.called_back l) ≡ is_called_back → AreFit l → fits_outward l (environment_of l) (outward_kinds is_called_back a.args) a ≡ true
 unfolding is_bad_code
-fit_export l e None q h u f = absurd (true≢false (sym h))
-fit_export l e (Some a) q h u f =
+passing l id a is_called_back there coded alone called f =
+    by (has_code a.kind) (has_number id (pairs.paired l)) (fits_outward l (environment_of l) (outward_kinds is_called_back a.args) a) coded alone
+    (subst (λ (b : Bool). (has_code a.kind && (not (has_number id (pairs.paired l)) && not (fits_outward l (environment_of l) (outward_kinds b a.args) a))) ≡ false) called
+    (f.coded (id, a) (looked_up l.wit.adapters id a there)))
+  where
+    by : (c n f : Bool) → c ≡ true → n ≡ false → (c && (not n && not f)) ≡ false → f ≡ true
+    by true false true a b h = refl
+    by true false false a b h = cc
+    by true true f a b h = cc
+    by false n f a b h = cc
+
+fit_export : (l : Lowered) (e : AuxExport) (o : Option Adapter) → adapter_at l e.adapter ≡ o → pairs.fits_described e o ≡ true
+    → has_number e.adapter (pairs.paired l) ≡ false → has_number e.adapter (pairs.called_back l) ≡ false → AreFit l → IsFitExport l e
+fit_export l e None q h u c f = absurd (true≢false (sym h))
+fit_export l e (Some a) q h u c f =
     let p = and_parts (has_code a.kind) (pairs.names_fit e.args (length a.args) && pairs.fits_kind e.kind e a) h in
-    let rest = and_parts (pairs.names_fit e.args (length a.args)) (pairs.fits_kind e.kind e a) p.1 in
-    let good = f.coded (e.adapter, a) (looked_up l.wit.adapters e.adapter a q) in record {
+    let rest = and_parts (pairs.names_fit e.args (length a.args)) (pairs.fits_kind e.kind e a) p.1 in record {
       adapter = a;
       there = q;
       coded = p.0;
-      passes = passing (has_code a.kind) (has_number e.adapter (pairs.paired l)) (fits_outward l (enum_names l) a) p.0 u good;
+      passes = passing l e.adapter a false q p.0 u c f;
       names = rest.0;
       fits = rest.1;
     }
-  where
-    passing : (c n f : Bool) → c ≡ true → n ≡ false → (c && (not n && not f)) ≡ false → f ≡ true
-    passing true false true a b h = refl
-    passing true false false a b h = cc
-    passing true true f a b h = cc
-    passing false n f a b h = cc
 
 -- each export's adapter is fit for it
 pub exports_fit : (s : Settings) (l : Lowered) → verdict s l ≡ None → (e : AuxExport) → IsIn e l.aux.exports → IsFitExport l e
@@ -149,7 +163,7 @@ exports_fit s l h e i =
     let others = has_number e.adapter (pairs.paired l) || has_number e.adapter (pairs.called_back l) in
     let p = neither (has_number e.adapter told || others) (not (fits_export l e)) r.1 in
     let away = neither (has_number e.adapter (pairs.paired l)) (has_number e.adapter (pairs.called_back l)) (neither (has_number e.adapter told) others p.0).1 in
-    fit_export l e (adapter_at l e.adapter) refl (not_false (fits_export l e) p.1) away.0 f
+    fit_export l e (adapter_at l e.adapter) refl (not_false (fits_export l e) p.1) away.0 away.1 f
 
 -- no two exports have one adapter
 pub distinct_adapters : (s : Settings) (l : Lowered) → verdict s l ≡ None → AreDistinct (map (λ (e : AuxExport). e.adapter) l.aux.exports)
@@ -162,6 +176,44 @@ distinct_adapters s l h =
     (neither ids others (neither (ids || others) (not (fits_export l e)) k).0).0 in
     (new_numbers (is_bad_export l (pairs.paired l) (pairs.called_back l)) (λ (e : AuxExport). e.adapter) told [] l.aux.exports (fit_adapters s l h).exported).distinct
 
+-- ---- closures
+
+-- an export with the adapter of a closure that it is called by: it is a function, and the adapter has code and passes the values of a closure to an
+-- export of the module
+pub record IsFitCallback (l : Lowered) (pair : ExportId × ℕ) : Type 0 where
+  pub typed : is_some (export_type l.«module» pair.0.0) ≡ true
+  pub adapter : Adapter
+  pub there : adapter_at l pair.1 ≡ Some adapter
+  pub coded : has_code adapter.kind ≡ true
+  pub passes : fits_outward l (environment_of l) (closure_kinds adapter.args) adapter ≡ true
+
+fit_callback : (l : Lowered) (pair : ExportId × ℕ) (o : Option Adapter) → adapter_at l pair.1 ≡ o → is_some (export_type l.«module» pair.0.0) ≡ true
+    → adapters.is_local o ≡ true → has_number pair.1 (pairs.paired l) ≡ false → has_number pair.1 (pairs.called_back l) ≡ true → AreFit l → IsFitCallback l pair
+fit_callback l pair None q t h u c f = absurd (true≢false (sym h))
+fit_callback l pair (Some a) q t h u c f =
+    record { typed = t; adapter = a; there = q; coded = h; passes = passing l pair.1 a true q h u c f }
+
+-- each adapter of a closure is fit for it
+pub callbacks_fit : (s : Settings) (l : Lowered) → verdict s l ≡ None → (pair : ExportId × ℕ) → IsIn pair l.wit.exports → IsFitCallback l pair
+unfolding is_bad_callback
+callbacks_fit s l h pair i =
+    let f = fit_adapters s l h in
+    let typed = is_some (export_type l.«module» pair.0.0) in
+    let coded = adapters.is_local (adapter_at l pair.1) in
+    let mine = has_number pair.1 (pairs.paired l) in
+    let all = neither (not typed) (not coded || mine) (f.called pair i) in
+    let rest = neither (not coded) mine all.1 in
+    fit_callback l pair (adapter_at l pair.1) refl (not_false typed all.0) (not_false coded rest.0) rest.1 (number_of l.wit.exports i) f
+  where
+    same_number : (n : ℕ) → n ≡ pair.1 → (n == pair.1) ≡ true
+    same_number n e = grind (arith, nat_tests)
+
+    number_of : (ps : List (ExportId × ℕ)) → IsIn pair ps → has_number pair.1 (map (λ (p : ExportId × ℕ). p.1) ps) ≡ true
+    number_of [] at = absurd at
+    number_of (p ∷ ps) (inl same) =
+        ap (λ (b : Bool). b || has_number pair.1 (map (λ (p : ExportId × ℕ). p.1) ps)) (same_number p.1 (ap (λ (q : ExportId × ℕ). q.1) (sym same)))
+    number_of (p ∷ ps) (inr at) = or_last (p.1 == pair.1) (has_number pair.1 (map (λ (p : ExportId × ℕ). p.1) ps)) (number_of ps at)
+
 -- ---- imports
 
 -- an import with its adapter, which passes the values of the import's type to what is described
@@ -172,11 +224,11 @@ pub record IsFitPair (l : Lowered) (pair : ImportId × ℕ) : Type 0 where
   pub typed : pairs.import_type l.«module» «import».kind ≡ Some ty
   pub adapter : Adapter
   pub there : adapter_at l pair.1 ≡ Some adapter
-  pub passes : fits_inward l (enum_names l) (pairs.described l) adapter ty ≡ true
+  pub passes : fits_inward l (environment_of l) (pairs.described l) adapter ty ≡ true
 
 fit_pair : (l : Lowered) (pair : ImportId × ℕ) (i : Option Import) (t : Option FuncType) (a : Option Adapter)
     → entry_at l.«module».imports pair.0.0 ≡ i → option_and_then (λ (i : Import). pairs.import_type l.«module» i.kind) i ≡ t → adapter_at l pair.1 ≡ a
-    → pairs.fits_type l (enum_names l) (pairs.described l) t a ≡ true → IsFitPair l pair
+    → pairs.fits_type l (environment_of l) (pairs.described l) t a ≡ true → IsFitPair l pair
 fit_pair l pair (Some i) (Some t) (Some a) p q r h = record { «import» = i; stands = p; ty = t; typed = q; adapter = a; there = r; passes = h }
 fit_pair l pair (Some i) (Some t) None p q r h = absurd (true≢false (sym h))
 fit_pair l pair (Some i) None a p q r h = absurd (true≢false (sym h))
@@ -187,9 +239,9 @@ fit_pair l pair None (Some t) a p q r h = cc
 pub pairs_fit : (s : Settings) (l : Lowered) → verdict s l ≡ None → (pair : ImportId × ℕ) → IsIn pair l.wit.implements → IsFitPair l pair
 unfolding fits_pair is_bad_pair
 pairs_fit s l h pair i =
-    let r = after-none (is_bad_pair l (enum_names l) (pairs.described l)) [] l.wit.implements pair (fit_adapters s l h).paired i in
+    let r = after-none (is_bad_pair l (environment_of l) (pairs.described l)) [] l.wit.implements pair (fit_adapters s l h).paired i in
     let twice = has_number pair.0.0 (map (λ (p : ImportId × ℕ). p.0.0) r.0) || has_number pair.1 (map (λ (p : ImportId × ℕ). p.1) r.0) in
-    let fits = not_false (fits_pair l (enum_names l) (pairs.described l) pair) (neither twice (not (fits_pair l (enum_names l) (pairs.described l) pair)) r.1).1 in
+    let fits = not_false (fits_pair l (environment_of l) (pairs.described l) pair) (neither twice (not (fits_pair l (environment_of l) (pairs.described l) pair)) r.1).1 in
     fit_pair l pair (entry_at l.«module».imports pair.0.0) (pairs.imported_type l.«module» pair.0.0) (adapter_at l pair.1) refl refl refl fits
 
 -- no import stands in two pairs
@@ -197,12 +249,12 @@ pub distinct_places : (s : Settings) (l : Lowered) → verdict s l ≡ None → 
 unfolding is_bad_pair
 distinct_places s l h =
     let place : ImportId × ℕ → ℕ = λ pair. pair.0.0 in
-    let told : (before : List (ImportId × ℕ)) (pair : ImportId × ℕ) → is_bad_pair l (enum_names l) (pairs.described l) before pair ≡ false → has_number pair.0.0 (map place before) ≡ false =
+    let told : (before : List (ImportId × ℕ)) (pair : ImportId × ℕ) → is_bad_pair l (environment_of l) (pairs.described l) before pair ≡ false → has_number pair.0.0 (map place before) ≡ false =
     λ before pair k.
     let places = has_number pair.0.0 (map place before) in
     let ids = has_number pair.1 (map (λ (p : ImportId × ℕ). p.1) before) in
-    (neither places ids (neither (places || ids) (not (fits_pair l (enum_names l) (pairs.described l) pair)) k).0).0 in
-    (new_numbers (is_bad_pair l (enum_names l) (pairs.described l)) place told [] l.wit.implements (fit_adapters s l h).paired).distinct
+    (neither places ids (neither (places || ids) (not (fits_pair l (environment_of l) (pairs.described l) pair)) k).0).0 in
+    (new_numbers (is_bad_pair l (environment_of l) (pairs.described l)) place told [] l.wit.implements (fit_adapters s l h).paired).distinct
 
 -- an adapter stands for each import that the glue file defines, unless the file defines it whatever is described
 pub imports_bound : (s : Settings) (l : Lowered) → verdict s l ≡ None → (k : ℕ) → IsIn k (own_imports s l.«module» l.wit l.aux)
@@ -225,9 +277,9 @@ imports_bound s l h k i fixed =
 abbrev names_of : Settings → Lowered → List (List ℕ)
 names_of s l = own_names s l.«module» l.wit l.aux
 
-no_texts : (s : Settings) (l : Lowered) → verdict s l ≡ None → bad_text s.omit_imports (names_of s l) l.aux ≡ None
+no_texts : (s : Settings) (l : Lowered) → verdict s l ≡ None → bad_text s.omit_imports (names_of s l) l ≡ None
 unfolding answer
-no_texts s l h = option_map-none faults.BadName (bad_text s.omit_imports (names_of s l) l.aux) (none_of conditions.BadName s l (search rules) h)
+no_texts s l h = option_map-none faults.BadName (bad_text s.omit_imports (names_of s l) l) (none_of conditions.BadName s l (search rules) h)
 
 chosen-none : (name : List ℕ) (o : Option (List ℕ)) (f : List ℕ → Option (List ℕ)) → o ≡ Some name → option_and_then f o ≡ None → f name ≡ None
 chosen-none name None f e h = cc
@@ -240,7 +292,8 @@ neither_answer (Some x) later h = cc
 -- the answers of which the first is the first bad name
 abbrev pub bad_names : Settings → Lowered → List (Option (List ℕ))
 bad_names s l =
-    bad_export_name l.aux.exports
+    first_of (naming.bad_closure l.«module») l.wit.exports
+    ∷ bad_export_name l.aux.exports
     ∷ first_of (naming.bad_import s.omit_imports) l.aux.imports
     ∷ bad_declared_name l.aux
     ∷ first_of naming.bad_values l.aux.string_enums
@@ -258,8 +311,8 @@ pub described_ident : (s : Settings) (l : Lowered) → verdict s l ≡ None → 
 described_ident s l h name i x k =
     let bad = naming.bad_described s.omit_imports in
     let begins = λ (e : ℕ × AuxImport). names.names_of (js_import e.1) in
-    let imports = no_bad s l h (first_of (naming.bad_import s.omit_imports) l.aux.imports) (inr (inl refl)) in
-    let reexports = no_bad s l h (first_of (naming.bad_reexported s.omit_imports) l.aux.reexports) (inr (inr (inr (inr (inl refl))))) in
+    let imports = no_bad s l h (first_of (naming.bad_import s.omit_imports) l.aux.imports) (inr (inr (inl refl))) in
+    let reexports = no_bad s l h (first_of (naming.bad_reexported s.omit_imports) l.aux.reexports) (inr (inr (inr (inr (inr (inl refl)))))) in
     let none : bad name ≡ None = elim (in_either name (flat_map begins l.aux.imports) (map (λ r. r.1.name) l.aux.reexports) i) [
       | inl here ↦
           let r = from_flat begins l.aux.imports name here in
@@ -289,7 +342,7 @@ brought_ident s l h e i name k =
 pub variants_ident : (s : Settings) (l : Lowered) → verdict s l ≡ None → (e : AuxEnum) → IsIn e l.aux.enums
     → (v : List ℕ × ℤ × List ℕ) → IsIn v e.variants → is_ident v.0 ≡ true
 variants_ident s l h e i v k =
-    let declared = no_bad s l h (bad_declared_name l.aux) (inr (inr (inl refl))) in
+    let declared = no_bad s l h (bad_declared_name l.aux) (inr (inr (inr (inl refl)))) in
     let enums = (neither_answer (first_of bad_class l.aux.structs) (first_of bad_enum l.aux.enums) declared).1 in
     let variant = find (λ (v : List ℕ × ℤ × List ℕ). is_bad_variant v.0) e.variants in
     let one = option_map (λ (v : List ℕ × ℤ × List ℕ). v.0) variant in
@@ -300,7 +353,7 @@ variants_ident s l h e i v k =
 -- no import that the glue file defines is called `__proto__`
 pub import_named : (s : Settings) (l : Lowered) → verdict s l ≡ None → (name : List ℕ) → IsIn name (names_of s l) → is_proto_name name ≡ false
 import_named s l h name i =
-    let none = no_bad s l h (find is_proto_name (names_of s l)) (inr (inr (inr (inr (inr (inl refl)))))) in
+    let none = no_bad s l h (find is_proto_name (names_of s l)) (inr (inr (inr (inr (inr (inr (inl refl))))))) in
     find-none is_proto_name (names_of s l) name none i
 
 -- of what a described name brings where imports are kept none is one that the glue file binds
@@ -309,7 +362,7 @@ kept_apart : (s : Settings) (l : Lowered) → verdict s l ≡ None → (name : J
 unfolding answer
 kept_apart s l h name i x k =
     let taken = fixed_names s l.«module» in
-    let given = given_names s.omit_imports l.aux in
+    let given = given_names s.omit_imports l in
     let twice = naming.taken_described taken given in
     let none = option_map-none faults.GlobalTwice (first_of twice (described_names l.aux)) (none_of conditions.GlobalTwice s l (search rules) h) in
     let both = neither_answer (find (is_one_of taken) (described_hosts false name)) (name_if (is_one_of given) (global_of name)) (first_of-none twice (described_names l.aux) name none i) in
@@ -328,10 +381,10 @@ no_written s l h one i =
     some-none (naming.import_clash (names_of s l) ∷ naming.wasm_clash l.«module».exports ∷ naming.shim_clash s l ∷ naming.start_clash l.«module» ∷ []) one (no_clashes s l h).1 i
 
 -- and no given name is one that the glue file binds
-pub given_apart : (s : Settings) (l : Lowered) → verdict s l ≡ None → (name : List ℕ) → IsIn name (given_names s.omit_imports l.aux)
+pub given_apart : (s : Settings) (l : Lowered) → verdict s l ≡ None → (name : List ℕ) → IsIn name (given_names s.omit_imports l)
     → IsAway name (fixed_names s l.«module»)
 given_apart s l h name i =
-    let names = given_names s.omit_imports l.aux in
+    let names = given_names s.omit_imports l in
     let none = option_map-none faults.NameClash (first_clash_after bytes_eq (other_names s l) names) (no_clashes s l h).0 in
     away name (fixed_names s l.«module») (none_other s l names name none i).1
 
@@ -340,7 +393,7 @@ pub described_apart : (s : Settings) (l : Lowered) → verdict s l ≡ None → 
     → IsIn x (described_hosts s.omit_imports name) → IsAway x (fixed_names s l.«module»)
 described_apart s l h name i x k = elim (either_host s.omit_imports name x k) [
   | inl here ↦ kept_apart s l h name i x here
-  | inr named ↦ given_apart s l h x (omitted_given s.omit_imports l.aux name i x named)
+  | inr named ↦ given_apart s l h x (omitted_given s.omit_imports l name i x named)
 ]
 
 -- nor one that an import brings

@@ -10,6 +10,7 @@ use Rattle.std.proofs.lemmas.Slice.Eq.{bytes_eq-Decides}
 use Rattle.std.specs.Str.{bytes_eq}
 use Rattle.values.specs.Lists.{IsIn}
 use Rattle.values.proofs.Members.{in_left, in_right}
+use Rattle.wasm_core.specs.ids.ExportId.{ExportId}
 use Rattle.wasm_core.specs.ids.FuncId.{FuncId}
 use Rattle.wasm_core.specs.ids.ImportId.{ImportId}
 use Rattle.wasm_core.specs.ids.MemoryId.{MemoryId}
@@ -36,13 +37,13 @@ use Rattle.glue_steps.specs.declared.needed.ReferencePart.TheVariants as parts
 use Rattle.glue_steps.specs.Needed.{goes_by}
 use Rattle.glue_steps.specs.Room.{has_stack}
 use Rattle.glue_adapters.specs.step.Step.{Step}
-use Rattle.glue_adapters.specs.step.Step.TheVariants.{CallExport, CallImport, CallHelper, UnwrapResult, PassToMemory, DeferFree, CopyOut, ReturnPointer, LoadReturn, StoreReturn, IndexOf, ItemAt}
-use Rattle.glue_adapters.specs.Resolving.{entry_at, is_some_item, export_named, export_step, functions_named, given_of, handle_helper, helper_of, is_spread, import_step_of, import_step, list_named, listed_id, reading_helper, step_of, steps_of, with_step, code_steps, adapter_steps, vector_read}
+use Rattle.glue_adapters.specs.step.Step.TheVariants.{CallExport, CallImport, CallHelper, UnwrapResult, PassToMemory, DeferFree, CopyOut, ReturnPointer, LoadReturn, StoreReturn, MakeClosure, IndexOf, ItemAt}
+use Rattle.glue_adapters.specs.Resolving.{entry_at, is_some_item, export_named, export_step, functions_named, given_of, handle_helper, helper_of, is_spread, import_step_of, import_step, list_named, listed_id, reading_helper, step_of, steps_of, with_step, code_steps, adapter_steps, callback_name, closure_made, vector_read}
 use Rattle.glue_adapters.specs.Exported.{export_name, export_names}
 use Rattle.glue_adapters.specs.declared.kind.Kind.{Kind}
-use Rattle.glue_adapters.specs.Adapters.{adapter_at, code_of, has_code, has_counts, is_few, is_import, is_import_call, is_export_call, is_described_call, calls_export, calls_import, calls_one_import, passes_kinds, fits_outward, fits_inward}
-use Rattle.glue_adapters.specs.Pairs.{described}
-use Rattle.glue_adapters.specs.Stack.{js_kinds, kinds_of, export_type, call_effect, effect, enum_names, memory_effect, names_live, stack_after, leaves, uses_room, keeps_stack, is_well_stacked}
+use Rattle.glue_adapters.specs.Adapters.{adapter_at, code_of, has_code, has_counts, is_few, is_import, is_import_call, is_export_call, is_described_call, calls_export, calls_import, calls_one_import, is_outward, passes_kinds, fits_outward, fits_inward, writes_result}
+use Rattle.glue_adapters.specs.Pairs.{called_back, described, environment_of}
+use Rattle.glue_adapters.specs.Stack.{closure_kinds, is_callback, js_kinds, kinds_of, export_type, call_effect, effect, memory_effect, names_live, stack_after, leaves, uses_room, keeps_stack, is_well_stacked}
 use Rattle.glue_check.specs.declared.files.FileFlags.{FileFlags}
 use Rattle.glue_imports.specs.declared.part.Expression.{Expression}
 use Rattle.glue_imports.specs.Expressions.{expression}
@@ -50,17 +51,21 @@ use Rattle.glue_imports.specs.Given.{given_item, gives_item}
 use Rattle.glue_imports.proofs.Any.{any_call}
 use Rattle.glue_names.specs.Given.{values_name}
 use Rattle.glue_names.specs.Handed.{own_callees}
-use Rattle.glue_names.specs.Printed.{code_by, enum_named, export_code, named_enums, pair_code, printed_code, uses_shim}
+use Rattle.printed_adapters.specs.Printed.{adapter_ids, code_by, enum_named, export_code, named_enums, outer_code, pair_code, printed_code, used_closures, uses_shim}
+use Rattle.printed_adapters.proofs.Used.{used_printed}
 use Rattle.glue_check.specs.Missing.{lends}
-use Rattle.glue_check.specs.Unbuilt.{is_unbuilt_instruction}
+use Rattle.glue_check.specs.Classes.{instruction_class}
 use Rattle.glue_check.specs.Verdict.{unbuilt, verdict}
 use Rattle.glue_faults.proofs.First.{neither}
-use Rattle.glue_check.proofs.BuiltForm.{AreBuiltImports, imports_built, adapters_built, not_true, one_found}
-use Rattle.glue_names.proofs.Called.{called_own}
+use Rattle.glue_check.proofs.BuiltForm.{AreBuiltImports, imports_built, not_true, one_found}
+use Rattle.glue_check.proofs.Callbacks.{callback_named}
+use Rattle.glue_check.proofs.NoClass.{no_class}
+use Rattle.glue_names.proofs.Called.{called_own, number_in}
 use Rattle.glue_names.proofs.Globals.{in_flat, some_of}
-use Rattle.glue_check.proofs.Complete.{IsComplete, complete_code, moved_on, only_if, room_made, same_code}
+use Rattle.glue_names.proofs.MappedLists.{from_map, in_map}
+use Rattle.glue_check.proofs.Complete.{IsComplete, complete_code, moved_on, only_if, room_made, same_code, used_called}
 use Rattle.glue_check.proofs.Embedded.{code_complete, expression_there, given_there}
-use Rattle.glue_check.proofs.Passed.{exports_fit, pairs_fit, looked_up}
+use Rattle.glue_check.proofs.Passed.{callbacks_fit, exports_fit, pairs_fit, looked_up}
 
 -- the expression of a described import that an adapter of an own import calls, where these names are drawn; the item of the module that it
 -- gives stands
@@ -102,8 +107,15 @@ pub record IsListOf (s : Settings) (l : Lowered) (list : List ℕ) : Type 0 wher
   pub named : is_one_of (named_enums s l) values.name ≡ true
   pub is : list ≡ values_name values
 
+-- the function of a closure that is used
+pub record IsClosureOf (s : Settings) (l : Lowered) (function : List ℕ) : Type 0 where
+  pub adapter : ℕ
+  pub used : IsIn adapter (used_closures s l)
+  pub named : callback_name l adapter ≡ Some function
+
 -- what a step names is there: an export of the module, the expression of a described import, a helper that an instruction calls, exports of
--- functions that it names, the export that moves the stack, and the global that tells where it ends, or the list of a string enum
+-- functions that it names, the export that moves the stack, and the global that tells where it ends, the function of a closure, or the list of a
+-- string enum
 abbrev pub IsThere : Settings → Lowered → NameMap → Step → Type 0
 IsThere s l names (CallExport name n has_result) = IsIn name (export_names l.«module»)
 IsThere s l names (CallImport adapter n has_result text) = IsDescribed s l names text
@@ -115,6 +127,7 @@ IsThere s l names (CopyOut helper) = IsHelperOf s l helper
 IsThere s l names (ReturnPointer size) = (uses_shim s l ≡ true) × (has_stack l ≡ true)
 IsThere s l names (LoadReturn view offset is_wide) = IsHelperOf s l view
 IsThere s l names (StoreReturn view offset is_wide) = IsHelperOf s l view
+IsThere s l names (MakeClosure helper function) = IsHelperOf s l helper × IsClosureOf s l function
 IsThere s l names (IndexOf list) = IsListOf s l list
 IsThere s l names (ItemAt list) = IsListOf s l list
 IsThere s l names other = Unit {0}
@@ -252,9 +265,24 @@ module _ (s : Settings) (l : Lowered) (names : NameMap) where
         is = ap list_named r.2;
       }
 
+  -- a closure is made where its adapter is one that closures can call
+  closed : verdict s l ≡ None → (id : ℕ) (mutable : Bool) → IsIn (instr.Closure id mutable) (printed_code s l) → IsComplete s l (instr.Closure id mutable)
+      → IsSomeAnd (closure_made l id mutable) (IsThere s l names)
+  closed passed id mutable at k =
+      let called = and_parts (has_number id (called_back l)) (is_callback (adapter_at l id)) (k.closures id refl) in
+      let g = callback_named s l passed id called.0 in
+      rw g.1 (
+        record { instruction = instr.Closure id mutable; printed = record { among = at; complete = k; live = refl }; calls = refl },
+        record { adapter = id; used = used_printed s l id mutable at (there (adapter_at l id) refl called.1); named = g.1 },
+      )
+    where
+      there : (o : Option Adapter) → adapter_at l id ≡ o → is_callback o ≡ true → IsIn id (adapter_ids l)
+      there None q h = absurd (true≢false (sym h))
+      there (Some a) q h = in_map (λ (e : ℕ × Adapter). e.0) (id, a) l.wit.adapters (looked_up l.wit.adapters id a q)
+
   -- an instruction that is built, with an effect and an import that is described, is a step
   called : AreBuiltImports s l → verdict s l ≡ None → (params : List Kind) (i : Instruction) → IsIn i (printed_code s l) → IsComplete s l i
-      → is_unbuilt_instruction i ≡ false → is_some (effect l (enum_names l) params i) ≡ true → is_described_call l (described l) i ≡ true → is_own_call s l i ≡ true
+      → instruction_class i ≡ None → is_some (effect l (environment_of l) params i) ≡ true → is_described_call l (described l) i ≡ true → is_own_call s l i ≡ true
       → IsSomeAnd (step_of s names l i) (IsThere s l names)
   unfolding effect
   called built passed params instr.IndexFromOwned at k u e d own =
@@ -311,6 +339,7 @@ module _ (s : Settings) (l : Lowered) (names : NameMap) where
   called built passed params (instr.StoreRetptr offset ty memory) at k u e d own =
       let i = instr.StoreRetptr offset ty memory in
       record { instruction = i; printed = record { among = at; complete = k; live = only_if (names_live l i) (memory_effect params i) e }; calls = refl }
+  called built passed params (instr.Closure id mutable) at k u e d own = closed passed id mutable at k
   called built passed params (instr.EnumIndex name) at k u e d own = enum_listed (instr.EnumIndex name) at k name (inl refl)
   called built passed params (instr.EnumText name) at k u e d own = enum_listed (instr.EnumText name) at k name (inl refl)
   called built passed params (instr.ArgGet n) at k u e d own = tt
@@ -325,7 +354,9 @@ module _ (s : Settings) (l : Lowered) (names : NameMap) where
   called built passed params (instr.CallExport id) at k u e d own = called_export id.0 e
   called built passed params (instr.CallAdapter id) at k u e d own = called_adapter built passed id d own
   called built passed params (instr.Other name) at k u e d own = absurd (true≢false (sym e))
-  called built passed params other at k u e d own = absurd (true≢false u)
+  called built passed params (instr.ClassIntoPtr class) at k u e d own = cc
+  called built passed params (instr.ClassPtr class) at k u e d own = cc
+  called built passed params (instr.ClassFromPtr class) at k u e d own = cc
 
   -- a first step and the others
   joined : (step : Option Step) (steps : Option (List Step)) → IsSomeAnd step (IsThere s l names) → IsSomeAnd steps (AllByRecursion (IsThere s l names))
@@ -337,18 +368,17 @@ module _ (s : Settings) (l : Lowered) (names : NameMap) where
   -- a code that is built and well stacked, of which nothing lacks a part and each call is described, has steps
   code_there : AreBuiltImports s l → verdict s l ≡ None → (params results stack : List Kind) (code : List Instruction)
       → ((i : Instruction) → IsIn i code → IsIn i (printed_code s l)) → ((i : Instruction) → IsIn i code → IsComplete s l i)
-      → list_any is_unbuilt_instruction code ≡ false
-      → list_all (is_described_call l (described l)) code ≡ true → list_all (is_own_call s l) code ≡ true → leaves results (stack_after (effect l (enum_names l) params) stack code) ≡ true
+      → ((i : Instruction) → IsIn i code → instruction_class i ≡ None)
+      → list_all (is_described_call l (described l)) code ≡ true → list_all (is_own_call s l) code ≡ true → leaves results (stack_after (effect l (environment_of l) params) stack code) ≡ true
       → IsSomeAnd (steps_of s names l code) (AllByRecursion (IsThere s l names))
   code_there built passed params results stack [] at k u d own h = tt
   code_there built passed params results stack (i ∷ code) at k u d own h =
-      let forms = neither (is_unbuilt_instruction i) (list_any is_unbuilt_instruction code) u in
       let calls = and_parts (is_described_call l (described l) i) (list_all (is_described_call l (described l)) code) d in
       let mine = and_parts (is_own_call s l i) (list_all (is_own_call s l) code) own in
       let went = moved_on l params results stack i code h in
       joined (step_of s names l i) (steps_of s names l code)
-      (called built passed params i (at i (inl refl)) (k i (inl refl)) forms.0 went.1 calls.0 mine.0)
-      (code_there built passed params results went.0 code (λ j q. at j (inr q)) (λ j q. k j (inr q)) forms.1 calls.1 mine.1 went.2)
+      (called built passed params i (at i (inl refl)) (k i (inl refl)) (u i (inl refl)) went.1 calls.0 mine.0)
+      (code_there built passed params results went.0 code (λ j q. at j (inr q)) (λ j q. k j (inr q)) (λ j q. u j (inr q)) calls.1 mine.1 went.2)
 
 module _ (s : Settings) (l : Lowered) where
   -- where no import is called, each that is called is described, and called by an adapter of an own import
@@ -383,13 +413,13 @@ module _ (f : FileFlags) (s : Settings) (l : Lowered) (built : unbuilt f s l ≡
   coded_steps : (names : NameMap) (id : ℕ) (a : Adapter) (params results : List Kind) → adapter_at l id ≡ Some a
       → ((i : Instruction) → IsIn i (code_by l id) → IsIn i (printed_code s l)) → has_code a.kind ≡ true
       → list_all (is_described_call l (described l)) (code_of a.kind) ≡ true → list_all (is_own_call s l) (code_of a.kind) ≡ true
-      → is_well_stacked l (enum_names l) params results (code_of a.kind) ≡ true → IsSomeAnd (adapter_steps s names l id) (AllByRecursion (IsThere s l names))
+      → is_well_stacked l (environment_of l) params results (code_of a.kind) ≡ true → IsSomeAnd (adapter_steps s names l id) (AllByRecursion (IsThere s l names))
   coded_steps names id a params results there printed coded calls own stacked =
       let among = looked_up l.wit.adapters id a there in
-      let each = adapters_built f s l built (id, a) among in
+      let each = no_class f s l built passed (id, a) among in
       let lacks = complete_code s l params results (code_of a.kind) (code_complete s l passed (id, a) among) stacked in
       let at = λ (i : Instruction) (q : IsIn i (code_of a.kind)). printed i (rw (there, same_code a) q) in
-      let kept = (and_parts (uses_room false (code_of a.kind)) (keeps_stack l (enum_names l) params results (code_of a.kind)) stacked).1 in
+      let kept = (and_parts (uses_room false (code_of a.kind)) (keeps_stack l (environment_of l) params results (code_of a.kind)) stacked).1 in
       let steps = code_there s l names (imports_built f s l built) passed params results [] (code_of a.kind) at lacks each calls own kept in
       subst (λ (o : Option Adapter). IsSomeAnd (option_and_then (λ (x : Adapter). code_steps s names l x.kind) o) (AllByRecursion (IsThere s l names))) (sym there)
       (kind_steps a.kind coded steps)
@@ -402,19 +432,51 @@ module _ (f : FileFlags) (s : Settings) (l : Lowered) (built : unbuilt f s l ≡
   abbrev own : List ℕ
   own = own_imports s l.«module» l.wit l.aux
 
+  abbrev exported_code : List Instruction
+  exported_code = flat_map (export_code l) l.aux.exports
+
+  abbrev paired_code : List Instruction
+  paired_code = flat_map (pair_code own l) l.wit.implements
+
+  abbrev closed_code : List Instruction
+  closed_code = flat_map (code_by l) (used_closures s l)
+
+  -- an adapter that passes values to an export
+  outward_steps : (id : ℕ) (a : Adapter) (params : List Kind) → adapter_at l id ≡ Some a → has_code a.kind ≡ true
+      → ((i : Instruction) → IsIn i (code_by l id) → IsIn i (printed_code s l)) → fits_outward l (environment_of l) params a ≡ true → HasSteps s l id
+  unfolding fits_outward
+  outward_steps id a params there coded printed passing = λ names.
+      let code = code_of a.kind in
+      let passes = and_parts (is_few a.results && is_outward code) (is_well_stacked l (environment_of l) params (js_kinds a.results) code) passing in
+      let outward = (and_parts (is_few a.results) (is_outward code) passes.0).1 in
+      let calls = and_parts (count_by is_export_call code == 1) (not (list_any is_import_call code))
+      (and_parts (calls_export code) (not (list_any writes_result code)) outward).0 in
+      let none = not_true (list_any is_import_call code) calls.1 in
+      coded_steps names id a params (js_kinds a.results) there printed coded (none_called s l code none) (none_own s l code none) passes.1
+
   -- the adapter of an export
   pub export_steps : (e : AuxExport) → IsIn e l.aux.exports → HasSteps s l e.adapter
-  unfolding fits_outward
-  export_steps e i = λ names.
+  export_steps e i =
       let fit = exports_fit s l passed e i in
-      let a = fit.adapter in
       let printed = λ (x : Instruction) (q : IsIn x (code_by l e.adapter)).
-      in_left x (flat_map (export_code l) l.aux.exports) (flat_map (pair_code own l) l.wit.implements) (in_flat (export_code l) l.aux.exports e x i q) in
-      let code = code_of a.kind in
-      let passes = and_parts (is_few a.results && calls_export code) (is_well_stacked l (enum_names l) (js_kinds a.args) (js_kinds a.results) code) fit.passes in
-      let calls = and_parts (count_by is_export_call code == 1) (not (list_any is_import_call code)) (and_parts (is_few a.results) (calls_export code) passes.0).1 in
-      let none = not_true (list_any is_import_call code) calls.1 in
-      coded_steps names e.adapter a (js_kinds a.args) (js_kinds a.results) fit.there printed fit.coded (none_called s l code none) (none_own s l code none) passes.1
+      in_left x (outer_code s l) closed_code (in_left x exported_code paired_code (in_flat (export_code l) l.aux.exports e x i q)) in
+      outward_steps e.adapter fit.adapter (js_kinds (fit.adapter).args) fit.there fit.coded printed fit.passes
+
+  -- the adapter of a closure that is used: it has a function with a name
+  pub closure_steps : (id : ℕ) → IsIn id (used_closures s l) → HasSteps s l id
+  closure_steps id i =
+      let called = and_parts (has_number id (called_back l)) (is_callback (adapter_at l id)) (used_called s l passed id i) in
+      let pair = from_map (λ (p : ExportId × ℕ). p.1) id l.wit.exports (number_in id (called_back l) called.0) in
+      let fit = callbacks_fit s l passed pair.0 pair.1 in
+      let printed = λ (x : Instruction) (q : IsIn x (code_by l (pair.0).1)).
+      in_right x (outer_code s l) closed_code (in_flat (code_by l) (used_closures s l) id x i (subst (λ (n : ℕ). IsIn x (code_by l n)) (sym pair.2) q)) in
+      subst (HasSteps s l) (sym pair.2)
+      (outward_steps (pair.0).1 fit.adapter (closure_kinds (fit.adapter).args) fit.there fit.coded printed fit.passes)
+
+  pub closure_named : (id : ℕ) → IsIn id (used_closures s l) → (name : List ℕ) × (callback_name l id ≡ Some name)
+  closure_named id i =
+      let called = and_parts (has_number id (called_back l)) (is_callback (adapter_at l id)) (used_called s l passed id i) in
+      callback_named s l passed id called.0
 
   -- the adapter of an own import
   pub pair_steps : (pair : ImportId × ℕ) → IsIn pair l.wit.implements → has_number pair.0.0 (own_imports s l.«module» l.wit l.aux) ≡ true → HasSteps s l pair.1
@@ -423,12 +485,11 @@ module _ (f : FileFlags) (s : Settings) (l : Lowered) (built : unbuilt f s l ≡
       let fit = pairs_fit s l passed pair i in
       let called = pair_own s l pair i mine fit.adapter fit.there in
       let printed = λ (x : Instruction) (q : IsIn x (code_by l pair.1)).
-      in_right x (flat_map (export_code l) l.aux.exports) (flat_map (pair_code own l) l.wit.implements)
-      (in_flat (pair_code own l) l.wit.implements pair x i (rw mine q)) in
+      in_left x (outer_code s l) closed_code (in_right x exported_code paired_code (in_flat (pair_code own l) l.wit.implements pair x i (rw mine q))) in
       let a = fit.adapter in
       let code = code_of a.kind in
       let forms = (has_code a.kind && has_counts a fit.ty) && calls_import l (described l) code in
-      let passes = and_parts forms (passes_kinds l (enum_names l) code (kinds_of (fit.ty).params) (kinds_of (fit.ty).results)) fit.passes in
+      let passes = and_parts forms (passes_kinds l (environment_of l) code (kinds_of (fit.ty).params) (kinds_of (fit.ty).results)) fit.passes in
       let calls = and_parts (has_code a.kind && has_counts a fit.ty) (calls_import l (described l) code) passes.0 in
       let coded = (and_parts (has_code a.kind) (has_counts a fit.ty) calls.0).0 in
       let each = (and_parts (calls_one_import code) (list_all (is_described_call l (described l)) code) calls.1).1 in
@@ -436,7 +497,7 @@ module _ (f : FileFlags) (s : Settings) (l : Lowered) (built : unbuilt f s l ≡
     where
       by : (names : NameMap) (a : Adapter) → adapter_at l pair.1 ≡ Some a → ((i : Instruction) → IsIn i (code_by l pair.1) → IsIn i (printed_code s l))
           → has_code a.kind ≡ true → list_all (is_described_call l (described l)) (code_of a.kind) ≡ true → list_all (is_own_call s l) (code_of a.kind) ≡ true
-          → (params results : Option (List Kind)) → passes_kinds l (enum_names l) (code_of a.kind) params results ≡ true
+          → (params results : Option (List Kind)) → passes_kinds l (environment_of l) (code_of a.kind) params results ≡ true
           → IsSomeAnd (adapter_steps s names l pair.1) (AllByRecursion (IsThere s l names))
       by names a there printed coded each called (Some params) (Some results) h = coded_steps names pair.1 a params results there printed coded each called h
       by names a there printed coded each called None results h = absurd (true≢false (sym h))

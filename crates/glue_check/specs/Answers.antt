@@ -12,9 +12,10 @@ use Rattle.glue_published.specs.Reexports.{bad_reexport}
 use Rattle.glue_check.specs.declared.files.FileFlags.{FileFlags}
 use Rattle.glue_check.specs.declared.verdict.Condition.{Condition}
 use Rattle.glue_check.specs.declared.verdict.Condition.TheVariants as conditions
+use Rattle.glue_check.specs.Classes.{unknown_class}
 use Rattle.glue_check.specs.Links.{link_not_embedded}
 use Rattle.glue_check.specs.Missing.{missing_part}
-use Rattle.glue_names.specs.Modules.{module_clash}
+use Rattle.claimed_modules.specs.Modules.{module_clash}
 use Rattle.glue_names.specs.Naming.{bad_name, global_twice, name_clash}
 use Rattle.glue_check.specs.TargetValues.{intrinsic_target}
 use Rattle.glue_check.specs.Unbuilt.{unbuilt_target, unbuilt_imports, unbuilt_instructions, unbuilt_classes, unbuilt_settings, unbuilt_lifecycle, unbuilt_files}
@@ -38,6 +39,7 @@ answer files settings l conditions.BadName = bad_name settings l
 answer files settings l conditions.GlobalTwice = global_twice settings l
 answer files settings l conditions.NameClash = name_clash settings l
 answer files settings l conditions.ModuleClash = module_clash settings l
+answer files settings l conditions.UnknownClass = unknown_class l
 answer files settings l conditions.ExportClash = thing_clash settings l.aux
 answer files settings l conditions.FixedExport = fixed_thing settings (own_names settings l.«module» l.wit l.aux) l.aux
 answer files settings l conditions.BadReexport = bad_reexport settings l.aux

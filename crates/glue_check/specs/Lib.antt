@@ -1,4 +1,5 @@
 pub mod Answers
+pub mod Classes
 pub mod FaultKinds
 pub mod Links
 pub mod Missing

@@ -19,7 +19,7 @@ use Rattle.glue_imports.specs.Given.{given_item}
 use Rattle.glue_steps.specs.declared.needed.ReferencePart.{ReferencePart}
 use Rattle.glue_steps.specs.declared.needed.ReferencePart.TheVariants as parts
 use Rattle.glue_steps.specs.declared.needed.TheConstants.{REFERENCE_PARTS}
-use Rattle.glue_steps.specs.Needed.{goes_by, part_item}
+use Rattle.glue_steps.specs.Needed.{destroyer_item, goes_by, makes_closure, part_item}
 use Rattle.glue_steps.specs.Resolving.{entry_at}
 use Rattle.glue_steps.specs.Room.{makes_room, has_stack}
 use Rattle.glue_adapters.specs.Adapters.{code_of}
@@ -97,6 +97,10 @@ reference_lacked false l code = None
 reference_lacked true l code =
     option_or (lacked_unless (not (list_any lends code)) (codes "externref")) (first_of (part_lacked l code) REFERENCE_PARTS)
 
+-- what code lacks for closures: the function that destroys them, where it makes one
+abbrev pub closure_lacked : Lowered → List Instruction → Option (List ℕ)
+closure_lacked l code = lacked_unless (not (list_any makes_closure code) || is_some (destroyer_item l)) (codes "destroy_closure")
+
 -- a memory with addresses of 64 bits
 abbrev pub is_wide_memory : Option Memory → Bool
 is_wide_memory None = false
@@ -120,7 +124,8 @@ stack_lacked l code = lacked_unless (not (makes_room code) || has_stack l) (code
 
 -- the first part in the order of bytes that code lacks
 abbrev pub code_lacks : Settings → Lowered → List Instruction → Option (List ℕ)
-code_lacks settings l code = option_or (reference_lacked settings.externref l code) (option_or (memory_lacked l code) (stack_lacked l code))
+code_lacks settings l code =
+    option_or (closure_lacked l code) (option_or (reference_lacked settings.externref l code) (option_or (memory_lacked l code) (stack_lacked l code)))
 
 -- the first in that order that an adapter lacks
 abbrev pub adapter_lacks : Settings → Lowered → ℕ × Adapter → Option (List ℕ)

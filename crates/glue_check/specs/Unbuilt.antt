@@ -1,18 +1,12 @@
 -- What isn't built yet: each kind of it by a name.
 use Rattle.std.specs.Prelude.{ℕ, ◌^◌, nat_eq, nat_lt, Bool, true, false, not, ◌&&◌, ◌||◌, is_some, List, codes, Option, Some, None}
-use Rattle.std.specs.List.{list_any, list_all, starts_with}
+use Rattle.std.specs.List.{list_any, starts_with}
 use Rattle.wasm_core.specs.Contents.{Contents}
 use Rattle.wasm_core.specs.declared.types.Func.{Func}
 use Rattle.wasm_core.specs.declared.types.Import.{Import}
 use Rattle.wasm_core.specs.declared.types.ImportKind.{ImportKind}
 use Rattle.wasm_core.specs.declared.types.ImportKind.TheVariants as import_kinds
 use Rattle.wasm_core.specs.declared.types.Memory.{Memory}
-use Rattle.glue_shared.specs.declared.adapter.Adapter.{Adapter}
-use Rattle.glue_shared.specs.declared.adapter.AdapterType.{AdapterType}
-use Rattle.glue_shared.specs.declared.adapter.AdapterType.TheOpen.{AdapterType-F}
-use Rattle.glue_shared.specs.declared.adapter.AdapterType.TheFolds.{fold-AdapterType}
-use Rattle.glue_shared.specs.declared.adapter.Instruction.{Instruction}
-use Rattle.glue_shared.specs.declared.adapter.Instruction.TheVariants as instr
 use Rattle.glue_shared.specs.declared.aux.AuxExport.{AuxExport}
 use Rattle.glue_shared.specs.declared.aux.AuxExportKind.{AuxExportKind}
 use Rattle.glue_shared.specs.declared.aux.AuxExportKind.TheVariants as export_kinds
@@ -29,7 +23,6 @@ use Rattle.glue_published.specs.Things.{stands_alone}
 use Rattle.glue_faults.specs.declared.fault.Fault.{Fault}
 use Rattle.glue_faults.specs.declared.fault.Fault.TheVariants as faults
 use Rattle.glue_faults.specs.First.{where_true}
-use Rattle.glue_adapters.specs.Adapters.{code_of}
 use Rattle.glue_check.specs.declared.files.FileFlags.{FileFlags}
 use Rattle.glue_check.specs.Links.{unembedded}
 use Rattle.glue_check.specs.Missing.{excludes}
@@ -101,30 +94,7 @@ unbuilt_imports settings l = where_true (
     list_any (is_other_own l.«module») (own_imports settings l.«module» l.wit l.aux) || list_any (is_unbuilt_entry settings) l.aux.imports
     ) (faults.NotBuilt (codes "imports"))
 
--- ---- instructions
-
--- an instruction of a class, or of a closure
-abbrev pub is_unbuilt_instruction : Instruction → Bool
-is_unbuilt_instruction (instr.ClassIntoPtr class) = true
-is_unbuilt_instruction (instr.ClassPtr class) = true
-is_unbuilt_instruction (instr.ClassFromPtr class) = true
-is_unbuilt_instruction (instr.Closure adapter mutable) = true
-is_unbuilt_instruction other = false
-
--- no object of a class, and no option of what doesn't pass the test
-abbrev pub is_simple_layer : AdapterType-F Bool → Bool
-is_simple_layer (AdapterType-F.Class name) = false
-is_simple_layer (AdapterType-F.Option inner) = inner
-is_simple_layer other = true
-
--- an integer, a truth, a string, a vector, an enum of numbers or of texts, a union, any JavaScript value, or options of one of these
-abbrev pub is_simple : AdapterType → Bool
-is_simple = fold-AdapterType Bool is_simple_layer
-
-unfoldable pub is_unbuilt_adapter : ℕ × Adapter → Bool
-is_unbuilt_adapter entry =
-    not (list_all is_simple entry.1.args && list_all is_simple entry.1.results)
-    || list_any is_unbuilt_instruction (code_of entry.1.kind)
+-- ---- functions
 
 abbrev pub takes_this : AuxExportKind → Bool
 takes_this export_kinds.FunctionThis = true
@@ -134,12 +104,10 @@ takes_this other = false
 abbrev pub is_special_export : AuxExport → Bool
 is_special_export e = takes_this e.kind || (e.variadic || e.jsdoc)
 
--- other values than these, closures, caught throws, and such exports
+-- caught throws, and such exports
 abbrev pub unbuilt_instructions : Lowered → Option Fault
-unbuilt_instructions l = where_true (
-    (list_any is_unbuilt_adapter l.wit.adapters || is_some_item l.wit.exports)
-    || (is_some_item l.aux.imports_with_catch || list_any is_special_export l.aux.exports)
-    ) (faults.NotBuilt (codes "instructions"))
+unbuilt_instructions l =
+    where_true (is_some_item l.aux.imports_with_catch || list_any is_special_export l.aux.exports) (faults.NotBuilt (codes "instructions"))
 
 -- ---- classes
 

@@ -17,9 +17,10 @@ use Rattle.glue_published.specs.Clash.{thing_clash}
 use Rattle.glue_published.specs.Fixed.{fixed_thing}
 use Rattle.glue_published.specs.Reexports.{bad_reexport}
 use Rattle.glue_check.specs.declared.files.FileFlags.{FileFlags}
+use Rattle.glue_check.specs.Classes.{unknown_class}
 use Rattle.glue_check.specs.Links.{link_not_embedded}
 use Rattle.glue_check.specs.Missing.{missing_part}
-use Rattle.glue_names.specs.Modules.{module_clash}
+use Rattle.claimed_modules.specs.Modules.{module_clash}
 use Rattle.glue_names.specs.Naming.{bad_name, global_twice, name_clash}
 use Rattle.glue_check.specs.TargetValues.{intrinsic_target}
 use Rattle.glue_check.specs.Unbuilt.{unbuilt_target, unbuilt_imports, unbuilt_instructions, unbuilt_classes, unbuilt_settings, unbuilt_lifecycle, unbuilt_files}
@@ -49,6 +50,7 @@ verdict settings l = first_some (
     ∷ global_twice settings l
     ∷ name_clash settings l
     ∷ module_clash settings l
+    ∷ unknown_class l
     ∷ thing_clash settings l.aux
     ∷ fixed_thing settings (own_names settings l.«module» l.wit l.aux) l.aux
     ∷ bad_reexport settings l.aux

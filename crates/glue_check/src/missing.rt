@@ -3,6 +3,7 @@ ghost use Rattle.std.specs.Prelude.{◌≡◌, is_some, IfOk};
 ghost use Rattle.std.specs.List.{list_any};
 ghost use Rattle.std.specs.Option.{option_copied, option_or};
 ghost use Rattle.glue_shared.specs.Roots.{live_item};
+ghost use Rattle.glue_steps.specs.Needed as needed;
 ghost use Rattle.glue_steps.specs.Resolving.{entry_at};
 ghost use Rattle.glue_faults.specs.First.{first_of};
 ghost use Rattle.glue_check.specs.Missing as spec;
@@ -12,7 +13,10 @@ use glue_shared::{
     Adapter, AdapterId, AdapterKind, AuxImport, Instruction, Intrinsic, Lowered, Settings,
     first_memory, live_item, push_instruction, table_item,
 };
-use glue_steps::{REFERENCE_PARTS, ReferencePart, goes_by, has_stack, makes_room, part_item};
+use glue_steps::{
+    REFERENCE_PARTS, ReferencePart, destroyer_item, goes_by, has_stack, makes_closure, makes_room,
+    part_item,
+};
 use std::alloc::{AllocError, Global};
 use values::Text;
 use wasm_core::{ExportItem, Memory, MemoryId};
@@ -277,6 +281,41 @@ fn stack_lacked(lowered: &Lowered, code: &[Instruction]) -> Option<&'static str>
     lacked_unless(!makes_room(code) || has_stack(lowered), "stack_pointer")
 }
 
+// Whether code makes a closure.
+fn makes_any(code: &[Instruction]) -> bool
+    ensures test { result ≡ list_any needed.makes_closure code.now }
+{
+    code.iter().any(|instruction| makes_closure(instruction))
+}
+
+// What code lacks for closures.
+fn closure_lacked(lowered: &Lowered, code: &[Instruction]) -> Option<&'static str>
+    ensures part { option_copied result ≡ spec.closure_lacked lowered.now code.now }
+{
+    lacked_unless(
+        !makes_any(code) || destroyer_item(lowered).is_some(),
+        "destroy_closure",
+    )
+}
+
+// The first part that code lacks beside closures.
+fn passing_lacks(
+    alloc: Global,
+    settings: &Settings,
+    lowered: &Lowered,
+    code: &[Instruction],
+) -> Result<Option<&'static str>, AllocError>
+    ensures first { IfOk result (λ part. option_copied part ≡ option_or (spec.reference_lacked settings.now.externref lowered.now code.now) (option_or (spec.memory_lacked lowered.now code.now) (spec.stack_lacked lowered.now code.now))) }
+{
+    match reference_lacked(settings.externref, lowered, code) {
+        Some(part) => Ok(Some(part)),
+        None => match memory_lacked(alloc, lowered, code)? {
+            Some(part) => Ok(Some(part)),
+            None => Ok(stack_lacked(lowered, code)),
+        },
+    }
+}
+
 // The first part that code lacks.
 fn code_lacks(
     alloc: Global,
@@ -286,12 +325,9 @@ fn code_lacks(
 ) -> Result<Option<&'static str>, AllocError>
     ensures first { IfOk result (λ part. option_copied part ≡ spec.code_lacks settings.now lowered.now code.now) }
 {
-    match reference_lacked(settings.externref, lowered, code) {
+    match closure_lacked(lowered, code) {
         Some(part) => Ok(Some(part)),
-        None => match memory_lacked(alloc, lowered, code)? {
-            Some(part) => Ok(Some(part)),
-            None => Ok(stack_lacked(lowered, code)),
-        },
+        None => passing_lacks(alloc, settings, lowered, code),
     }
 }
 

@@ -1,11 +1,9 @@
 //! What isn't built yet, each kind of it by a name.
 ghost use Rattle.std.specs.Prelude.{◌≡◌, IfOk, not};
-ghost use Rattle.std.specs.List.{list_all, list_any};
+ghost use Rattle.std.specs.List.{list_any};
 ghost use Rattle.std.specs.Option.{option_copied};
 ghost use Rattle.wasm_core.specs.ids.ImportId.{ImportId};
 ghost use Rattle.glue_shared.specs.Names.{own_imports};
-ghost use Rattle.glue_adapters.specs.Adapters as adapters;
-ghost use Rattle.glue_adapters.specs.Adapters.{adapter_at};
 ghost use Rattle.glue_check.specs.Unbuilt as spec;
 
 use crate::files::FileFlags;
@@ -14,12 +12,9 @@ use crate::missing::excludes;
 use crate::target_values::is_absent;
 use glue_faults::{Fault, not_built};
 use glue_imports::has_expression;
-use glue_names::{import_at, own_ids};
 use glue_published::stands_alone;
-use glue_shared::{
-    Adapter, AdapterId, AdapterKind, AdapterType, AuxExport, AuxExportKind, AuxImport, Instruction,
-    Lowered, Settings, Target,
-};
+use glue_shared::{AdapterId, AuxExport, AuxExportKind, AuxImport, Lowered, Settings, Target};
+use printed_adapters::{import_at, own_ids};
 use std::alloc::{AllocError, Global};
 use values::Text;
 use wasm_core::{Func, Import, ImportId, ImportKind, Memory, Module};
@@ -165,69 +160,6 @@ pub(crate) fn unbuilt_imports(
     not_built(alloc, asked, "imports")
 }
 
-// Whether an instruction is one of a class, or of a closure.
-fn is_unbuilt_instruction(instruction: &Instruction) -> bool
-    ensures test { result ≡ spec.is_unbuilt_instruction instruction.now }
-{
-    matches!(
-        instruction,
-        Instruction::ClassIntoPtr(_)
-            | Instruction::ClassPtr(_)
-            | Instruction::ClassFromPtr(_)
-            | Instruction::Closure(_, _)
-    )
-}
-
-// Whether a type is no object of a class, nor options of one.
-fn is_simple(ty: &AdapterType) -> bool
-    ensures test { result ≡ spec.is_simple ty.now }
-{
-    match ty {
-        AdapterType::Class(_) => false,
-        AdapterType::Option(inner) => is_simple(inner.get()),
-        _ => true,
-    }
-}
-
-fn are_simple(types: &[AdapterType]) -> bool
-    ensures test { result ≡ list_all spec.is_simple types.now }
-{
-    types.iter().all(|ty| is_simple(ty))
-}
-
-fn has_unbuilt_instruction(kind: &AdapterKind) -> bool
-    ensures test { result ≡ list_any spec.is_unbuilt_instruction (adapters.code_of kind.now) }
-{
-    match kind {
-        AdapterKind::Local(code) => {
-            code.as_slice()
-                .iter()
-                .any(|instruction| is_unbuilt_instruction(instruction))
-        }
-        AdapterKind::Import(_) => false,
-    }
-}
-
-#[tactic(auto, unfolding(crate::specs::Unbuilt::is_unbuilt_adapter))]
-fn is_unbuilt_adapter(id: AdapterId, adapter: &Adapter) -> bool
-    ensures test { result ≡ spec.is_unbuilt_adapter (id, adapter.now) }
-{
-    !(are_simple(adapter.args.as_slice()) && are_simple(adapter.results.as_slice()))
-        || has_unbuilt_instruction(&adapter.kind)
-}
-
-// Whether an adapter is of a type or has an instruction that isn't built.
-fn has_unbuilt_adapter(lowered: &Lowered) -> bool
-    ensures test { result ≡ list_any spec.is_unbuilt_adapter lowered.now.wit.adapters }
-{
-    for (id, adapter) in lowered.wit.adapters.iter() {
-        if is_unbuilt_adapter(*id, adapter) {
-            return true;
-        }
-    }
-    false
-}
-
 fn takes_this(kind: AuxExportKind) -> bool
     ensures test { result ≡ spec.takes_this kind }
 {
@@ -247,16 +179,14 @@ fn has_special_export(exports: &[AuxExport]) -> bool
     exports.iter().any(|export| is_special_export(export))
 }
 
-/// That adapters of this form aren't built. Want of memory is the only error.
+/// That functions of this form aren't built. Want of memory is the only error.
 pub(crate) fn unbuilt_instructions(
     alloc: Global,
     lowered: &Lowered,
 ) -> Result<Option<Fault>, AllocError>
     ensures fault { IfOk result (λ fault. fault ≡ spec.unbuilt_instructions lowered.now) }
 {
-    let asked = has_unbuilt_adapter(lowered)
-        || !lowered.wit.exports.is_empty()
-        || !lowered.aux.imports_with_catch.is_empty()
+    let asked = !lowered.aux.imports_with_catch.is_empty()
         || has_special_export(lowered.aux.exports.as_slice());
     not_built(alloc, asked, "instructions")
 }

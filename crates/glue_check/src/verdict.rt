@@ -6,6 +6,7 @@ ghost use Rattle.glue_faults.specs.First.{first_of, first_some};
 ghost use Rattle.glue_check.specs.Answers as answers;
 ghost use Rattle.glue_check.specs.Verdict as spec;
 
+use crate::classes::unknown_class;
 use crate::files::FileFlags;
 use crate::links::link_not_embedded;
 use crate::missing::missing_part;
@@ -14,9 +15,10 @@ use crate::unbuilt::{
     unbuilt_classes, unbuilt_files, unbuilt_imports, unbuilt_instructions, unbuilt_lifecycle,
     unbuilt_settings, unbuilt_target,
 };
+use claimed_modules::module_clash;
 use glue_adapters::{bad_adapter, unbound_import, unsupported};
 use glue_faults::{Fault, where_true};
-use glue_names::{bad_name, fixed_export, global_twice, module_clash, name_clash};
+use glue_names::{bad_name, fixed_export, global_twice, name_clash};
 use glue_published::{bad_reexport, thing_clash};
 use glue_shared::{Lowered, NonstandardWitSection, Settings, WasmBindgenAux};
 use std::alloc::{AllocError, Global};
@@ -42,6 +44,7 @@ enum Condition {
     GlobalTwice,
     NameClash,
     ModuleClash,
+    UnknownClass,
     ExportClash,
     FixedExport,
     BadReexport,
@@ -62,7 +65,7 @@ const UNBUILT: [Condition; 7] = [
 ];
 
 /// The conditions in their order: the first that gives a fault decides.
-const CONDITIONS: [Condition; 15] = [
+const CONDITIONS: [Condition; 16] = [
     Condition::Threads,
     Condition::PackageJson,
     Condition::UnsupportedInstr,
@@ -72,6 +75,7 @@ const CONDITIONS: [Condition; 15] = [
     Condition::GlobalTwice,
     Condition::NameClash,
     Condition::ModuleClash,
+    Condition::UnknownClass,
     Condition::ExportClash,
     Condition::FixedExport,
     Condition::BadReexport,
@@ -143,6 +147,7 @@ fn answer(
         Condition::GlobalTwice => global_twice(alloc, settings, lowered),
         Condition::NameClash => name_clash(alloc, settings, lowered),
         Condition::ModuleClash => module_clash(alloc, settings, lowered),
+        Condition::UnknownClass => unknown_class(alloc, lowered),
         Condition::ExportClash => thing_clash(alloc, settings, aux),
         Condition::FixedExport => fixed_export(alloc, settings, lowered),
         Condition::BadReexport => bad_reexport(alloc, settings, aux),

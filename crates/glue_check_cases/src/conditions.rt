@@ -1,17 +1,21 @@
 //! Each condition alone, with what its fault names, and near misses.
-use crate::checking::{Case, Group, Place, assert_cases, assert_groups, fault_told};
+use crate::checking::{assert_cases, assert_groups, edited_lowered};
 use crate::compare::assert_told;
-use crate::described::{Edit, edited_lowered};
 use crate::edits::{
-    ADD_IMPORT, ADDING, BARE_LINK, CALL_MORE, CALLING_NOTHING, INSTANCE, LOGGING, MODULE, NO_CODE,
-    NO_PAIR, PACKAGE, PROTO_NAME, SAME_PAIR, SECOND_ADD, SECOND_LAST, SECOND_PAIR, SUB, SUM,
+    ADD_IMPORT, BARE_LINK, CALLING_NOTHING, PACKAGE, SAME_PAIR, SECOND_ADD, SECOND_LAST, SUB, SUM,
     UNSUPPORTED,
 };
 use crate::modules::{
-    ADD, EXPORTED_TWICE, IMPORTED_TWICE, LOG_MEMORY, PROTO_MEMORY, TWO_IMPORTS, WITH_EXTERN,
-    WITH_FUNC, WITH_MANY_EXPORTS, WITH_MEMORY, WITH_PARTS, WITH_PROTO, WITH_RESULT, WITH_SHARED,
-    WITH_START, WITH_START_EXPORT, WITH_START_NAME,
+    EXPORTED_TWICE, LOG_MEMORY, PROTO_MEMORY, WITH_EXTERN, WITH_FUNC, WITH_PARTS, WITH_RESULT,
+    WITH_SHARED, WITH_START, WITH_START_EXPORT, WITH_START_NAME,
 };
+use check_inputs::edits::{
+    ADDING, CALL_MORE, INSTANCE, LOGGING, MODULE, NO_CODE, NO_PAIR, PROTO_NAME, SECOND_PAIR,
+};
+use check_inputs::modules::{
+    ADD, IMPORTED_TWICE, TWO_IMPORTS, WITH_MANY_EXPORTS, WITH_MEMORY, WITH_PROTO,
+};
+use check_inputs::{Case, Edit, Group, Place, fault_told};
 use glue_lower::LowerFault;
 use glue_shared::{AdapterId, AuxExportKind, Lowered};
 use std::alloc::AllocError;

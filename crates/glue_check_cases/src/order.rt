@@ -1,20 +1,29 @@
 //! Of several faults the first in the order is answered, and of several things that come to one fault the first in the
 //! description's order is named; of two that clash it is the later.
-use crate::checking::{Asked, AskedCase, Case, assert_asked, assert_cases};
-use crate::described::Edit;
+use crate::checking::{assert_asked, assert_cases};
 use crate::edits::{
-    ADD_IMPORT, ADDING, BARE_LINK, CALL_MORE, CALLING_NOTHING, CLASS_OBJECT, GLOBAL_WASM, LOGGING,
-    MODULE, NO_CODE, NO_PAIR, ONE_NAME, PACKAGE, PROTO_NAME, REEXPORT, SAME_PAIR, SECOND_ADD,
-    SECOND_LAST, SECOND_PAIR, SUM, UNSUPPORTED,
+    ADD_IMPORT, BARE_LINK, CALLING_NOTHING, CLASS_OBJECT, GLOBAL_WASM, ONE_NAME, PACKAGE, REEXPORT,
+    SAME_PAIR, SECOND_ADD, SECOND_LAST, SUM, UNSUPPORTED,
 };
-use crate::modules::{
-    ADD, BOTH_TWICE, CROSSED_EXPORTS, CROSSED_IMPORTS, EXPORTED_TWICE, TWO_IMPORTS,
-    WITH_MANY_EXPORTS, WITH_PROTO, WITH_SHARED, WITH_TABLE_IMPORT,
+use crate::modules::{BOTH_TWICE, CROSSED_EXPORTS, CROSSED_IMPORTS, EXPORTED_TWICE, WITH_SHARED};
+use check_inputs::edits::{
+    ADDING, CALL_MORE, LOGGING, MODULE, NO_CODE, NO_PAIR, PROTO_NAME, SECOND_PAIR,
 };
+use check_inputs::modules::{ADD, TWO_IMPORTS, WITH_MANY_EXPORTS, WITH_PROTO, WITH_TABLE_IMPORT};
+use check_inputs::{Asked, AskedCase, Case, Edit};
 use std::alloc::AllocError;
 
 /// A crate with no piece of JavaScript.
 const SNIPPET: Edit = (r#""version":1"#, r#""version":1,"snippets":{"a":[]}"#);
+
+/// Throws of the import are caught.
+const CAUGHT: Edit = (r#""version":1"#, r#""version":1,"catch":[1]"#);
+
+/// The import is described to come from the module of placeholders.
+const PLACEHOLDER: Edit = (
+    r#"{"global":"console","fields":["log"]}"#,
+    r#"{"module":"__wbindgen_placeholder__","name":"log"}"#,
+);
 
 /// A class.
 const CLASS: Edit = (r#""version":1"#, r#""version":1,"structs":[{"name":"C"}]"#);
@@ -32,11 +41,8 @@ const REINIT: Edit = (r#""version":1"#, r#""version":1,"uses_reinit":true"#);
 /// Two kinds of what isn't built, or two conditions, each next to the other in the order.
 const PAIRS: &[AskedCase] = &[
     (&[Asked::Web], (WITH_TABLE_IMPORT, &[], "NotBuilt target")),
-    (
-        &[],
-        (WITH_TABLE_IMPORT, &[CLASS_OBJECT], "NotBuilt imports"),
-    ),
-    (&[], (ADD, &[CLASS_OBJECT, CLASS], "NotBuilt instructions")),
+    (&[], (WITH_TABLE_IMPORT, &[CAUGHT], "NotBuilt imports")),
+    (&[], (ADD, &[CAUGHT, CLASS], "NotBuilt instructions")),
     (&[Asked::Debug], (ADD, &[CLASS], "NotBuilt classes")),
     (&[Asked::Debug], (ADD, &[REINIT], "NotBuilt settings")),
     (&[], (ADD, &[REINIT, SNIPPET], "NotBuilt lifecycle")),
@@ -61,6 +67,18 @@ const PAIRS: &[AskedCase] = &[
     (
         &[],
         (EXPORTED_TWICE, &[ADDING, SECOND_ADD], "NameClash add"),
+    ),
+    (
+        &[],
+        (
+            ADD,
+            &[PLACEHOLDER, CLASS_OBJECT],
+            "ModuleClash __wbindgen_placeholder__",
+        ),
+    ),
+    (
+        &[],
+        (ADD, &[CLASS_OBJECT, ADDING, SECOND_ADD], "UnknownClass C"),
     ),
     (
         &[],

@@ -1,10 +1,10 @@
 //! Parts that an import or an instruction needs: each where it is there, and where it is absent, of the wrong kind, or one of several.
-use crate::checking::{Asked, AskedCase, assert_asked};
-use crate::described::Edit;
-use crate::edits::{BARE_LINK, CALL_MORE};
-use crate::modules::{
-    ADD, FOREIGN_MEMORIES, FOREIGN_MEMORY, FOREIGN_WIDE, WITH_MEMORY, WITH_PARTS,
-};
+use crate::checking::assert_asked;
+use crate::edits::BARE_LINK;
+use crate::modules::WITH_PARTS;
+use check_inputs::edits::CALL_MORE;
+use check_inputs::modules::{ADD, FOREIGN_MEMORIES, FOREIGN_MEMORY, FOREIGN_WIDE, WITH_MEMORY};
+use check_inputs::{Asked, AskedCase, Edit};
 use std::alloc::AllocError;
 
 /// The import adapter more is the module's memory.

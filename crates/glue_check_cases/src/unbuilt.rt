@@ -1,18 +1,18 @@
 //! What isn't built, each by the name of its kind, and next to it what is.
-use crate::checking::{
-    Asked, AskedCase, Case, Group, Place, assert_asked, assert_cases, assert_fault, assert_groups,
-};
-use crate::described::Edit;
-use crate::edits::{
-    AS_CONSTRUCTOR, AS_METHOD, BARE_LINK, CALL_MORE, GLUE_LOG, NO_CODE, NO_PAIR, SPREAD,
-    UNSIGNED_LOG,
-};
+use crate::checking::{assert_asked, assert_cases, assert_fault, assert_groups};
+use crate::edits::BARE_LINK;
 use crate::modules::{
-    ADD, FOREIGN_MEMORIES, FOREIGN_MEMORY, FOREIGN_TABLE, FOREIGN_TAG, FOREIGN_WIDE, FROM_STRINGS,
-    LONG_MEMORY, STRING_CONSTANT, TWO_MEMORIES, WITH_FOREIGN, WITH_GLOBAL_IMPORT,
-    WITH_LIMITED_IMPORT, WITH_MEMORY, WITH_MEMORY_IMPORT, WITH_PARTS, WITH_SHARED_IMPORT,
-    WITH_TABLE_IMPORT, WITH_TAG_IMPORT, WITH_WIDE_IMPORT,
+    FOREIGN_TABLE, FOREIGN_TAG, LONG_MEMORY, STRING_CONSTANT, TWO_MEMORIES, WITH_GLOBAL_IMPORT,
+    WITH_LIMITED_IMPORT, WITH_PARTS, WITH_SHARED_IMPORT, WITH_WIDE_IMPORT,
 };
+use check_inputs::edits::{
+    AS_CONSTRUCTOR, AS_METHOD, CALL_MORE, GLUE_LOG, NO_CODE, NO_PAIR, SPREAD, UNSIGNED_LOG,
+};
+use check_inputs::modules::{
+    ADD, FOREIGN_MEMORIES, FOREIGN_MEMORY, FOREIGN_WIDE, FROM_STRINGS, WITH_FOREIGN, WITH_MEMORY,
+    WITH_MEMORY_IMPORT, WITH_TABLE_IMPORT, WITH_TAG_IMPORT,
+};
+use check_inputs::{Asked, AskedCase, Case, Edit, Group, Place};
 use glue_inputs::with_custom;
 use std::alloc::{AllocError, Global};
 
@@ -77,7 +77,14 @@ const GROUPS: &[Group] = &[
         WITH_PARTS,
         KEY,
         "NotBuilt instructions",
-        &[r#""catch":[1]"#, r#""adapter_exports":[[0,0]]"#],
+        &[r#""catch":[1]"#],
+    ),
+    // An adapter that is published is none that closures call.
+    (
+        WITH_PARTS,
+        KEY,
+        "BadAdapter 0",
+        &[r#""adapter_exports":[[0,0]]"#],
     ),
     (
         WITH_PARTS,
@@ -169,7 +176,7 @@ const GROUPS: &[Group] = &[
     (
         ADD,
         RESULTS,
-        "NotBuilt instructions",
+        "UnknownClass C",
         &[r#"[{"class":"C"}]"#, r#"[{"option":{"class":"C"}}]"#],
     ),
     (
@@ -188,7 +195,7 @@ const GROUPS: &[Group] = &[
     (
         ADD,
         ARGUMENTS,
-        "NotBuilt instructions",
+        "UnknownClass C",
         &[r#"[{"class":"C"}]"#, r#"[{"option":{"class":"C"}}]"#],
     ),
     (
@@ -230,14 +237,25 @@ const GROUPS: &[Group] = &[
             r#"["GetIndex"],["ArgGet",0]"#,
         ],
     ),
+    // A class that isn't described, where what is popped is of its kind.
     (
-        WITH_MEMORY,
+        ADD,
         INSTRUCTION,
-        "NotBuilt instructions",
+        "UnknownClass C",
+        &[
+            r#"["ClassFromPtr","C"]"#,
+            r#"["ClassFromPtr","C"],["ClassPtr","D"],["TakeIndex"]"#,
+            r#"["TakeIndex"],["ClassIntoPtr","C"],["TakeIndex"]"#,
+        ],
+    ),
+    (
+        ADD,
+        INSTRUCTION,
+        "BadAdapter 0",
         &[
             r#"["ClassIntoPtr","C"]"#,
             r#"["ClassPtr","C"]"#,
-            r#"["ClassFromPtr","C"]"#,
+            r#"["TakeIndex"],["ClassFromPtr","C"]"#,
             r#"["Closure",0,true]"#,
         ],
     ),

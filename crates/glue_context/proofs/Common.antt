@@ -14,9 +14,11 @@ pub use Rattle.glue_check.proofs.BuiltForm.{IsBuiltExport}
 pub use Rattle.glue_names.proofs.Globals.{some_of}
 pub use Rattle.glue_check.proofs.Steps.{HasSteps, IsDescribed, IsThere}
 pub use Rattle.glue_steps.specs.Exported.{export_name, export_names}
+pub use Rattle.printed_adapters.specs.Printed.{used_closures}
 pub use Rattle.glue_lines.specs.Grouped.{AreImportLines, Imported}
 pub use Rattle.glue_naming.specs.Listed.{drawn_imports}
 pub use Rattle.glue_naming.specs.Naming.{AreNames, declared_name, is_named}
+pub use Rattle.glue_context.specs.ClosureItems.{AreClosures, IsClosureItem, closure_item, is_declarable}
 pub use Rattle.glue_context.specs.Defined.{IsDefined, defined_by, defined_places}
 pub use Rattle.glue_context.specs.Edits.{AreFit, with_added, with_moved}
 pub use Rattle.glue_context.specs.Foreign.{foreign_lines, foreign_modules, module_at, modules_from}
@@ -36,7 +38,7 @@ pub use Rattle.glue_shared.specs.declared.import.AuxImport.{AuxImport}
 pub use Rattle.glue_shared.specs.declared.names.TheConstants.{HOSTS, TARGET_NAMES}
 pub use Rattle.glue_shared.specs.declared.settings.Settings.{Settings}
 pub use Rattle.glue_shared.specs.declared.settings.Target.TheVariants.{Deno}
-pub use Rattle.glue_steps.specs.Resolving.{entry_at}
+pub use Rattle.glue_steps.specs.Resolving.{callback_name, entry_at}
 pub use Rattle.glue_steps.specs.declared.step.Step.{Step}
 pub use Rattle.glue_targets.specs.Published.{IsPublished, fixed_by, fixed_published, is_exported, published_by, published_pairs}
 pub use Rattle.glue_targets.specs.Targets.{Frame, frame_end, frame_start, loading_item}

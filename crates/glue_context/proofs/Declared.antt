@@ -289,29 +289,29 @@ module _ (s : Settings) (m : Contents) (paths held : List (List ℕ)) (memory : 
       let second = apart_split names (start_binds memory) (held ++ loading_bound) first.1 in
       record { from_lines = first.0; from_frame = second.0; behind = second.1 }
 
-  -- names that are drawn, for imports of described modules, for vendors' names and for exports, and those that are given to lists of string
-  -- enums: all are distinct, and none is an own one
-  pub record AreDrawn (imported constants names lists : List (List ℕ)) : Type 0 where
+  -- names that are drawn, for imports of described modules, for vendors' names and for exports, and those that are given to functions of closures
+  -- and lists of string enums: all are distinct, and none is an own one
+  pub record AreDrawn (imported constants names given : List (List ℕ)) : Type 0 where
     pub imports_once : AreDistinct imported
     pub constants_once : AreDistinct constants
     pub names_once : AreDistinct names
-    pub lists_once : AreDistinct lists
+    pub given_once : AreDistinct given
     pub imports_constants : AreApart imported constants
     pub imports_names : AreApart imported names
     pub constants_names : AreApart constants names
-    pub imports_lists : AreApart imported lists
-    pub constants_lists : AreApart constants lists
-    pub names_lists : AreApart names lists
+    pub imports_given : AreApart imported given
+    pub constants_given : AreApart constants given
+    pub names_given : AreApart names given
     pub imports_own : AreApart imported own_names
     pub constants_own : AreApart constants own_names
     pub names_own : AreApart names own_names
-    pub lists_own : AreApart lists own_names
+    pub given_own : AreApart given own_names
 
-  -- what the file declares: names of described modules, of foreign ones, and of vendors, those of exports, of the frame and of lists, of helpers,
-  -- and of loading
-  module _ (imported constants names lists : List (List ℕ)) where
+  -- what the file declares: names of described modules, of foreign ones, and of vendors, those of exports, of the frame, and given ones, those of
+  -- helpers, and of loading
+  module _ (imported constants names given : List (List ℕ)) where
     abbrev framed : List (List ℕ)
-    framed = start_binds memory ++ lists
+    framed = start_binds memory ++ given
 
     abbrev pub framed_names : List (List ℕ)
     framed_names = imported ++ (lines ++ (constants ++ (names ++ framed)))
@@ -320,35 +320,35 @@ module _ (s : Settings) (m : Contents) (paths held : List (List ℕ)) (memory : 
     all_names = framed_names ++ (held ++ loading_bound)
 
     -- none stands twice
-    pub all_distinct : AreDistinct held → AreDrawn imported constants names lists → AreDistinct all_names
+    pub all_distinct : AreDistinct held → AreDrawn imported constants names given → AreDistinct all_names
     all_distinct h d =
         let i = from_own imported d.imports_own in
         let c = from_own constants d.constants_own in
         let n = from_own names d.names_own in
-        let v = from_own lists d.lists_own in
+        let v = from_own given d.given_own in
         let published = names ++ framed in
         let more = constants ++ published in
         let back : AreDistinct loading_bound = grind arith in
-        let ended = distinct_both (start_binds memory) lists (start_distinct memory) d.lists_once (apart_swap lists (start_binds memory) v.from_frame) in
-        let named = distinct_both names framed d.names_once ended (apart_joined names (start_binds memory) lists n.from_frame d.names_lists) in
+        let ended = distinct_both (start_binds memory) given (start_distinct memory) d.given_once (apart_swap given (start_binds memory) v.from_frame) in
+        let named = distinct_both names framed d.names_once ended (apart_joined names (start_binds memory) given n.from_frame d.names_given) in
         let held_too = distinct_both constants published d.constants_once named (apart_joined constants names framed d.constants_names
-        (apart_joined constants (start_binds memory) lists c.from_frame d.constants_lists)) in
+        (apart_joined constants (start_binds memory) given c.from_frame d.constants_given)) in
         let lined = distinct_both lines more (modules_distinct 1 paths wide) held_too
         (apart_joined lines constants published (apart_swap constants lines c.from_lines)
         (apart_joined lines names framed (apart_swap names lines n.from_lines)
-        (apart_joined lines (start_binds memory) lists lines_frame (apart_swap lists lines v.from_lines)))) in
+        (apart_joined lines (start_binds memory) given lines_frame (apart_swap given lines v.from_lines)))) in
         let whole = distinct_both imported (lines ++ more) d.imports_once lined
         (apart_joined imported lines more i.from_lines (apart_joined imported constants published d.imports_constants
         (apart_joined imported names framed d.imports_names
-        (apart_joined imported (start_binds memory) lists i.from_frame d.imports_lists)))) in
+        (apart_joined imported (start_binds memory) given i.from_frame d.imports_given)))) in
         let behind = held ++ loading_bound in
         distinct_both framed_names behind whole (distinct_both held loading_bound h back held_loading)
         (apart_both imported (lines ++ more) behind i.behind (apart_both lines more behind lines_behind
         (apart_both constants published behind c.behind (apart_both names framed behind n.behind
-        (apart_both (start_binds memory) lists behind frame_behind v.behind)))))
+        (apart_both (start_binds memory) given behind frame_behind v.behind)))))
 
     -- what own names and the drawn ones are apart from, all are
-    pub all_apart : (others : List (List ℕ)) → AreApart imported others → AreApart constants others → AreApart names others → AreApart lists others
+    pub all_apart : (others : List (List ℕ)) → AreApart imported others → AreApart constants others → AreApart names others → AreApart given others
         → AreApart own_names others → AreApart all_names others
     all_apart others i c n v own =
         let behind = held ++ loading_bound in
@@ -359,7 +359,7 @@ module _ (s : Settings) (m : Contents) (paths held : List (List ℕ)) (memory : 
         apart_both framed_names behind others
         (apart_both imported (lines ++ more) others i (apart_both lines more others first.0
         (apart_both constants published others c (apart_both names framed others n
-        (apart_both (start_binds memory) lists others second.0 v))))) second.1
+        (apart_both (start_binds memory) given others second.0 v))))) second.1
 
     -- what stands whatever helpers are held
     abbrev pub first_names : List (List ℕ)
@@ -372,7 +372,7 @@ module _ (s : Settings) (m : Contents) (paths held : List (List ℕ)) (memory : 
 
     -- where drawn and given names are no fixed ones, none of the first is a name that a helper may bind
     pub first_unlisted : AreApart imported (fixed_names s m) → AreApart constants (fixed_names s m) → AreApart names (fixed_names s m)
-        → AreApart lists (fixed_names s m) → (name : List ℕ) → IsIn name first_names → IsListed parts name → ⊥
+        → AreApart given (fixed_names s m) → (name : List ℕ) → IsIn name first_names → IsListed parts name → ⊥
     first_unlisted i c n v name at h =
         elim (in_either name framed_names loading_bound at) [
           | inl at ↦ elim (in_either name imported (lines ++ (constants ++ (names ++ framed))) at) [
@@ -383,9 +383,9 @@ module _ (s : Settings) (m : Contents) (paths held : List (List ℕ)) (memory : 
                 | inl here ↦ apart_in name constants (fixed_names s m) c here (listed_fixed name h)
                 | inr behind ↦ elim (in_either name names framed behind) [
                   | inl here ↦ apart_in name names (fixed_names s m) n here (listed_fixed name h)
-                  | inr behind ↦ elim (in_either name (start_binds memory) lists behind) [
+                  | inr behind ↦ elim (in_either name (start_binds memory) given behind) [
                     | inl here ↦ listed_away parts (start_binds true) refl name h (among_in name (start_binds memory) (start_binds true) (start_within memory) here)
-                    | inr here ↦ apart_in name lists (fixed_names s m) v here (listed_fixed name h)
+                    | inr here ↦ apart_in name given (fixed_names s m) v here (listed_fixed name h)
                   ]
                 ]
               ]
@@ -397,7 +397,7 @@ module _ (s : Settings) (m : Contents) (paths held : List (List ℕ)) (memory : 
     pub held_among : AreAmong held all_names
     held_among = among_right held framed_names (held ++ loading_bound) (among_left held held loading_bound (among_itself held))
 
-    -- the names of modules, of vendors, of exports, of the frame, of lists and of loading stand among the first
+    -- the names of modules, of vendors, of exports, of the frame, given ones and those of loading stand among the first
     framed_first : (xs : List (List ℕ)) → AreAmong xs framed_names → AreAmong xs first_names
     framed_first xs h = among_left xs framed_names loading_bound h
 
@@ -425,10 +425,10 @@ module _ (s : Settings) (m : Contents) (paths held : List (List ℕ)) (memory : 
     pub frame_first : AreAmong (start_binds memory) first_names
     frame_first =
         behind_constants (start_binds memory) (among_right (start_binds memory) names framed
-        (among_left (start_binds memory) (start_binds memory) lists (among_itself (start_binds memory))))
+        (among_left (start_binds memory) (start_binds memory) given (among_itself (start_binds memory))))
 
-    pub lists_first : AreAmong lists first_names
-    lists_first = behind_constants lists (among_right lists names framed (among_right lists (start_binds memory) lists (among_itself lists)))
+    pub given_first : AreAmong given first_names
+    given_first = behind_constants given (among_right given names framed (among_right given (start_binds memory) given (among_itself given)))
 
     pub loading_first : AreAmong loading_bound first_names
     loading_first = among_right loading_bound framed_names loading_bound (among_itself loading_bound)

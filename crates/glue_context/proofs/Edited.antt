@@ -25,7 +25,7 @@ use Rattle.glue_steps.specs.Room.{has_stack}
 use Rattle.glue_lines.specs.Grouped.{source_of}
 use Rattle.glue_naming.specs.Imported.{called_names}
 use Rattle.glue_names.specs.Naming.{shim_name, start_name}
-use Rattle.glue_names.specs.Printed.{uses_shim}
+use Rattle.printed_adapters.specs.Printed.{uses_shim}
 use Rattle.glue_naming.specs.Handed.{handed_pair, handed_imports}
 use Rattle.taken_items.specs.Asked.{asked_items}
 use Rattle.taken_items.specs.ItemNames.{added_exports, item_map, item_names}

@@ -1,8 +1,8 @@
 -- What is known of a description whose items are made, however it was checked, and that the check gives it.
-use Rattle.glue_context.proofs.Common.{◌≡◌, ℕ, List, [], true, false, None, Some, Option, arith, list_all, is_bindable, is_definable, IsIn, IsAway, AreDistinct, ImportId, AuxExport, Settings, NameMap, Deno, Lowered, described_hosts, frame_of, rewritten, fixed_names, own_imports, IsBuiltExport, HasSteps, FileFlags, unbuilt, verdict}
+use Rattle.glue_context.proofs.Common.{◌≡◌, ℕ, List, [], true, false, None, Some, Option, arith, list_all, is_bindable, is_definable, IsIn, IsAway, AreDistinct, ImportId, AuxExport, Settings, NameMap, Deno, Lowered, described_hosts, frame_of, rewritten, fixed_names, own_imports, callback_name, used_closures, is_declarable, IsBuiltExport, HasSteps, FileFlags, unbuilt, verdict}
 use Rattle.glue_check.proofs.{BuiltForm.target_built, BuiltForm.settings_built, BuiltForm.exports_built, BuiltForm.absent_built}
 use Rattle.glue_check.proofs.ListNames.{AreListNames, lists_named}
-use Rattle.glue_check.proofs.{OwnPairs.IsDefinableBy, OwnPairs.IsDefinedImport, OwnPairs.kept_pair, OwnPairs.number_there, OwnPairs.own_defined, OwnPairs.own_distinct, Passed.described_apart, Passed.described_ident, Passed.reexports_fit, Passed.things_apart, Passed.variants_ident, Steps.export_steps, Steps.pair_steps}
+use Rattle.glue_check.proofs.{OwnPairs.IsDefinableBy, OwnPairs.IsDefinedImport, OwnPairs.kept_pair, OwnPairs.number_there, OwnPairs.own_defined, OwnPairs.own_distinct, Passed.described_apart, Passed.described_ident, Passed.reexports_fit, Passed.things_apart, Passed.variants_ident, Steps.closure_named, Steps.closure_steps, Steps.export_steps, Steps.pair_steps}
 use Rattle.std.specs.Prelude.{ℤ}
 use Rattle.glue_exports.proofs.EnumFacts.{variant_names}
 use Rattle.glue_exports.proofs.Joined.{from_map}
@@ -17,6 +17,7 @@ use Rattle.glue_words.specs.Limits.{is_prop}
 use Rattle.glue_words.proofs.Idents.{ident_prop}
 use Rattle.glue_context.specs.DefinedItems.{is_definable_by}
 use Rattle.glue_context.specs.FrameIn.{frame_in}
+use Rattle.glue_context.proofs.ClosureNames.{AreCallbackNames, callbacks_named}
 use Rattle.glue_context.proofs.FrameRead.{frame_read}
 use Rattle.glue_context.proofs.Lists.{all_by}
 
@@ -38,10 +39,13 @@ pub record Facts (s : Settings) (l : Lowered) : Type 0 where
       → IsAway x (fixed_names s l.«module»)
   -- the names of lists of string enums are identifiers that stand for nothing else
   pub lists : AreListNames s l
-  -- each export is a function, and its adapter and that of each own import has steps
+  -- so are those of the functions of closures
+  pub callbacks : AreCallbackNames s l
+  -- each export is a function, and its adapter, that of each own import and that of each closure that is made has steps
   pub exports : (e : AuxExport) → IsIn e l.aux.exports → IsBuiltExport e
   pub export_steps : (e : AuxExport) → IsIn e l.aux.exports → HasSteps s l e.adapter
   pub pair_steps : (pair : ImportId × ℕ) → IsIn pair l.wit.implements → has_number pair.0.0 (own_imports s l.«module» l.wit l.aux) ≡ true → HasSteps s l pair.1
+  pub closure_steps : (id : ℕ) → IsIn id (used_closures s l) → HasSteps s l id
   -- what the frame goes by can be read off the written module
   pub framed : frame_of s l ≡ frame_in s.stem (rewritten s l)
 
@@ -74,9 +78,11 @@ built f s l whole passed =
       idents = described_ident s l passed;
       apart = described_apart s l passed;
       lists = lists_named s l passed;
+      callbacks = callbacks_named s l passed;
       exports = exports_built f s l whole;
       export_steps = export_steps f s l whole passed;
       pair_steps = pair_steps f s l whole passed;
+      closure_steps = closure_steps f s l whole passed;
       framed = frame_read f s l whole passed;
     }
 
@@ -84,6 +90,12 @@ module _ (f : FileFlags) (s : Settings) (l : Lowered) (whole : unbuilt f s l ≡
   -- each adapter that becomes a function has steps
   pub bindable_built : (m : NameMap) → list_all (is_bindable s m l) l.aux.exports ≡ true
   bindable_built m = all_by (is_bindable s m l) l.aux.exports (λ e k. let h = export_steps f s l whole passed e k m in grind arith)
+
+  -- so has that of each closure that is made, and its function has a name
+  pub declarable_built : (m : NameMap) → list_all (is_declarable s m l) (used_closures s l) ≡ true
+  declarable_built m = all_by (is_declarable s m l) (used_closures s l) (λ id k.
+      let h = closure_steps f s l whole passed id k m in
+      let n = closure_named f s l whole passed id k in rw n.1 (grind arith))
 
   -- no two things that are published clash
   pub apart_built : thing_clash s l.aux ≡ None

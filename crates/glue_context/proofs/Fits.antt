@@ -23,7 +23,7 @@ use Rattle.glue_targets.proofs.FixedTexts.{call_takes}
 use Rattle.glue_binding.specs.Spelling.{path_words, chained_words}
 use Rattle.glue_binding.proofs.Standing.{step_fit}
 use Rattle.glue_binding.proofs.Outside.{exports_words, outside_words, outside_of, passed_none}
-use Rattle.glue_steps.specs.declared.step.Step.TheVariants.{CallExport, CallImport, ToUnsigned64, CallHelper, IndexFromBorrow, UnwrapResult, PassToMemory, DeferFree, CopyOut, ReturnPointer, LoadReturn, StoreReturn, IndexOf, ItemAt}
+use Rattle.glue_steps.specs.declared.step.Step.TheVariants.{CallExport, CallImport, ToUnsigned64, CallHelper, IndexFromBorrow, UnwrapResult, PassToMemory, DeferFree, CopyOut, ReturnPointer, LoadReturn, StoreReturn, MakeClosure, IndexOf, ItemAt}
 use Rattle.glue_steps.specs.Room.{has_stack}
 use Rattle.glue_binding.proofs.Parts.{outer_parts, outer_expression, expression_none, parts_declare}
 use Rattle.glue_binding.proofs.Paths.{TellsKeys, path_tells, property_tells, chained_tells}
@@ -49,8 +49,8 @@ use Rattle.helper_table.proofs.ListedNames.{bound_listed}
 use Rattle.helper_table.proofs.Supplied.{base_among, provided_in, provided_names}
 use Rattle.glue_names.specs.Handed.{own_callees}
 use Rattle.glue_names.specs.Naming.{shim_name}
-use Rattle.glue_names.specs.Printed.{uses_shim}
-use Rattle.glue_check.proofs.Steps.{IsHelperOf, IsListOf, IsNamedFunction}
+use Rattle.printed_adapters.specs.Printed.{uses_shim}
+use Rattle.glue_check.proofs.Steps.{IsClosureOf, IsHelperOf, IsListOf, IsNamedFunction}
 use Rattle.glue_names.proofs.Globals.{in_flat}
 use Rattle.glue_context.specs.DefinedItems.{takes_memory}
 use Rattle.glue_context.specs.Keys.{described_keys, import_properties, imported_properties, other_properties}
@@ -178,18 +178,20 @@ module _ (s : Settings) (l : Lowered) where
       pub items : m.wasm ≡ item_map (item_names s l)
       pub few : are_few l.«module» ≡ true
 
-    -- what stands for each is an identifier, and no drawn one is `wasm`; names of lists are identifiers
+    -- what stands for each is an identifier, and no drawn one is `wasm`, nor is the name of a closure's function; names of lists are identifiers
     pub record AreWell : Type 0 where
       pub named : ForCalled (IsWell m)
+      pub closures : (function : List ℕ) → IsClosureOf s l function → (is_ident function && not (is_wasm function)) ≡ true
       pub lists : (name : List ℕ) → IsIn name (list_names s l) → is_ident name ≡ true
       pub taken : AreTaken
 
-    -- these names hold what functions and definitions use of the file: `wasm`, `memory` where that is handed in, helpers that are provided, lists of
-    -- string enums, the drawn names, and those that the file has for the values of intrinsics; what has no drawn name is a name of the host
+    -- these names hold what functions and definitions use of the file: `wasm`, `memory` where that is handed in, helpers that are provided, functions
+    -- of closures, lists of string enums, the drawn names, and those that the file has for the values of intrinsics; what has no drawn name is a name of the host
     pub record HasBasis (declared : List (List ℕ)) : Type 0 where
       pub wasm : IsIn (codes "wasm") declared
       pub memory : takes_memory s l ≡ true → IsIn (codes "memory") declared
       pub helpers : AreAmong (provided_names (helper_parts s l m)) declared
+      pub closures : (function : List ℕ) → IsClosureOf s l function → IsIn function declared
       pub lists : AreAmong (list_names s l) declared
       pub begun : ForCalled (HasName (names_with declared) m)
       pub values : HasLoaded (names_with declared) s.target
@@ -223,6 +225,8 @@ module _ (s : Settings) (l : Lowered) where
     is_fit well (CopyOut helper) d = helper_fit well helper d
     is_fit well (LoadReturn view offset is_wide) d = helper_fit well view d
     is_fit well (StoreReturn view offset is_wide) d = helper_fit well view d
+    is_fit well (MakeClosure helper function) d =
+        and_from (is_ident helper && not (is_wasm helper)) (is_ident function && not (is_wasm function)) (helper_fit well helper d.0) (well.closures function d.1)
     is_fit well (IndexOf list) d = list_fit well list d
     is_fit well (ItemAt list) d = list_fit well list d
     is_fit well other d = refl
@@ -324,6 +328,8 @@ module _ (s : Settings) (l : Lowered) where
           let k = has_names steps h.1 in ((helper_declared view h.0, k.0), k.1, k.2, k.3, k.4)
       has_names (StoreReturn view offset is_wide ∷ steps) h =
           let k = has_names steps h.1 in ((helper_declared view h.0, k.0), k.1, k.2, k.3, k.4)
+      has_names (MakeClosure helper function ∷ steps) h =
+          let k = has_names steps h.1 in ((helper_declared helper h.0.0, (basis.closures function h.0.1, k.0)), k.1, k.2, k.3, k.4)
       has_names (IndexOf list ∷ steps) h =
           let k = has_names steps h.1 in ((list_declared list h.0, k.0), k.1, k.2, k.3, k.4)
       has_names (ItemAt list ∷ steps) h =
@@ -379,7 +385,7 @@ module _ {s : Settings} {m : NameMap} {l : Lowered} {id : ℕ} {names : List (Li
 
 -- ---- exports
 
-declaration_frame : (name : List ℕ) → is_ident name ≡ true → IsFrame (declaration_front name) declaration_back
+pub declaration_frame : (name : List ℕ) → is_ident name ≡ true → IsFrame (declaration_front name) declaration_back
 declaration_frame name ident = record { right = (rw ident refl, refl); before = refl; behind = refl; after = refl; apart = refl; ends = refl }
 
 module _ (s : Settings) (m : NameMap) (l : Lowered) (e : AuxExport) (items : FunctionItems) (d : AreFunctionItems s m l e items) where

@@ -10,7 +10,7 @@ use Rattle.wasm_core.specs.declared.types.Memory.{Memory}
 use Rattle.wasm_core.specs.types.FuncType.{FuncType}
 use Rattle.glue_shared.specs.Names.{adapter_for, has_number, implemented}
 use Rattle.glue_adapters.specs.Pairs.{import_type, is_fixed_import, is_fixed_kind}
-use Rattle.glue_names.specs.Modules.{glue_module}
+use Rattle.claimed_modules.specs.Modules.{glue_module}
 use Rattle.glue_check.specs.Unbuilt.{is_plain_memory, memory_of}
 use Rattle.glue_check.proofs.OwnPairs.{IsDefinableBy, IsDefinedImport, entry_in, number_there, own_defined}
 use Rattle.glue_check.proofs.Passed.{imports_bound, pairs_fit}

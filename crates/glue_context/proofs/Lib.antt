@@ -1,3 +1,5 @@
+mod ClosureFacts
+mod ClosureNames
 mod Common
 mod Declared
 mod DefinedFacts

@@ -7,7 +7,7 @@ use Rattle.glue_words.proofs.Among.{among_by}
 use Rattle.glue_shared.specs.declared.aux.AuxStringEnum.{AuxStringEnum}
 use Rattle.glue_lines.proofs.TextsFacts.{texts_all_belong, texts_declare, texts_each}
 use Rattle.glue_names.specs.Given.{values_name}
-use Rattle.glue_names.specs.Printed.{named_enums}
+use Rattle.printed_adapters.specs.Printed.{named_enums}
 use Rattle.glue_names.proofs.MappedLists.{from_map, in_map}
 use Rattle.glue_exports.proofs.Joined.{from_filter, in_filter}
 use Rattle.glue_check.proofs.Steps.{IsListOf}

@@ -135,7 +135,7 @@ each_any Q before [] h = tt
 each_any Q before (item ∷ items) h = (h.0 before items, each_any Q (before ++ item ∷ []) items h.1)
 
 -- what holds of no items, and with each item and its counterpart of one more
-matched : {A B : Type 0} (R : A → B → Type 0) (S : List A → List B → Type 0) (xs : List A) (ys : List B) → AllZip R xs ys → S [] []
+pub matched : {A B : Type 0} (R : A → B → Type 0) (S : List A → List B → Type 0) (xs : List A) (ys : List B) → AllZip R xs ys → S [] []
     → ((x : A) (y : B) (us : List A) (vs : List B) → IsIn x xs → IsIn y ys → R x y → S us vs → S (x ∷ us) (y ∷ vs)) → S xs ys
 matched R S [] [] m none more = none
 matched R S (x ∷ xs) (y ∷ ys) m none more =
@@ -148,26 +148,28 @@ matched R S xs ys m none more = absurd m
 put_behind : {A : Type 0} {before after : List A} (known : List A) (x : A) → after ≡ before ++ x ∷ [] → before ≡ known → after ≡ known ++ x ∷ []
 put_behind known x put is = put ∙ ap (λ xs. xs ++ x ∷ []) is
 
--- eight groups, put one behind the other into an empty list
-pub eight_put : {g0 g1 g2 g3 g4 g5 g6 g7 g8 : List (List Item)} (a b c d e f g h : List Item) → g0 ≡ [] → g1 ≡ g0 ++ a ∷ [] → g2 ≡ g1 ++ b ∷ [] → g3 ≡ g2 ++ c ∷ []
-    → g4 ≡ g3 ++ d ∷ [] → g5 ≡ g4 ++ e ∷ [] → g6 ≡ g5 ++ f ∷ [] → g7 ≡ g6 ++ g ∷ [] → g8 ≡ g7 ++ h ∷ [] → g8 ≡ a ∷ b ∷ c ∷ d ∷ e ∷ f ∷ g ∷ h ∷ []
-eight_put a b c d e f g h none p1 p2 p3 p4 p5 p6 p7 p8 =
-    put_behind (a ∷ b ∷ c ∷ d ∷ e ∷ f ∷ g ∷ []) h p8
+-- nine groups, put one behind the other into an empty list
+pub nine_put : {g0 g1 g2 g3 g4 g5 g6 g7 g8 g9 : List (List Item)} (a b c d e f g h i : List Item) → g0 ≡ [] → g1 ≡ g0 ++ a ∷ [] → g2 ≡ g1 ++ b ∷ []
+    → g3 ≡ g2 ++ c ∷ [] → g4 ≡ g3 ++ d ∷ [] → g5 ≡ g4 ++ e ∷ [] → g6 ≡ g5 ++ f ∷ [] → g7 ≡ g6 ++ g ∷ [] → g8 ≡ g7 ++ h ∷ [] → g9 ≡ g8 ++ i ∷ []
+    → g9 ≡ a ∷ b ∷ c ∷ d ∷ e ∷ f ∷ g ∷ h ∷ i ∷ []
+nine_put a b c d e f g h i none p1 p2 p3 p4 p5 p6 p7 p8 p9 =
+    put_behind (a ∷ b ∷ c ∷ d ∷ e ∷ f ∷ g ∷ h ∷ []) i p9
+    (put_behind (a ∷ b ∷ c ∷ d ∷ e ∷ f ∷ g ∷ []) h p8
     (put_behind (a ∷ b ∷ c ∷ d ∷ e ∷ f ∷ []) g p7
     (put_behind (a ∷ b ∷ c ∷ d ∷ e ∷ []) f p6
     (put_behind (a ∷ b ∷ c ∷ d ∷ []) e p5
     (put_behind (a ∷ b ∷ c ∷ []) d p4
     (put_behind (a ∷ b ∷ []) c p3
     (put_behind (a ∷ []) b p2
-    (put_behind [] a p1 none)))))))
+    (put_behind [] a p1 none))))))))
 
 -- these groups are those up to loading
 pub groups_made : (stem : List ℕ) (frame : Frame) (called : List Imported) (groups : List (List Item))
-    (lines foreign constants declares started defines ended lists : List Item) (start end : Item)
-    → groups ≡ lines ∷ foreign ∷ constants ∷ declares ∷ started ∷ defines ∷ ended ∷ lists ∷ [] → foreign ≡ foreign_lines 1 frame.modules
+    (lines foreign constants declares started defines ended closures lists : List Item) (start end : Item)
+    → groups ≡ lines ∷ foreign ∷ constants ∷ declares ∷ started ∷ defines ∷ ended ∷ closures ∷ lists ∷ [] → foreign ≡ foreign_lines 1 frame.modules
     → constants ≡ vendor_items called → started ≡ start ∷ [] → start ≡ frame_start stem frame.memory → ended ≡ end ∷ []
-    → end ≡ frame_end stem frame.modules frame.strings → groups ≡ front_groups stem frame lines (vendor_items called) declares defines lists
-groups_made stem frame called groups lines foreign constants declares started defines ended lists start end put taken held opened begins closed ends =
+    → end ≡ frame_end stem frame.modules frame.strings → groups ≡ front_groups stem frame lines (vendor_items called) declares defines closures lists
+groups_made stem frame called groups lines foreign constants declares started defines ended closures lists start end put taken held opened begins closed ends =
     put ∙ rw (taken, held, opened, begins, closed, ends) refl
 
 -- what is put together is what settings and description ask for
@@ -184,7 +186,7 @@ glue_made s m l pairs places called frame groups front items group last parts by
     let g : AreGroups s m l places drawn whole groups =
     subst (λ (f : Frame). AreGroups s m l places drawn f groups) framed (subst (λ (is : List Imported). AreGroups s m l places is frame groups) listed are) in
     let consts = vendor_items drawn in
-    let rest = front_items s.stem whole g.lines consts g.declares g.defines g.lists in
+    let rest = front_items s.stem whole g.lines consts g.declares g.defines g.closures g.lists in
     let all : front ≡ rest = joined ∙ ap joined_groups g.are in
     record {
       pairs = pairs;
@@ -198,6 +200,8 @@ glue_made s m l pairs places called frame groups front items group last parts by
       helpers = group;
       declared = g.declared;
       defined = g.defined;
+      closures = g.closures;
+      enclosed = g.enclosed;
       lists = g.lists;
       listed = g.listed;
       numbered = g.numbered;
@@ -227,17 +231,17 @@ module _ {s : Settings} {m : NameMap} {l : Lowered} {items : List Item} (g : IsG
 
   -- the items, with these helpers
   abbrev pub items_with : List Item → List Item
-  items_with helpers = all_items s.stem (has_start l.«module») (frame_of s l) g.lines constants declared_items g.defines g.lists helpers
+  items_with helpers = all_items s.stem (has_start l.«module») (frame_of s l) g.lines constants declared_items g.defines g.closures g.lists helpers
 
   abbrev pub front : List Item
-  front = front_items s.stem (frame_of s l) g.lines constants declared_items g.defines g.lists
+  front = front_items s.stem (frame_of s l) g.lines constants declared_items g.defines g.closures g.lists
 
   abbrev pub loading : Item
   loading = loading_item s.stem strings (has_start l.«module»)
 
   -- what stands behind lines and constants
   abbrev ends : List Item
-  ends = frame_end s.stem modules strings ∷ (g.lists ++ [])
+  ends = frame_end s.stem modules strings ∷ (g.closures ++ (g.lists ++ []))
 
   abbrev framed : List Item
   framed = frame_start s.stem memory ∷ (g.defines ++ ends)
@@ -259,20 +263,34 @@ module _ {s : Settings} {m : NameMap} {l : Lowered} {items : List Item} (g : IsG
       (in_right item g.lines (foreign_lines 1 modules ++ (constants ++ (declared_items ++ framed)))
       (in_right item (foreign_lines 1 modules) (constants ++ (declared_items ++ framed)) (in_left item constants (declared_items ++ framed) i)))
 
+  -- so does the function of a closure
+  pub closure_stands : (helpers : List Item) (item : Item) → IsIn item g.closures → IsIn item (items_with helpers)
+  closure_stands helpers item i =
+      in_left item front (helpers ++ loading ∷ [])
+      (in_right item g.lines (foreign_lines 1 modules ++ (constants ++ (declared_items ++ framed)))
+      (in_right item (foreign_lines 1 modules) (constants ++ (declared_items ++ framed))
+      (in_right item constants (declared_items ++ framed)
+      (in_right item declared_items framed
+      (inr (in_right item g.defines ends (inr (in_left item g.closures (g.lists ++ []) i))))))))
+
   -- each item has a fact that each kind of item has
   pub each_item : (P : Item → Type 0) (helpers : List Item) → AllItems P g.lines → AllItems P (foreign_lines 1 modules) → AllItems P constants
       → AllItems P declared_items
       → ((place : ℕ) (item : Item) → IsIn place (own_imports s l.«module» l.wit l.aux) → IsDefineItem s m l place item → P item)
-      → P (frame_start s.stem memory) → P (frame_end s.stem modules strings) → AllItems P g.lists → AllItems P helpers → P loading
+      → P (frame_start s.stem memory) → P (frame_end s.stem modules strings) → AllItems P g.closures → AllItems P g.lists → AllItems P helpers → P loading
       → AllItems P (items_with helpers)
-  each_item P helpers imported foreign consts declares b start end lists held loads =
+  each_item P helpers imported foreign consts declares b start end closures lists held loads =
       let defines = matched (IsDefineItem s m l) (λ ps. AllItems P) g.places g.defines g.defined tt
       (λ place item ps js k i x h. (b place item (arranged_from g.by_place place k) x, h)) in
       all_joined P front (helpers ++ loading ∷ [])
       (all_joined P g.lines (foreign_lines 1 modules ++ (constants ++ (declared_items ++ framed))) imported
       (all_joined P (foreign_lines 1 modules) (constants ++ (declared_items ++ framed)) foreign
       (all_joined P constants (declared_items ++ framed) consts
-      (all_joined P declared_items framed declares (start, all_joined P g.defines ends defines (end, all_joined P g.lists [] lists tt))))))
+      (all_joined P declared_items framed declares (
+        start,
+        all_joined P g.defines ends defines
+            (end, all_joined P g.closures (g.lists ++ []) closures (all_joined P g.lists [] lists tt)),
+      )))))
       (all_joined P helpers (loading ∷ []) held (loads, tt))
 
   -- what all items but helpers have, and helpers have too, all have
@@ -280,12 +298,12 @@ module _ {s : Settings} {m : NameMap} {l : Lowered} {items : List Item} (g : IsG
   with_held P helpers h held =
       let parts = all_parts P front (loading ∷ []) h in all_joined P front (helpers ++ loading ∷ []) parts.0 (all_joined P helpers (loading ∷ []) held parts.1)
 
-  -- what the items give is what lines, constants, published things, imports, lists, helpers and the fixed items do
+  -- what the items give is what lines, constants, published things, imports, functions of closures, lists, helpers and the fixed items do
   pub given : {B : Type 0} (give : Item → List B) (h : ℕ → List B) (helpers : List Item)
       → ((place : ℕ) (item : Item) → IsIn place (own_imports s l.«module» l.wit l.aux) → IsDefineItem s m l place item → give item ≡ h place)
       → flat_map give (items_with helpers) ≡ (flat_map give g.lines ++ (flat_map give (foreign_lines 1 modules) ++ (flat_map give constants ++
       (flat_map give declared_items ++ (give (frame_start s.stem memory) ++ (flat_map h g.places ++ (give (frame_end s.stem modules strings) ++
-      (flat_map give g.lists ++ [])))))))) ++
+      (flat_map give g.closures ++ (flat_map give g.lists ++ []))))))))) ++
       (flat_map give helpers ++ (give loading ++ []))
   given give h helpers b =
       let defines = matched (IsDefineItem s m l) (λ ps js. flat_map give js ≡ flat_map h ps) g.places g.defines g.defined refl
@@ -298,6 +316,7 @@ module _ {s : Settings} {m : NameMap} {l : Lowered} {items : List Item} (g : IsG
         flat_map-append give declared_items framed,
         flat_map-append give g.defines ends,
         defines,
+        flat_map-append give g.closures (g.lists ++ []),
         flat_map-append give g.lists [],
         flat_map-append give helpers (loading ∷ []),
       ) refl

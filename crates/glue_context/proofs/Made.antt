@@ -1,8 +1,8 @@
 -- What is made of a description that is checked: linked, defined and published.
-use Rattle.glue_context.proofs.Common.{◌≡◌, ℕ, ◌+◌, ◌<◌, ◌==◌, inl, inr, List, [], ◌∷◌, ◌++◌, map, length, Bool, true, false, true≢false, None, Some, refl, sym, ap, ◌∙◌, subst, arith, append-nil, codes, flat_map, flat_map_single, bytes_eq-Decides, list_any, list_all, IsPermutation-sym, IsIn, AreDistinct, AreAmong, AreApart, ImportId, Item, AuxImport, HOSTS, bound_in, bound_names, used_in, is_export_key, AllItems, Belongs, Context, Settings, NameMap, AreNames, Deno, Lowered, host_names, fixed_names, fixed_public, live_count, own_imports, is_one_of, described_hosts, names_of, js_import, foreign_lines, foreign_modules, frame_of, line_form, IsGlue, rewritten, IsLinked, IsDefined, defined_by, defined_places, IsPublished, published_pairs, published_by, fixed_published, fixed_by, EachItem, IsExported, IsPrescribed, export_names, FileFlags, unbuilt, verdict}
+use Rattle.glue_context.proofs.Common.{◌≡◌, ℕ, ◌+◌, ◌<◌, ◌==◌, inl, inr, List, [], ◌∷◌, ◌++◌, map, length, Bool, true, false, true≢false, None, Some, refl, sym, ap, ◌∙◌, subst, arith, append-nil, codes, flat_map, flat_map_single, bytes_eq-Decides, list_any, list_all, IsPermutation-sym, IsIn, AreDistinct, AreAmong, AreApart, distinct_both, ImportId, Item, AuxImport, HOSTS, bound_in, bound_names, used_in, is_export_key, AllItems, Belongs, Context, Settings, NameMap, AreNames, Deno, Lowered, host_names, fixed_names, fixed_public, live_count, own_imports, is_one_of, described_hosts, names_of, js_import, foreign_lines, foreign_modules, frame_of, line_form, IsGlue, IsClosureItem, callback_name, used_closures, rewritten, IsLinked, IsDefined, defined_by, defined_places, IsPublished, published_pairs, published_by, fixed_published, fixed_by, EachItem, IsExported, IsPrescribed, export_names, FileFlags, unbuilt, verdict}
 use Rattle.std.proofs.Common.{All, ◌⊎◌}
-use Rattle.std.specs.Prelude.{◌≤◌, ◌^◌, ◌&&◌, cond, Option}
-use Rattle.std.proofs.lemmas.{List.map-id, Bool.Decides.Decides-eqb, List.Sums.list_all-from_AllPass}
+use Rattle.std.specs.Prelude.{◌≤◌, ◌^◌, ◌&&◌, cond, not, Option}
+use Rattle.std.proofs.lemmas.{List.map-id, Bool.and_from, Bool.Decides.Decides-eqb, List.Sums.list_all-from_AllPass}
 use Rattle.values.proofs.Members.{in_left, in_right, in_either}
 use Rattle.glue_targets.specs.Published.{IsImportBound, IsNamed, fixed_of}
 use Rattle.glue_targets.specs.RoleWords.{role_words}
@@ -19,7 +19,7 @@ use Rattle.glue_words.specs.declared.word.Word.{Word}
 use Rattle.glue_words.specs.declared.item.Role.TheVariants as role
 use Rattle.glue_words.specs.Ident.{is_ident}
 use Rattle.glue_words.specs.Spacing.{is_wasm}
-use Rattle.glue_words.proofs.{Among.among_both, Among.among_by, Among.among_in, Among.among_itself, Among.among_left, Among.among_right, Among.among_trans, Among.apart_among, Among.apart_by, Among.apart_in, Among.apart_joined, Among.apart_swap, Fitting.linked_by_words, Fitting.belongs_by_facts, Fitting.declared_are}
+use Rattle.glue_words.proofs.{Among.among_both, Among.among_by, Among.among_in, Among.among_itself, Among.among_left, Among.among_right, Among.among_trans, Among.apart_among, Among.apart_both, Among.apart_by, Among.apart_in, Among.apart_joined, Among.apart_parts, Among.apart_swap, Fitting.linked_by_words, Fitting.belongs_by_facts, Fitting.declared_are}
 use Rattle.glue_lines.specs.Grouped.{Imported}
 use Rattle.glue_lines.specs.Lines.{foreign_line}
 use Rattle.glue_lines.specs.declared.form.LineForm.{LineForm}
@@ -39,10 +39,12 @@ use Rattle.glue_targets.proofs.FixedTexts as fixed
 use Rattle.glue_targets.proofs.FixedTexts.{start_binds}
 use Rattle.glue_targets.proofs.FrameEnd.{module_names, own_name, end_bound, end_fixed, end_fits, end_hosts}
 use Rattle.glue_published.specs.Reexports.{Reexport, is_outside}
-use Rattle.glue_names.specs.Given.{values_name}
+use Rattle.glue_names.specs.Given.{closure_names, values_name}
 use Rattle.glue_names.specs.Handed.{own_callees}
 use Rattle.glue_names.proofs.Globals.{described_host, from_flat, in_flat, more_hosts}
 use Rattle.glue_check.proofs.OwnPairs.{pair_kept}
+use Rattle.glue_check.proofs.Steps.{IsClosureOf}
+use Rattle.glue_context.specs.Defined.{HoldsClosure}
 use Rattle.glue_context.specs.DefinedItems.{takes_memory}
 use Rattle.glue_context.specs.Edits.{has_start}
 use Rattle.glue_context.specs.FrameIn.{frame_in}
@@ -58,7 +60,9 @@ use Rattle.glue_naming.proofs.CalledNames as called
 use Rattle.glue_names.proofs.MappedLists.{from_map, in_map}
 use Rattle.glue_context.specs.Parts.{helper_parts}
 use Rattle.glue_context.specs.Rewritten.{shim_global}
-use Rattle.glue_context.proofs.{Declared.AreDrawn, Declared.AreStanding, Declared.all_apart, Declared.all_distinct, Declared.all_found, Declared.all_names, Declared.constants_first, Declared.first_among, Declared.first_names, Declared.first_unlisted, Declared.frame_first, Declared.held_among, Declared.imports_first, Declared.lines_first, Declared.lists_first, Declared.loading_bound, Declared.loading_first, Declared.modules_few, Declared.modules_idents, Declared.names_first, Declared.own_fixed, Declared.own_framed, Declared.own_names, Declared.own_no_hosts}
+use Rattle.glue_context.proofs.{Declared.AreDrawn, Declared.AreStanding, Declared.all_apart, Declared.all_distinct, Declared.all_found, Declared.all_names, Declared.constants_first, Declared.first_among, Declared.first_names, Declared.first_unlisted, Declared.frame_first, Declared.given_first, Declared.held_among, Declared.imports_first, Declared.lines_first, Declared.loading_bound, Declared.loading_first, Declared.modules_few, Declared.modules_idents, Declared.names_first, Declared.own_fixed, Declared.own_framed, Declared.own_names, Declared.own_no_hosts}
+use Rattle.glue_context.proofs.ClosureFacts as closed
+use Rattle.glue_context.proofs.ClosureNames.{callback_listed, free_no_callbacks}
 use Rattle.glue_context.proofs.HeldNames.{asked_listed}
 use Rattle.glue_context.proofs.ImportBound.{import_bound_among}
 use Rattle.glue_context.proofs.ImportedFacts as imported
@@ -69,7 +73,7 @@ use Rattle.glue_context.proofs.Provided.{all_given, memory_stands, table_stands}
 use Rattle.glue_context.proofs.ExpressionFits.{IsBegunWell, IsWell}
 use Rattle.glue_context.proofs.ExpressionNames.{HasBegun, HasName}
 use Rattle.glue_context.proofs.HandedParts.{entry_there}
-use Rattle.glue_context.proofs.{Facts.Facts, Facts.built, Facts.own_pair, Fits.names_with, Fits.AreTaken, Fits.AreWell, Fits.HasBasis, DefinedFacts.define_belongs, DefinedFacts.define_binds, DefinedFacts.define_exported, DefinedFacts.define_holds, DefinedFacts.define_role, Lists.arranged_from, Lists.moved_from, Lists.distinct_moved, Lists.all_are, Lists.flat_none, Lists.all_applied, Lists.all_kept, Lists.constants, Lists.each_among, Lists.each_any, Lists.each_at, Lists.each_item, Lists.each_line, Lists.front, Lists.given, Lists.declared_stands, Lists.imported_stands, Lists.imports, Lists.items_with, Lists.loading, Lists.none_given, Lists.with_held, Edited.item_exported, Edited.last_exports, Edited.rewritten_exports, Edited.shim_export, Paths.written_count}
+use Rattle.glue_context.proofs.{Facts.Facts, Facts.built, Facts.own_pair, Fits.names_with, Fits.AreTaken, Fits.AreWell, Fits.HasBasis, DefinedFacts.define_belongs, DefinedFacts.define_binds, DefinedFacts.define_exported, DefinedFacts.define_holds, DefinedFacts.define_role, Lists.arranged_from, Lists.moved_from, Lists.distinct_moved, Lists.all_are, Lists.flat_none, Lists.all_applied, Lists.all_kept, Lists.constants, Lists.each_among, Lists.each_any, Lists.each_at, Lists.each_item, Lists.each_line, Lists.front, Lists.given, Lists.closure_stands, Lists.declared_stands, Lists.imported_stands, Lists.imports, Lists.items_with, Lists.loading, Lists.none_given, Lists.with_held, Edited.item_exported, Edited.last_exports, Edited.rewritten_exports, Edited.shim_export, Paths.written_count}
 
 -- the three facts of items that a built description asks for
 pub record IsSound (s : Settings) (m : NameMap) (l : Lowered) (items : List Item) : Type 0 where
@@ -195,12 +199,19 @@ module _ (s : Settings) (m : NameMap) (l : Lowered) (items : List Item) (b : Fac
   list_inner : (e : AuxStringEnum) → fixed_by (list_item e) ≡ []
   list_inner e = ap (λ (b : Bool). fixed_of role.Body b (list_item e).words) (texts_hold (values_name e) e.variants).inner
 
+  closures_so : (P : Item → Type 0) → ((id : ℕ) (item : Item) → IsIn id (used_closures s l) → IsClosureItem s m l id item → P item) → AllItems P g.closures
+  closures_so P give = closed.closures_each s m l g.closures g.enclosed P give
+
   -- they give nothing together where each import gives nothing
   lines_none : {B : Type 0} (give : Item → List B) → ((item : Item) → imported.IsImportItem item → give item ≡ []) → flat_map give g.lines ≡ []
   lines_none give none = none_given give g.lines (lines_so (λ item. give item ≡ []) none)
 
   lists_none : {B : Type 0} (give : Item → List B) → ((e : AuxStringEnum) → give (list_item e) ≡ []) → flat_map give g.lists ≡ []
   lists_none give none = none_given give g.lists (lists_so (λ item. give item ≡ []) none)
+
+  closures_none : {B : Type 0} (give : Item → List B) → ((id : ℕ) (item : Item) → IsIn id (used_closures s l) → IsClosureItem s m l id item → give item ≡ [])
+      → flat_map give g.closures ≡ []
+  closures_none give none = none_given give g.closures (closures_so (λ item. give item ≡ []) none)
 
   constants_none : {B : Type 0} (give : Item → List B) → ((item : Item) → imported.IsImportItem item → give item ≡ []) → flat_map give (constants g) ≡ []
   constants_none give none = none_given give (constants g) (constants_so (λ item. give item ≡ []) none)
@@ -266,8 +277,15 @@ module _ (s : Settings) (m : NameMap) (l : Lowered) (items : List Item) (b : Fac
   abbrev constant_names : List (List ℕ)
   constant_names = bound_names (constants g)
 
+  abbrev closures : List (List ℕ)
+  closures = bound_names g.closures
+
   abbrev lists : List (List ℕ)
   lists = bound_names g.lists
+
+  -- names that are given, and not drawn
+  abbrev given_names : List (List ℕ)
+  given_names = closures ++ lists
 
   abbrev held : List (List ℕ)
   held = flat_map (λ (item : Item). bound_in item.words) g.helpers
@@ -281,10 +299,10 @@ module _ (s : Settings) (m : NameMap) (l : Lowered) (items : List Item) (b : Fac
 
   -- what the file declares, and what its first items may use
   abbrev declared : List (List ℕ)
-  declared = all_names s l.«module» paths held memory few g.numbered parts standing listed imported_names constant_names names lists
+  declared = all_names s l.«module» paths held memory few g.numbered parts standing listed imported_names constant_names names given_names
 
   abbrev first : List (List ℕ)
-  first = first_names s l.«module» paths held memory few g.numbered parts standing listed imported_names constant_names names lists
+  first = first_names s l.«module» paths held memory few g.numbered parts standing listed imported_names constant_names names given_names
 
   abbrev own : List (List ℕ)
   own = own_names s l.«module» paths held memory few g.numbered parts standing listed
@@ -321,25 +339,47 @@ module _ (s : Settings) (m : NameMap) (l : Lowered) (items : List Item) (b : Fac
   from_lists : (xs : List (List ℕ)) → AreApart xs (map values_name l.aux.string_enums) → AreApart xs lists
   from_lists xs h = apart_swap lists xs (no_list xs (apart_swap xs (map values_name l.aux.string_enums) h))
 
-  are_drawn : AreDrawn s l.«module» paths held memory few g.numbered parts standing listed imported_names constant_names names lists
+  -- so are those of functions of closures from what the names of all such functions are apart from
+  no_closure : (ys : List (List ℕ)) → AreApart (closure_names l) ys → AreApart closures ys
+  no_closure ys h = apart_among closures (closure_names l) ys (closed.closures_among s m l g.closures g.enclosed) h
+
+  from_closures : (xs : List (List ℕ)) → AreApart xs (closure_names l) → AreApart xs closures
+  from_closures xs h = apart_swap closures xs (no_closure xs (apart_swap xs (closure_names l) h))
+
+  -- all given names
+  no_given : (ys : List (List ℕ)) → AreApart (closure_names l) ys → AreApart (map values_name l.aux.string_enums) ys → AreApart given_names ys
+  no_given ys h k = apart_both closures lists ys (no_closure ys h) (no_list ys k)
+
+  from_given : (xs : List (List ℕ)) → AreApart xs (closure_names l) → AreApart xs (map values_name l.aux.string_enums) → AreApart xs given_names
+  from_given xs h k = apart_joined xs closures lists (from_closures xs h) (from_lists xs k)
+
+  drawn_no_callbacks : AreApart drawn (closure_names l)
+  drawn_no_callbacks = free_no_callbacks s l drawn (called.listed_free s l m n g.pairs sub has)
+
+  given_no_fixed : AreApart given_names (fixed_names s l.«module»)
+  given_no_fixed = no_given (fixed_names s l.«module») b.callbacks.no_fixed b.lists.no_fixed
+
+  are_drawn : AreDrawn s l.«module» paths held memory few g.numbered parts standing listed imported_names constant_names names given_names
   are_drawn =
       let names_apart = published.tree_apart s m l b n g.declares g.declared drawn drawn_of in
       let fixed_apart = called.listed_no_fixed s l m n g.pairs sub has in
-      let values_apart = from_lists drawn (called.listed_no_values s l m n g.pairs sub has) in record {
+      let given_apart = from_given drawn drawn_no_callbacks (called.listed_no_values s l m n g.pairs sub has) in record {
         imports_once = imported.lines_distinct form (imports g) g.lines g.imported drawn_distinct;
         constants_once = imported.constants_distinct form (imports g) g.lines g.imported drawn_distinct;
         names_once = published.tree_distinct s m l b n g.declares g.declared;
-        lists_once = chosen.lists_distinct s l g.lists g.listed b.lists.once;
+        given_once = distinct_both closures lists (closed.closures_distinct s m l g.closures g.enclosed b.callbacks.of_one)
+            (chosen.lists_distinct s l g.lists g.listed b.lists.once) (no_closure lists (from_lists (closure_names l) b.callbacks.no_values));
         imports_constants = imported.lines_constants form (imports g) g.lines g.imported drawn_distinct;
         imports_names = lines_apart names names_apart;
         constants_names = constants_apart names names_apart;
-        imports_lists = lines_apart lists values_apart;
-        constants_lists = constants_apart lists values_apart;
-        names_lists = from_lists names (published.tree_no_values s m l b n g.declares g.declared);
+        imports_given = lines_apart given_names given_apart;
+        constants_given = constants_apart given_names given_apart;
+        names_given = from_given names (published.tree_no_callbacks s m l b n g.declares g.declared)
+            (published.tree_no_values s m l b n g.declares g.declared);
         imports_own = no_own imported_names (lines_apart (fixed_names s l.«module») fixed_apart);
         constants_own = no_own constant_names (constants_apart (fixed_names s l.«module») fixed_apart);
         names_own = no_own names (published.tree_no_fixed s m l b n g.declares g.declared);
-        lists_own = no_own lists (no_list (fixed_names s l.«module») b.lists.no_fixed);
+        given_own = no_own given_names given_no_fixed;
       }
 
   hosts_are : host_names s l.aux ≡ map (λ w. w.now) HOSTS ++ flat_map (described_hosts s.omit_imports) (described_names l.aux)
@@ -363,10 +403,11 @@ module _ (s : Settings) (m : NameMap) (l : Lowered) (items : List Item) (b : Fac
   outside =
       rw hosts_are (apart_joined own (map (λ w. w.now) HOSTS) _ (own_no_hosts s l.«module» paths held memory few g.numbered parts standing listed) (apart_swap _ own described_apart))
 
-  -- nor are those of lists
-  lists_no_host : AreApart lists (host_names s l.aux)
-  lists_no_host =
-      rw hosts_are (apart_joined lists (map (λ w. w.now) HOSTS) _ (no_list (map (λ w. w.now) HOSTS) b.lists.no_common) (no_list _ b.lists.no_described))
+  -- nor are given ones
+  given_no_host : AreApart given_names (host_names s l.aux)
+  given_no_host =
+      rw hosts_are (apart_joined given_names (map (λ w. w.now) HOSTS) _ (no_given (map (λ w. w.now) HOSTS) b.callbacks.no_common b.lists.no_common)
+      (no_given _ b.callbacks.no_described b.lists.no_described))
 
   -- a name of the host that each file has
   known : (ys : List (List ℕ)) → list_all (is_one_of (map (λ w. w.now) HOSTS)) ys ≡ true → AreAmong ys (host_names s l.aux)
@@ -375,27 +416,35 @@ module _ (s : Settings) (m : NameMap) (l : Lowered) (items : List Item) (b : Fac
   bound : bound_names all ≡ declared
   bound = declared_are all
       ∙ given g (λ item. bound_in item.words) (λ place. []) g.helpers (λ place item k d. define_binds s m l place item d)
-      ∙ rw (sym (declared_are g.lines), sym (declared_are (constants g)), sym (declared_are g.declares), sym (declared_are g.lists))
+      ∙ rw (
+        sym (declared_are g.lines),
+        sym (declared_are (constants g)),
+        sym (declared_are g.declares),
+        sym (declared_are g.closures),
+        sym (declared_are g.lists),
+      )
       (simp (flat_none, lines_bound, fixed.start_bound, end_bound, fixed.loading_bound, append-nil))
 
   -- ---- what functions use
 
-  -- no drawn name is `wasm`, which the file declares itself
-  no_wasm : (name : List ℕ) → IsIn name drawn → is_wasm name ≡ false
-  no_wasm name at = by (is_wasm name) refl
+  -- the file declares `wasm` itself
+  own_wasm : IsIn (codes "wasm") own
+  own_wasm = in_right (codes "wasm") (module_names 1 paths) (start_binds memory ++ (held ++ loading_bound))
+      (in_right (codes "wasm") (start_binds memory) (held ++ loading_bound) (in_right (codes "wasm") held loading_bound (inr (inr (inr (inl refl))))))
+
+  -- so no name that is no fixed one is `wasm`
+  not_wasm : (names : List (List ℕ)) → AreApart names (fixed_names s l.«module») → (name : List ℕ) → IsIn name names → is_wasm name ≡ false
+  not_wasm names no_fixed name at = by (is_wasm name) refl
     where
-      there : IsIn (codes "wasm") own
-      there = in_right (codes "wasm") (module_names 1 paths) (start_binds memory ++ (held ++ loading_bound))
-          (in_right (codes "wasm") (start_binds memory) (held ++ loading_bound) (in_right (codes "wasm") held loading_bound (inr (inr (inr (inl refl))))))
-
-      apart : AreApart own drawn
-      apart = apart_swap drawn own (no_own drawn (called.listed_no_fixed s l m n g.pairs sub has))
-
       by : (b : Bool) → is_wasm name ≡ b → b ≡ false
       by false q = refl
       by true q =
           let same = (bytes_eq-Decides (codes "wasm") name).0 q in
-          absurd (apart_in (codes "wasm") own drawn apart there (subst (λ (x : List ℕ). IsIn x drawn) (sym same) at))
+          absurd (apart_in (codes "wasm") own names (apart_swap names own (no_own names no_fixed)) own_wasm
+          (subst (λ (x : List ℕ). IsIn x names) (sym same) at))
+
+  no_wasm : (name : List ℕ) → IsIn name drawn → is_wasm name ≡ false
+  no_wasm = not_wasm drawn (called.listed_no_fixed s l m n g.pairs sub has)
 
   taken : AreTaken s l m
   taken = record { items = n.items; few = g.few }
@@ -411,8 +460,17 @@ module _ (s : Settings) (m : NameMap) (l : Lowered) (items : List Item) (b : Fac
   list_ident : (name : List ℕ) → IsIn name (chosen.list_names s l) → is_ident name ≡ true
   list_ident name i = b.lists.idents name (among_in name (chosen.list_names s l) (map values_name l.aux.string_enums) (chosen.names_among s l) i)
 
+  callback_ident : (id : ℕ) (name : List ℕ) → callback_name l id ≡ Some name → is_ident name ≡ true
+  callback_ident id name h = b.callbacks.idents name (callback_listed l id name h)
+
+  -- the name of the function of a closure that a function makes
+  closure_well : (function : List ℕ) → IsClosureOf s l function → (is_ident function && not (is_wasm function)) ≡ true
+  closure_well function c =
+      and_from (is_ident function) (not (is_wasm function)) (callback_ident c.adapter function c.named)
+      (ap not (not_wasm (closure_names l) b.callbacks.no_fixed function (callback_listed l c.adapter function c.named)))
+
   well : AreWell s l m
-  well = record { named = begun_well; lists = list_ident; taken = taken }
+  well = record { named = begun_well; closures = closure_well; lists = list_ident; taken = taken }
 
   -- what stands among the first names, or is provided
   there : (ys : List (List ℕ)) → AreAmong ys first → AreAmong ys (first ++ provided)
@@ -421,19 +479,25 @@ module _ (s : Settings) (m : NameMap) (l : Lowered) (items : List Item) (b : Fac
   drawn_first : (name : List ℕ) → IsIn name drawn → IsIn name (first ++ provided)
   drawn_first name at = elim (imported.one_declares form (imports g) g.lines g.imported s.omit_imports no_host name at) [
     | inl here ↦ among_in name imported_names (first ++ provided)
-        (there imported_names (imports_first s l.«module» paths held memory few g.numbered parts standing listed imported_names constant_names names lists)) here
+        (there imported_names (imports_first s l.«module» paths held memory few g.numbered parts standing listed imported_names constant_names names given_names)) here
     | inr here ↦ among_in name constant_names (first ++ provided)
-        (there constant_names (constants_first s l.«module» paths held memory few g.numbered parts standing listed imported_names constant_names names lists)) here
+        (there constant_names (constants_first s l.«module» paths held memory few g.numbered parts standing listed imported_names constant_names names given_names)) here
   ]
 
   loaded : AreAmong loading_bound first
-  loaded = loading_first s l.«module» paths held memory few g.numbered parts standing listed imported_names constant_names names lists
+  loaded = loading_first s l.«module» paths held memory few g.numbered parts standing listed imported_names constant_names names given_names
 
   framed : AreAmong (start_binds memory) first
-  framed = frame_first s l.«module» paths held memory few g.numbered parts standing listed imported_names constant_names names lists
+  framed = frame_first s l.«module» paths held memory few g.numbered parts standing listed imported_names constant_names names given_names
+
+  supplied_first : AreAmong given_names first
+  supplied_first = given_first s l.«module» paths held memory few g.numbered parts standing listed imported_names constant_names names given_names
+
+  closures_first : AreAmong closures first
+  closures_first = among_trans closures given_names first (among_left closures closures lists (among_itself closures)) supplied_first
 
   listed_first : AreAmong lists first
-  listed_first = lists_first s l.«module» paths held memory few g.numbered parts standing listed imported_names constant_names names lists
+  listed_first = among_trans lists given_names first (among_right lists closures lists (among_itself lists)) supplied_first
 
   begun : (id : ℕ) (w : AuxImport) → has_number id (own_callees s l) ≡ true → entry_of id l.aux.imports ≡ Some w → (name : JsImportName)
       → IsIn name (names_of (js_import w)) → HasName (names_with s l (first ++ provided)) m name
@@ -449,6 +513,8 @@ module _ (s : Settings) (m : NameMap) (l : Lowered) (items : List Item) (b : Fac
     memory = λ taken. among_in (codes "memory") (start_binds memory) (first ++ provided) (there (start_binds memory) framed)
         (subst (λ (b : Bool). IsIn (codes "memory") (start_binds b)) (sym taken) (inr (inl refl)));
     helpers = among_right provided first provided (among_itself provided);
+    closures = λ function c. among_in function closures (first ++ provided) (there closures closures_first)
+        (closed.closure_declared s m l g.closures g.enclosed function c);
     lists = among_trans (chosen.list_names s l) lists (first ++ provided)
         (among_by (chosen.list_names s l) lists (chosen.lists_declare_all s l g.lists g.listed)) (there lists listed_first);
     begun = begun;
@@ -505,7 +571,7 @@ module _ (s : Settings) (m : NameMap) (l : Lowered) (items : List Item) (b : Fac
   firsts : AllItems (λ item. Belongs (names_with s l (first ++ provided)) item.words) (items_with g [])
   firsts =
       let c = names_with s l (first ++ provided) in
-      let lined = lines_first s l.«module» paths held memory few g.numbered parts standing listed imported_names constant_names names lists in
+      let lined = lines_first s l.«module» paths held memory few g.numbered parts standing listed imported_names constant_names names given_names in
       let small : 1 + length paths < 2 ^ 64 = let h = g.numbered in omega (arith, h) in
       let own0 : module_names 0 (own_path s.stem ∷ paths) ≡ codes "import0" ∷ module_names 1 paths = ap (λ (n : List ℕ). n ∷ module_names 1 paths) own_name in
       each_item g (λ item. Belongs c item.words) []
@@ -513,11 +579,13 @@ module _ (s : Settings) (m : NameMap) (l : Lowered) (items : List Item) (b : Fac
       (each_line (λ item. Belongs c item.words) 1 paths (λ n path less. foreign_belongs Es n path c (omega (arith, less, small)) tt))
       (imported.constants_belong form (imports g) g.lines g.imported c drawn_idents (known (codes "undefined" ∷ []) refl).0 (import_hosts c refl))
       (published.items_belong s m l b n g.declares g.declared well c.declared basis
-      (there names (names_first s l.«module» paths held memory few g.numbered parts standing listed imported_names constant_names names lists)) reexport_first)
+      (there names (names_first s l.«module» paths held memory few g.numbered parts standing listed imported_names constant_names names given_names)) reexport_first)
       (λ place item k x. define_belongs s m l well c.declared basis b.pair_steps place k (b.defined place k) item x)
       (belongs_by_facts c _ (fixed.start_fits c s.stem memory))
       (belongs_by_facts c _ (end_fits s.stem paths strings c (modules_idents 0 (own_path s.stem ∷ paths) (omega (arith, small)))
       (subst (λ (ns : List (List ℕ)). AreAmong ns c.declared) (sym own0) (first_module, there (module_names 1 paths) lined)) (proxy_known strings)))
+      (closures_so (λ item. Belongs c item.words) (λ id item k d.
+      closed.closure_belongs s m l id item d well (callback_ident id d.name d.named) (b.closure_steps id k) c.declared basis))
       (chosen.lists_belong s l g.lists g.listed c list_ident)
       tt
       (belongs_by_facts c _ (fixed.loading_fits c s.stem strings starts
@@ -537,9 +605,9 @@ module _ (s : Settings) (m : NameMap) (l : Lowered) (items : List Item) (b : Fac
       let fixed_apart = called.listed_no_fixed s l m n g.pairs sub has in
       elim (in_either name first provided (among_in name (used_in item.words) (first ++ provided) belongs.resolved.bound k)) [
         | inl here ↦ inl (unlisted_unbound parts name
-            (first_unlisted s l.«module» paths held memory few g.numbered parts standing listed imported_names constant_names names lists
+            (first_unlisted s l.«module» paths held memory few g.numbered parts standing listed imported_names constant_names names given_names
             (lines_apart (fixed_names s l.«module») fixed_apart) (constants_apart (fixed_names s l.«module») fixed_apart)
-            (published.tree_no_fixed s m l b n g.declares g.declared) (no_list (fixed_names s l.«module») b.lists.no_fixed) name here))
+            (published.tree_no_fixed s m l b n g.declares g.declared) given_no_fixed name here))
         | inr free ↦ inr (in_provided parts name free)
       ]
 
@@ -559,7 +627,7 @@ module _ (s : Settings) (m : NameMap) (l : Lowered) (items : List Item) (b : Fac
       subst (λ (ns : List (List ℕ)). AreAmong ns declared) (sym (fixed.loading_used s.stem strings starts))
       (among_trans (fixed.loading_uses starts) bound declared (loading_within memory starts)
       (among_trans bound first declared (among_both (start_binds memory) loading_bound first framed loaded)
-      (first_among s l.«module» paths held memory few g.numbered parts standing listed imported_names constant_names names lists)))
+      (first_among s l.«module» paths held memory few g.numbered parts standing listed imported_names constant_names names given_names)))
 
   -- a name that such an item uses is declared: where it is a helper's, that one is held
   first_declared : (item : Item) → IsIn item (items_with g []) → AreAmong (used_in item.words) (first ++ provided) → AreAmong (used_in item.words) declared
@@ -567,9 +635,9 @@ module _ (s : Settings) (m : NameMap) (l : Lowered) (items : List Item) (b : Fac
     | inl ahead ↦ among_by (used_in item.words) declared (λ name k.
         elim (in_either name first provided (among_in name (used_in item.words) (first ++ provided) used k)) [
           | inl here ↦ among_in name first declared
-              (first_among s l.«module» paths held memory few g.numbered parts standing listed imported_names constant_names names lists) here
+              (first_among s l.«module» paths held memory few g.numbered parts standing listed imported_names constant_names names given_names) here
           | inr free ↦ among_in name held declared
-              (held_among s l.«module» paths held memory few g.numbered parts standing listed imported_names constant_names names lists)
+              (held_among s l.«module» paths held memory few g.numbered parts standing listed imported_names constant_names names given_names)
               (provided_declared parts (front g) g.helpers g.asked item name ahead k (in_provided parts name free))
         ])
     | inr (inl same) ↦ subst (λ (i : Item). AreAmong (used_in i.words) declared) (sym same) loading_declared
@@ -583,8 +651,8 @@ module _ (s : Settings) (m : NameMap) (l : Lowered) (items : List Item) (b : Fac
       (all_kept (λ item. Belongs (names_with s l (first ++ provided)) item.words) (λ item. Belongs c item.words) (items_with g [])
       (λ item at h. belongs_among (names_with s l (first ++ provided)) declared item.words h (first_declared item at h.resolved.bound)) firsts)
       (supplied_belong parts needed g.helpers g.asked roots c (among_in (codes "wasm") loading_bound declared
-      (among_trans loading_bound first declared loaded (first_among s l.«module» paths held memory few g.numbered parts standing listed imported_names constant_names names lists))
-      (inr (inr (inr (inl refl))))) (held_among s l.«module» paths held memory few g.numbered parts standing listed imported_names constant_names names lists)
+      (among_trans loading_bound first declared loaded (first_among s l.«module» paths held memory few g.numbered parts standing listed imported_names constant_names names given_names))
+      (inr (inr (inr (inl refl))))) (held_among s l.«module» paths held memory few g.numbered parts standing listed imported_names constant_names names given_names)
       (known helper_hosts refl)
       (among_by (given_exports parts) c.exports (λ name at.
       in_left name (names_with_added s l) (last_exports s l) (all_given s l m n.items g.few name at))))
@@ -599,9 +667,9 @@ module _ (s : Settings) (m : NameMap) (l : Lowered) (items : List Item) (b : Fac
       let d = supplied_distinct parts needed g.helpers g.asked roots in
       let hosts_apart = called.listed_no_host s l m n g.pairs sub has in
       let k = linked_by_words c all (sym bound) belong
-      (rw bound (all_distinct s l.«module» paths held memory few g.numbered parts standing listed imported_names constant_names names lists d are_drawn))
-      (rw bound (all_apart s l.«module» paths held memory few g.numbered parts standing listed imported_names constant_names names lists c.hosts (lines_apart c.hosts hosts_apart)
-      (constants_apart c.hosts hosts_apart) (published.tree_no_host s m l b n g.declares g.declared) lists_no_host outside)) in
+      (rw bound (all_distinct s l.«module» paths held memory few g.numbered parts standing listed imported_names constant_names names given_names d are_drawn))
+      (rw bound (all_apart s l.«module» paths held memory few g.numbered parts standing listed imported_names constant_names names given_names c.hosts (lines_apart c.hosts hosts_apart)
+      (constants_apart c.hosts hosts_apart) (published.tree_no_host s m l b n g.declares g.declared) given_no_host outside)) in
       let exported : EachItem (IsExported (export_names (rewritten s l))) [] all = rw (rewritten_exports s l) at k.exported in
       let asked : List Item → Item → List Item → Type 0 = IsPrescribed s starts (frame_of s l) in
       let each = each_item g (λ item. (before after : List Item) → before ++ item ∷ after ≡ all → asked before item after) g.helpers
@@ -612,12 +680,39 @@ module _ (s : Settings) (m : NameMap) (l : Lowered) (items : List Item) (b : Fac
       (published.tree_prescribed s m l b n g.declares g.declared well all (declared_stands g g.helpers) starts (frame_of s l)))
       (λ place item k x before after e. rw (define_role s m l place item x) tt)
       (λ before after e. (frame_told s.target s.stem (frame_of s l) b.deno).0) (λ before after e. (frame_told s.target s.stem (frame_of s l) b.deno).1)
-      (lists_so _ (λ x before after e. tt)) (held_so _ (λ entry before after e. tt)) (λ before after e. rw b.deno (inl refl)) in
+      (closures_so _ (λ id item k d before after e. rw d.is tt)) (lists_so _ (λ x before after e. tt)) (held_so _ (λ entry before after e. tt))
+      (λ before after e. rw b.deno (inl refl)) in
       let prescribed : EachItem asked [] all = each_among asked all [] all refl (λ before item after k e.
       each_at (λ item. (before after : List Item) → before ++ item ∷ after ≡ all → asked before item after) item all each k before after e) in
       let framed : EachItem (IsPrescribed s starts (frame_in s.stem (rewritten s l))) [] all =
       subst (λ (frame : Frame). EachItem (IsPrescribed s starts frame) [] all) b.framed prescribed in
       assumption (k, exported, framed)
+
+  -- ---- functions of closures
+
+  -- no item but those of closures that are made declares the name of a closure's function
+  closures_hold : AllItems (HoldsClosure s m l) all
+  closures_hold =
+      let others = closed.others_hold s m l in
+      let other = closed.other_holds s m l in
+      let by_names = λ (items : List Item) (h : AreApart (bound_names items) (closure_names l)).
+      others items (subst (λ (ns : List (List ℕ)). AreApart ns (closure_names l)) (declared_are items) h) in
+      let own_apart = apart_swap (closure_names l) own (no_own (closure_names l) b.callbacks.no_fixed) in
+      let lined = apart_parts (module_names 1 paths) (start_binds memory ++ (held ++ loading_bound)) (closure_names l) own_apart in
+      let started = apart_parts (start_binds memory) (held ++ loading_bound) (closure_names l) lined.1 in
+      let behind = apart_parts held loading_bound (closure_names l) started.1 in
+      each_item g (HoldsClosure s m l) g.helpers
+      (by_names g.lines (lines_apart (closure_names l) drawn_no_callbacks))
+      (others (foreign_lines 1 paths) (subst (λ (ns : List (List ℕ)). AreApart ns (closure_names l)) (sym (lines_bound 1 paths)) lined.0))
+      (by_names (constants g) (constants_apart (closure_names l) drawn_no_callbacks))
+      (by_names g.declares (published.tree_no_callbacks s m l b n g.declares g.declared))
+      (λ place item k x. other item (rw (define_binds s m l place item x) tt))
+      (other (frame_start s.stem memory) (rw (fixed.start_bound s.stem memory) started.0))
+      (other (frame_end s.stem paths strings) (rw (end_bound s.stem paths strings) tt))
+      (closures_so _ (λ id item k d. closed.closure_holds s m l id item d b.callbacks.of_one k))
+      (by_names g.lists (no_list (closure_names l) (apart_swap (closure_names l) (map values_name l.aux.string_enums) b.callbacks.no_values)))
+      (others g.helpers behind.0)
+      (other (loading g) (rw (fixed.loading_bound s.stem strings starts) behind.1))
 
   defined : IsDefined s m l (rewritten s l) all
   defined =
@@ -628,6 +723,7 @@ module _ (s : Settings) (m : NameMap) (l : Lowered) (items : List Item) (b : Fac
         none_given (λ item. defined_by item.role) (foreign_lines 1 paths) (each_line _ 1 paths (λ n path less. refl)),
         constants_none (λ item. defined_by item.role) imported.import_defined,
         none_given (λ item. defined_by item.role) g.declares (published.tree_defines s m l b n g.declares g.declared),
+        closures_none (λ item. defined_by item.role) (λ id item k d. rw d.is refl),
         lists_none (λ item. defined_by item.role) (λ e. refl),
         none_given (λ item. defined_by item.role) g.helpers (held_so _ (λ entry. refl)),
       ) (simp (flat_map_single, map-id, append-nil)) in
@@ -642,7 +738,11 @@ module _ (s : Settings) (m : NameMap) (l : Lowered) (items : List Item) (b : Fac
             (constants_so _ (λ item h before after. imported.import_function item h s m l (rewritten s l)))
             (all_kept _ _ g.declares (λ item i h before after. h) (published.tree_functions s m l b n g.declares g.declared))
             (λ place item h x before after. define_holds s m l place item h (b.defined place h) x)
-            (λ before after. tt) (λ before after. tt) (lists_so _ (λ e before after. tt)) (held_so _ (λ entry before after. tt)) (λ before after. tt));
+            (λ before after. tt) (λ before after. tt) (closures_so _ (λ id item k d before after. rw d.is tt)) (lists_so _ (λ e before after. tt))
+            (held_so _ (λ entry before after. tt)) (λ before after. tt));
+        closures = λ id k.
+            let r = closed.closure_there s m l g.closures g.enclosed id k in (r.0, closure_stands g g.helpers r.0 r.1, r.2);
+        callbacks = each_any _ [] all (all_kept (HoldsClosure s m l) _ all (λ item i h before after. h) closures_hold);
         given = item_exported s l m n.items;
       }
 
@@ -656,7 +756,8 @@ module _ (s : Settings) (m : NameMap) (l : Lowered) (items : List Item) (b : Fac
       (each_line _ 1 paths (λ n path less. tt))
       (constants_so _ (λ item h. imported.import_named item h s l.aux all))
       (published.items_named s m l b n g.declares g.declared well all (declared_stands g g.helpers) reexport_bound)
-      (λ place item k x. rw (define_role s m l place item x) tt) tt tt (lists_so _ (λ e. tt)) (held_so _ (λ entry. tt)) tt
+      (λ place item k x. rw (define_role s m l place item x) tt) tt tt (closures_so _ (λ id item k d. rw d.is tt)) (lists_so _ (λ e. tt))
+      (held_so _ (λ entry. tt)) tt
 
   -- the glue file publishes no fixed name
   none_fixed : fixed_public s l.«module» l.wit l.aux ≡ []
@@ -671,6 +772,7 @@ module _ (s : Settings) (m : NameMap) (l : Lowered) (items : List Item) (b : Fac
         lines_none published_by imported.import_published,
         none_given published_by (foreign_lines 1 paths) (each_line _ 1 paths (λ n path less. refl)),
         constants_none published_by imported.import_published,
+        closures_none published_by (λ id item k d. rw d.is refl),
         lists_none published_by (λ e. refl),
         none_given published_by g.helpers (held_so _ (λ entry. refl)),
       ) (simp (flat_none, append-nil)) in
@@ -681,6 +783,7 @@ module _ (s : Settings) (m : NameMap) (l : Lowered) (items : List Item) (b : Fac
         none_given fixed_by (foreign_lines 1 paths) (lines_inner 1 paths),
         constants_none fixed_by imported.import_fixed,
         none_given fixed_by g.declares (published.tree_fixed s m l b n g.declares g.declared),
+        closures_none fixed_by (λ id item k d. closed.closure_inner s m l id item d well (callback_ident id d.name d.named) (b.closure_steps id k)),
         lists_none fixed_by list_inner,
         none_given fixed_by g.helpers held_fixed,
       ) (simp (flat_none, fixed.start_fixed, end_fixed, fixed.loading_fixed)) in

@@ -15,7 +15,7 @@ use Rattle.glue_shared.specs.declared.import.JsImportName.{JsImportName}
 use Rattle.glue_shared.specs.declared.import.JsImportName.TheVariants as names
 use Rattle.glue_shared.specs.Names.{code_of, entry_of, handed_name, has_number, implemented, is_direct, is_from_module, is_handed_on, is_implemented, is_own, is_whole, js_import, names_of, own_place, own_places}
 use Rattle.glue_lines.specs.Grouped.{source_of}
-use Rattle.glue_names.specs.Modules.{called_place, calls_from, claim_of, comes_from, glue_module, is_from, module_of}
+use Rattle.claimed_modules.specs.Modules.{called_place, calls_from, claim_of, comes_from, glue_module, is_from, module_of}
 use Rattle.glue_names.proofs.Globals.{from_flat, in_flat}
 use Rattle.glue_check.proofs.OwnPairs.{number_there, own_defined}
 use Rattle.glue_check.proofs.Passed.{foreign_apart}

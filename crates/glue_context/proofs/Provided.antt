@@ -20,13 +20,17 @@ use Rattle.glue_shared.specs.declared.adapter.VectorKind.TheVariants as vectors
 use Rattle.glue_shared.specs.Roots.{instruction_items, is_entry, is_live_item, live_item, listed}
 use Rattle.glue_steps.specs.declared.needed.ReferencePart.{ReferencePart}
 use Rattle.glue_steps.specs.declared.needed.ReferencePart.TheVariants as part
-use Rattle.glue_steps.specs.Needed.{goes_by, named_by, needed_items, part_item, part_named, part_taken, parts_taken}
+use Rattle.glue_steps.specs.Needed.{destroyer, destroyer_item, destroyer_taken, goes_by, makes_closure, named_by, needed_items, part_item, part_named, part_taken, parts_taken}
 use Rattle.glue_steps.specs.Resolving.{handle_helper, helper_of, item_order, or_empty}
 use Rattle.taken_items.specs.ItemNames.{item_map, item_names}
 use Rattle.taken_items.proofs.ItemNames.{given_listed, item_named, name_given, names_with_added, needed_asked}
 use Rattle.glue_check.proofs.Steps.{IsHelperOf, IsNamedFunction, IsPrinted}
+use Rattle.glue_helpers.specs.declared.closures.ClosureHelper.{ClosureHelper}
+use Rattle.glue_helpers.specs.declared.closures.ClosureHelper.TheVariants as closure
 use Rattle.glue_helpers.specs.declared.element.ElementKind.TheVariants as element
 use Rattle.glue_helpers.specs.declared.element.Width.TheVariants as width
+use Rattle.glue_helpers.specs.Closures.{closure_item}
+use Rattle.glue_helpers.proofs.ClosureTexts.{closure_holds}
 use Rattle.helper_table.specs.Laws.{any_in}
 use Rattle.helper_table.specs.declared.parts.HelperParts.{HelperParts}
 use Rattle.helper_table.specs.declared.parts.TableExport.{TableExport}
@@ -34,18 +38,20 @@ use Rattle.helper_table.specs.declared.kinds.MemoryHelper.{MemoryHelper}
 use Rattle.helper_table.specs.declared.kinds.MemoryHelper.TheVariants as memory
 use Rattle.helper_table.specs.declared.kinds.Family.TheVariants as family
 use Rattle.helper_table.specs.declared.kinds.TableHelper.TheVariants as table
-use Rattle.helper_table.specs.declared.kinds.TheConstants.{FAMILY_BINDS}
-use Rattle.helper_table.specs.Made.{added, family_at, is_there, memory_item, taken, values_got, values_passed}
+use Rattle.helper_table.specs.declared.kinds.Single.TheVariants as single
+use Rattle.helper_table.specs.declared.kinds.TheConstants.{FAMILY_BINDS, SINGLES}
+use Rattle.helper_table.specs.Made.{added, closure_made, family_at, is_there, memory_item, single_at, taken, values_got, values_passed}
 use Rattle.helper_table.specs.Names.{family_name, family_owner}
 use Rattle.helper_table.proofs.HeldItems.{none_some, some_is}
 use Rattle.helper_table.specs.Names as table_names
 use Rattle.helper_table.specs.Names.{single_names}
 use Rattle.helper_table.proofs.Held.{base_names}
 use Rattle.helper_table.proofs.ListedNames.{IsListed, unlisted_not}
-use Rattle.helper_table.proofs.Supplies.{IsProvided, base_provided, can_add, family_ready, given_exports, is_adding, option_names, table_exports}
+use Rattle.helper_table.proofs.Supplies.{IsProvided, base_provided, can_add, family_ready, given_exports, is_adding, option_names, single_provides, table_exports}
 use Rattle.helper_table.proofs.SuppliedNames.{memory_provided, memory_stems, table_provided, table_stems}
 use Rattle.glue_helpers.proofs.Numbered.{numbered_name}
 use Rattle.glue_words.specs.Ident.{is_ident}
+use Rattle.glue_words.specs.Names.{bound_in}
 use Rattle.glue_words.specs.Spacing.{is_wasm}
 use Rattle.glue_words.proofs.Idents.{ascii_ident, is_ascii_ident}
 use Rattle.std.specs.Str.{chars, is_utf8}
@@ -178,12 +184,20 @@ module _ (s : Settings) (l : Lowered) (m : NameMap) (known : m.wasm ≡ item_map
       let n = item_named s l item (needed_asked s l i item printed.among at) in
       (n.0, (ap (λ (es : List (ExportItem × List ℕ)). look_up item_order es item) known ∙ n.1.0, given_listed s l item n.0 n.1.1))
 
+  -- the parts of a table of references that an instruction goes by
+  abbrev parts_beside : Instruction → List ExportItem
+  parts_beside i = cond s.externref (parts_taken l.aux i) []
+
+  -- and what it takes beside what its ids name
+  abbrev taken_beside : Instruction → List ExportItem
+  taken_beside i = parts_beside i ++ destroyer_taken l.aux i
+
   -- so has each that its ids name
   named_needed : (i : Instruction) (item : ExportItem) → IsPrinted s l i → IsIn item (instruction_items i) → IsIn item (needed_items s l i)
   named_needed i item printed at =
       kept_by (is_live_item l.«module») (named_by s.externref l.aux i) item
       (each_passes (is_live_item l.«module») (instruction_items i) item printed.live at)
-      (in_left item (instruction_items i) (cond s.externref (parts_taken l.aux i) []) at)
+      (in_left item (instruction_items i) (taken_beside i) at)
 
   -- and each part that it goes by
   part_needed : (i : Instruction) (p : ReferencePart) (item : ExportItem) → s.externref ≡ true → goes_by i p ≡ true → part_item l p ≡ Some item
@@ -191,7 +205,7 @@ module _ (s : Settings) (l : Lowered) (m : NameMap) (known : m.wasm ≡ item_map
   part_needed i p item on goes e =
       let live = live_is l.«module» (part_named l.aux p) item e in
       kept_by (is_live_item l.«module») (named_by s.externref l.aux i) item live.1
-      (in_right item (instruction_items i) (cond s.externref (parts_taken l.aux i) []) (rw on (by p (here p goes live.0))))
+      (in_right item (instruction_items i) (taken_beside i) (in_left item (parts_beside i) (destroyer_taken l.aux i) (rw on (by p (here p goes live.0)))))
     where
       here : (p : ReferencePart) → goes_by i p ≡ true → part_named l.aux p ≡ Some item → IsIn item (part_taken l.aux i p)
       here p goes named = rw goes (listed_in (part_named l.aux p) item named)
@@ -212,6 +226,14 @@ module _ (s : Settings) (l : Lowered) (m : NameMap) (known : m.wasm ≡ item_map
           in_right item (taken_by part.Alloc) (taken_by part.Drop ++ (taken_by part.DropSlice ++ taken_by part.Table))
           (in_right item (taken_by part.Drop) (taken_by part.DropSlice ++ taken_by part.Table)
           (in_right item (taken_by part.DropSlice) (taken_by part.Table) at))
+
+  -- and the function that destroys closures, where it makes one
+  destroyer_needed : (i : Instruction) (item : ExportItem) → makes_closure i ≡ true → destroyer_item l ≡ Some item → IsIn item (needed_items s l i)
+  destroyer_needed i item makes e =
+      let live = live_is l.«module» (destroyer l.aux) item e in
+      kept_by (is_live_item l.«module») (named_by s.externref l.aux i) item live.1
+      (in_right item (instruction_items i) (taken_beside i)
+      (in_right item (parts_beside i) (destroyer_taken l.aux i) (rw makes (listed_in (destroyer l.aux) item live.0))))
 
   -- the export of a function that an instruction names
   pub function_known : (name : List ℕ) → IsNamedFunction s l m name → IsIn name (names_with_added s l)
@@ -246,6 +268,13 @@ module _ (s : Settings) (l : Lowered) (m : NameMap) (known : m.wasm ≡ item_map
   part_export i p printed on goes =
       let g = part_given i p printed on goes in
       (g.1.1.0, ap (λ (b : Bool). export_at m (cond b (part_item l p) None)) on ∙ ap (export_at m) g.1.0 ∙ g.1.1.1)
+
+  -- the function that destroys closures is given, where an instruction makes one
+  destroyer_given : (i : Instruction) → IsPrinted s l i → makes_closure i ≡ true → (destroy : List ℕ) × (parts.destroy_closure ≡ Some destroy)
+  destroyer_given i printed makes =
+      let there = some_of (destroyer_item l) (printed.complete.destroys makes) in
+      let n = item_known i there.0 printed (destroyer_needed i there.0 makes there.1) in
+      (n.0, ap (export_at m) there.1 ∙ n.1.0)
 
   -- the table is given with its place
   abbrev IsTable : TableId → TableExport → Type 0
@@ -325,6 +354,17 @@ module _ (s : Settings) (l : Lowered) (m : NameMap) (known : m.wasm ≡ item_map
       by : (b : Bool) → s.externref ≡ b → is_there (values_passed b parts.table n) ≡ true
       by false q = refl
       by true q = let t = table_given i printed q goes in ap (λ (o : Option TableExport). is_there (values_passed true o n)) t.1.1.1.1
+
+  -- ---- helpers of closures
+
+  -- one that makes closures, by its number
+  by_destroyer : (n : ℕ) (h : ClosureHelper) (name : List ℕ) (i : Instruction) → IsPrinted s l i → makes_closure i ≡ true → n < SINGLES
+      → single_at n ≡ single.Closure h → ((destroy : List ℕ) → IsIn name (bound_in (closure_item h destroy).words)) → (helper : List ℕ)
+      → Some name ≡ Some helper → IsProvided parts helper
+  by_destroyer n h name i printed makes lt is binds helper e =
+      let g = destroyer_given i printed makes in
+      subst (IsProvided parts) (some_is name helper e)
+      (single_provides parts n (single.Closure h) (closure_item h g.0) name lt is (ap (closure_made h) g.1) refl (binds g.0))
 
   -- ---- helpers of memories
 
@@ -413,6 +453,14 @@ module _ (s : Settings) (l : Lowered) (m : NameMap) (known : m.wasm ≡ item_map
       let i = instr.VecToWasm vectors.Value malloc id in
       by_memory 24 memory.PassValues i id printed (inr (inl refl)) (omega arith) refl (λ export. passed_there i id.0 printed refl)
       (adding i printed refl refl) helper e
+  provides (instr.Closure id true) printed helper e =
+      by_destroyer 23 closure.MakeMutClosure (codes "makeMutClosure") (instr.Closure id true) printed refl (omega arith) refl
+      (λ destroy. subst (λ (ns : List (List ℕ)). IsIn (codes "makeMutClosure") ns) (sym (closure_holds destroy closure.MakeMutClosure).binds) (inl refl))
+      helper e
+  provides (instr.Closure id false) printed helper e =
+      by_destroyer 22 closure.MakeClosure (codes "makeClosure") (instr.Closure id false) printed refl (omega arith) refl
+      (λ destroy. subst (λ (ns : List (List ℕ)). IsIn (codes "makeClosure") ns) (sym (closure_holds destroy closure.MakeClosure).binds) (inl refl))
+      helper e
   provides other printed helper e = absurd (none_some helper e)
 
   -- it is provided
@@ -493,10 +541,10 @@ module _ (s : Settings) (l : Lowered) (m : NameMap) (known : m.wasm ≡ item_map
   -- all exports that are given are such ones
   pub all_given : (name : List ℕ) → IsIn name (given_exports parts) → IsIn name (names_with_added s l)
   all_given name at =
-      elim (in_either name (flat_map option_names parts.memories) (table_exports parts parts.table ++ []) at) [
+      elim (in_either name (flat_map option_names parts.memories) (table_exports parts parts.table ++ option_names parts.destroy_closure) at) [
         | inl memories ↦ memories_known 0 l.«module».memories name memories
-        | inr rest ↦ elim (in_either name (table_exports parts parts.table) [] rest) [
+        | inr rest ↦ elim (in_either name (table_exports parts parts.table) (option_names parts.destroy_closure) rest) [
           | inl table ↦ table_known (reference_item s l part.Table) name table
-          | inr none ↦ absurd none
+          | inr destroys ↦ given_known (destroyer_item l) name destroys
         ]
       ]

@@ -42,7 +42,7 @@ use Rattle.glue_context.specs.Linked.{IsOneOf}
 use Rattle.glue_context.proofs.Declared.{all_found, among_is}
 use Rattle.glue_context.proofs.Facts.{Facts}
 use Rattle.glue_context.proofs.Fits.{AreWell, HasBasis, declared, declared_belongs, declared_exported, function_declared, names_with}
-pub use Rattle.glue_context.proofs.TreeNames.{tree_apart, tree_distinct, tree_no_fixed, tree_no_host, tree_no_values}
+pub use Rattle.glue_context.proofs.TreeNames.{tree_apart, tree_distinct, tree_no_callbacks, tree_no_fixed, tree_no_host, tree_no_values}
 use Rattle.glue_context.proofs.TreeNames.{IsFrom, OfFunction, OfEnum, OfReexport, entry_bound, entry_of_function, enum_ident, function_ident, function_items, function_there, is_tree, root_bound, tree_from, tree_ident}
 
 -- ---- names that each file has

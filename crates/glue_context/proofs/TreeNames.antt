@@ -24,7 +24,7 @@ use Rattle.glue_exports.proofs.Sorted.{first_behind, rest_ordered}
 use Rattle.glue_public.specs.Described.{FunctionItems, described, entry_of, enum_name, function_definition, lone_functions}
 pub use Rattle.glue_public.proofs.TreeFacts.{OfFunction, OfEnum, OfReexport}
 use Rattle.glue_public.proofs.TreeFacts.{HasItems, IsOf, each_zip, entry_is, function_in, namespace_root, pairs, qualified_of, same_qualified, tree_is}
-use Rattle.glue_names.specs.Given.{values_name}
+use Rattle.glue_names.specs.Given.{closure_names, values_name}
 use Rattle.glue_names.specs.Publishing.{qualified}
 use Rattle.glue_naming.specs.declared.named.Named.{Named}
 use Rattle.glue_naming.specs.declared.named.Named.TheVariants.{Enum, Function, Import, Namespace}
@@ -36,6 +36,7 @@ use Rattle.glue_naming.proofs.EnumNames.{enum_named}
 use Rattle.glue_naming.proofs.Functions.{all_named, name_given}
 use Rattle.glue_naming.proofs.Namespaces.{root_named}
 use Rattle.glue_naming.proofs.Reserved.{free_no_fixed, free_no_host, free_no_values}
+use Rattle.glue_context.proofs.ClosureNames.{free_no_callbacks}
 use Rattle.glue_context.proofs.Facts.{Facts}
 use Rattle.glue_context.proofs.Fits.{declared, declared_binds}
 
@@ -292,6 +293,9 @@ module _ (s : Settings) (m : NameMap) (l : Lowered) (b : Facts s l) (n : AreName
 
     pub tree_no_values : AreApart (bound_names declares) (map values_name l.aux.string_enums)
     tree_no_values = free_no_values s l (bound_names declares) (λ name i. let g = bound_given name i in n.good.free g.thing name g.given)
+
+    pub tree_no_callbacks : AreApart (bound_names declares) (closure_names l)
+    tree_no_callbacks = free_no_callbacks s l (bound_names declares) (λ name i. let g = bound_given name i in n.good.free g.thing name g.given)
 
     -- and none is drawn for what an import begins with
     pub tree_apart : (names : List (List ℕ)) → ((x : List ℕ) → IsIn x names → (js : JsImportName) × (import_name m js ≡ Some x))

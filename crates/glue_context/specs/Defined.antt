@@ -1,4 +1,5 @@
--- Each own import has exactly one definition, by its adapter or by a memory, and each function that is printed is that of its adapter.
+-- Each own import has exactly one definition, by its adapter or by a memory, each function that is printed is that of its adapter, and each closure
+-- that is made has its function.
 use Rattle.std.specs.Prelude.{◌≡◌, ℕ, Bool, List, [], ◌∷◌, Option, Some, None}
 use Rattle.std.specs.List.{flat_map}
 use Rattle.values.specs.Lists.{IsIn, AreDistinct}
@@ -12,6 +13,7 @@ use Rattle.glue_words.specs.declared.item.Role.{Role}
 use Rattle.glue_words.specs.declared.item.Role.TheVariants as role
 use Rattle.glue_words.specs.declared.item.Thing.TheVariants as thing
 use Rattle.glue_words.specs.Linking.{EachItem}
+use Rattle.glue_words.specs.Names.{bound_in}
 use Rattle.glue_tree.specs.declared.tree.JsFunction.{JsFunction}
 use Rattle.glue_shared.specs.declared.aux.AuxExport.{AuxExport}
 use Rattle.glue_shared.specs.declared.import.JsImport.{JsImport}
@@ -20,9 +22,11 @@ use Rattle.glue_shared.specs.declared.description.Lowered.{Lowered}
 use Rattle.glue_shared.specs.declared.name_map.NameMap.{NameMap}
 use Rattle.glue_shared.specs.Names.{adapter_for, handed_part, own_imports}
 use Rattle.glue_check.specs.Unbuilt.{memory_of}
-use Rattle.glue_steps.specs.Resolving.{entry_at, export_named}
+use Rattle.glue_steps.specs.Resolving.{callback_name, entry_at, export_named}
+use Rattle.printed_adapters.specs.Printed.{used_closures}
 use Rattle.taken_items.specs.Asked.{asked_items}
 use Rattle.glue_naming.specs.Naming.{declared_name}
+use Rattle.glue_context.specs.ClosureItems.{IsClosureItem}
 use Rattle.glue_context.specs.DefinedItems.{define_item, memory_words, part_words, value_item}
 use Rattle.glue_context.specs.ExportedItems.{declaration_words}
 use Rattle.glue_context.specs.Functions.{IsFunctionOf}
@@ -90,6 +94,11 @@ HoldsFunction s m l written (role.Define place) item = HoldsDefinition s m l wri
 HoldsFunction s m l written (role.Declare (thing.Adapter id)) item = IsDeclaration s m l id item
 HoldsFunction s m l written other item = Unit {0}
 
+-- an item that declares the name of a closure's function is that of this function, and the closure is made
+abbrev pub HoldsClosure : Settings → NameMap → Lowered → Item → Type 0
+HoldsClosure s m l item = (id : ℕ) (name : List ℕ) → callback_name l id ≡ Some name → IsIn name (bound_in item.words)
+    → IsIn id (used_closures s l) × IsClosureItem s m l id item
+
 -- an export stands that has this name, and gives this item of the module
 pub record IsExportOf (m : Contents) (name : List ℕ) (item : ExportItem) : Type 0 where
   pub «export» : Export
@@ -99,10 +108,13 @@ pub record IsExportOf (m : Contents) (name : List ℕ) (item : ExportItem) : Typ
 
 -- Each own import is defined once, and nothing else is. Each function is that of its adapter: it does what the adapter does, whatever
 -- it is given and whatever the outside answers. What imports begin with that is no name of the host goes by these names, which are drawn for
--- it, and each item of the module that is asked for by that of an export that gives it.
+-- it, and each item of the module that is asked for by that of an export that gives it. Each closure that is made has an item that declares its
+-- function, under the name that is given for it, and no other item declares this name, or that of a closure that isn't made.
 pub record IsDefined (settings : Settings) (m : NameMap) (l : Lowered) (written : Contents) (items : List Item) : Type 0 where
   pub only : (place : ℕ) → IsIn place (defined_places items) → IsIn place (own_imports settings l.«module» l.wit l.aux)
   pub all : (place : ℕ) → IsIn place (own_imports settings l.«module» l.wit l.aux) → IsIn place (defined_places items)
   pub once : AreDistinct (defined_places items)
   pub functions : EachItem (λ before item after. HoldsFunction settings m l written item.role item) [] items
+  pub closures : (id : ℕ) → IsIn id (used_closures settings l) → (item : Item) × IsIn item items × IsClosureItem settings m l id item
+  pub callbacks : EachItem (λ before item after. HoldsClosure settings m l item) [] items
   pub given : (item : ExportItem) → IsIn item (asked_items settings l) → IsExportOf written (export_named m (Some item)) item

@@ -7,7 +7,7 @@ use Rattle.wasm_core.specs.declared.types.Import.{Import}
 use Rattle.wasm_core.specs.declared.types.ImportKind.{ImportKind}
 use Rattle.wasm_core.specs.declared.types.ImportKind.TheVariants as kinds
 use Rattle.wasm_core.specs.declared.types.Memory.{Memory}
-use Rattle.glue_names.specs.Modules.{glue_module}
+use Rattle.claimed_modules.specs.Modules.{glue_module}
 use Rattle.glue_steps.specs.Resolving.{entry_at}
 use Rattle.glue_targets.specs.Targets.{Frame}
 use Rattle.glue_context.specs.Foreign.{path_of, is_strings, is_string_import}

@@ -1,5 +1,5 @@
 -- The items of the glue file: lines that take modules, vendor constants, what the description declares, the frame with the definitions of
--- imports, the lists of string enums, helpers, and loading.
+-- imports, the functions of closures, the lists of string enums, helpers, and loading.
 use Rattle.std.specs.Prelude.{◌≡◌, ℕ, ◌<◌, ◌^◌, Bool, true, is_some, List, [], ◌∷◌, ◌++◌, length}
 use Rattle.std.specs.List.{AllZip, flat_map}
 use Rattle.wasm_core.specs.ids.ImportId.{ImportId}
@@ -22,6 +22,7 @@ use Rattle.glue_public.specs.Described.{ArePut, FunctionItems, described, lone_f
 use Rattle.glue_naming.specs.Pairs.{own_pairs, pair_order, place_order}
 use Rattle.helper_table.specs.Closed.{AreAsked}
 use Rattle.glue_context.specs.declared.frame.FrameParts.{FrameParts}
+use Rattle.glue_context.specs.ClosureItems.{AreClosures}
 use Rattle.glue_context.specs.DefinedItems.{IsDefineItem, takes_memory}
 use Rattle.glue_context.specs.Edits.{has_start}
 use Rattle.glue_context.specs.ExportedItems.{declare_item}
@@ -57,20 +58,20 @@ frame_of s l = record { memory = takes_memory s l; modules = foreign_modules s l
 
 -- The items up to loading but for helpers, one group behind the other, in the order in which they are printed: the import lines of described
 -- modules, those of foreign modules, the vendor constants, the declarations of exports, the frame's start, the definitions of imports, the
--- frame's end, and the lists of string enums.
-abbrev pub front_groups : List ℕ → Frame → (lines constants declares defines lists : List Item) → List (List Item)
-front_groups stem frame lines constants declares defines lists =
+-- frame's end, the functions of closures, and the lists of string enums.
+abbrev pub front_groups : List ℕ → Frame → (lines constants declares defines closures lists : List Item) → List (List Item)
+front_groups stem frame lines constants declares defines closures lists =
     lines ∷ foreign_lines 1 frame.modules ∷ constants ∷ declares ∷ (frame_start stem frame.memory ∷ []) ∷ defines
-    ∷ (frame_end stem frame.modules frame.strings ∷ []) ∷ lists ∷ []
+    ∷ (frame_end stem frame.modules frame.strings ∷ []) ∷ closures ∷ lists ∷ []
 
-abbrev pub front_items : List ℕ → Frame → (lines constants declares defines lists : List Item) → List Item
-front_items stem frame lines constants declares defines lists =
-    joined_groups (front_groups stem frame lines constants declares defines lists)
+abbrev pub front_items : List ℕ → Frame → (lines constants declares defines closures lists : List Item) → List Item
+front_items stem frame lines constants declares defines closures lists =
+    joined_groups (front_groups stem frame lines constants declares defines closures lists)
 
 -- all of them: helpers stand before loading, which depends on whether the module imports string constants, and has a start function
-abbrev pub all_items : List ℕ → Bool → Frame → (lines constants declares defines lists helpers : List Item) → List Item
-all_items stem starts frame lines constants declares defines lists helpers =
-    front_items stem frame lines constants declares defines lists ++ (helpers ++ loading_item stem frame.strings starts ∷ [])
+abbrev pub all_items : List ℕ → Bool → Frame → (lines constants declares defines closures lists helpers : List Item) → List Item
+all_items stem starts frame lines constants declares defines closures lists helpers =
+    front_items stem frame lines constants declares defines closures lists ++ (helpers ++ loading_item stem frame.strings starts ∷ [])
 
 -- What a description publishes, as the items of its export tree: functions with their declarations, enums and re-exports. No name of
 -- the host is among those of re-exports.
@@ -90,16 +91,19 @@ pub record AreGroups (s : Settings) (m : NameMap) (l : Lowered) (places : List �
   pub declared : AreTreeItems s m l declares
   pub defines : List Item
   pub defined : AllZip (IsDefineItem s m l) places defines
+  pub closures : List Item
+  pub enclosed : AreClosures s m l closures
   pub lists : List Item
   pub listed : AreLists s l lists
   pub numbered : length frame.modules < 2 ^ 32
-  pub are : groups ≡ front_groups s.stem frame lines (vendor_items called) declares defines lists
+  pub are : groups ≡ front_groups s.stem frame lines (vendor_items called) declares defines closures lists
 
 -- the items that settings and a description ask for, where these names are drawn: what is published stands by path, the definitions
 -- of own imports by the import's name and then by its place; what the adapters of own imports call and re-exports name that is no name of the
 -- host is bound: import lines stand by module, their entries and the vendor constants in the order in which they are first called, by the
--- import's name and then by the adapter's id, and behind that by the names of the re-exports; the lists of the string enums that are named
--- by adapters with a printed function stand by the enums' names; the helpers are those for which the items before them ask, and those for which these ask
+-- import's name and then by the adapter's id, and behind that by the names of the re-exports; the functions of the closures that are made stand
+-- by the ids of their adapters, and the lists of the string enums that are named by adapters with a printed function by the enums' names; the
+-- helpers are those for which the items before them ask, and those for which these ask
 pub record IsGlue (settings : Settings) (m : NameMap) (l : Lowered) (items : List Item) : Type 0 where
   pub pairs : List (ImportId × ℕ)
   pub by_import : IsArranged (pair_order l) (own_pairs settings l) pairs
@@ -112,11 +116,13 @@ pub record IsGlue (settings : Settings) (m : NameMap) (l : Lowered) (items : Lis
   pub helpers : List Item
   pub declared : AreTreeItems settings m l declares
   pub defined : AllZip (IsDefineItem settings m l) places defines
+  pub closures : List Item
+  pub enclosed : AreClosures settings m l closures
   pub lists : List Item
   pub listed : AreLists settings l lists
   pub numbered : length (foreign_modules settings l) < 2 ^ 32
   pub few : are_few l.«module» ≡ true
   pub asked : AreAsked (helper_parts settings l m)
-      (front_items settings.stem (frame_of settings l) lines (vendor_items (drawn_imports settings l m pairs)) declares defines lists) helpers
+      (front_items settings.stem (frame_of settings l) lines (vendor_items (drawn_imports settings l m pairs)) declares defines closures lists) helpers
   pub all : items ≡ all_items settings.stem (has_start l.«module») (frame_of settings l) lines
-      (vendor_items (drawn_imports settings l m pairs)) declares defines lists helpers
+      (vendor_items (drawn_imports settings l m pairs)) declares defines closures lists helpers

@@ -1,3 +1,4 @@
+pub mod ClosureItems
 pub mod Defined
 pub mod DefinedItems
 pub mod Edits

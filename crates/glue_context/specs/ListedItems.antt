@@ -8,7 +8,7 @@ use Rattle.glue_shared.specs.declared.settings.Settings.{Settings}
 use Rattle.glue_shared.specs.Names.{is_one_of}
 use Rattle.glue_lines.specs.Texts.{texts_constant}
 use Rattle.glue_names.specs.Given.{values_name}
-use Rattle.glue_names.specs.Printed.{named_enums}
+use Rattle.printed_adapters.specs.Printed.{named_enums}
 use Rattle.glue_naming.specs.Arranged.{IsArranged, text_order}
 
 -- the name of a string enum is one of these

@@ -1,5 +1,5 @@
--- What the texts of helpers depend on: the settings, and the names of the exports that give memories, the table of references and its functions.
--- Nothing that is built asks for a helper that takes another function of the module.
+-- What the texts of helpers depend on: the settings, and the names of the exports that give memories, the table of references and its functions,
+-- and the function that destroys closures. Nothing that is built asks for a helper that takes another function of the module.
 use Rattle.std.specs.Prelude.{ℕ, ◌+◌, ◌^◌, nat_le, Bool, true, false, ◌&&◌, List, [], ◌∷◌, length, Option, Some, None, option_map, if◌then◌else◌}
 use Rattle.values.specs.Map.{look_up}
 use Rattle.wasm_core.specs.Contents.{Contents}
@@ -15,7 +15,7 @@ use Rattle.glue_shared.specs.declared.settings.Target.{Target}
 use Rattle.glue_shared.specs.declared.settings.Target.TheVariants as target
 use Rattle.glue_steps.specs.declared.needed.ReferencePart.{ReferencePart}
 use Rattle.glue_steps.specs.declared.needed.ReferencePart.TheVariants as part
-use Rattle.glue_steps.specs.Needed.{part_item}
+use Rattle.glue_steps.specs.Needed.{destroyer_item, part_item}
 use Rattle.glue_steps.specs.Resolving.{item_order}
 use Rattle.helper_table.specs.declared.parts.EncoderForm.{EncoderForm}
 use Rattle.helper_table.specs.declared.parts.EncoderForm.TheVariants as encoder
@@ -79,5 +79,5 @@ helper_parts settings l m = record {
   externref_alloc = export_at m (reference_item settings l part.Alloc);
   externref_drop = export_at m (reference_item settings l part.Drop);
   externref_drop_slice = export_at m (reference_item settings l part.DropSlice);
-  destroy_closure = None;
+  destroy_closure = export_at m (destroyer_item l);
 }

@@ -12,8 +12,8 @@ use Rattle.glue_steps.specs.Resolving.{entry_at}
 use Rattle.glue_lines.specs.Grouped.{source_of}
 use Rattle.glue_naming.specs.Handed.{handed_imports}
 use Rattle.taken_items.specs.ItemNames.{added_exports}
-pub use Rattle.glue_names.specs.Modules.{glue_module}
-use Rattle.glue_names.specs.Printed.{uses_shim}
+pub use Rattle.claimed_modules.specs.Modules.{glue_module}
+use Rattle.printed_adapters.specs.Printed.{uses_shim}
 use Rattle.glue_context.specs.declared.edits.Edits.{Edits}
 use Rattle.glue_context.specs.Edits.{has_start, edited}
 

@@ -8,10 +8,11 @@ ghost use Rattle.glue_context.specs.Rewritten.{move_of, handed_move, all_moves, 
 
 use glue_check::{glue_module_name, has_start};
 use glue_lines::source_of;
-use glue_names::{SHIM, START, uses_shim};
+use glue_names::START;
 use glue_naming::handed_imports;
 use glue_scope::Names;
 use glue_shared::{JsImportName, Lowered, Settings};
+use printed_adapters::{SHIM, uses_shim};
 use std::alloc::{AllocError, Global};
 use taken_items::added_exports;
 use values::{Duplicate, Seq, Text};

@@ -1,5 +1,5 @@
 //! The items of the glue file, group by group: the lines that take modules, the vendor constants, what the description declares, the frame
-//! with the definitions of imports, the lists of string enums, the helpers for which these ask, and loading.
+//! with the definitions of imports, the functions of closures, the lists of string enums, the helpers for which these ask, and loading.
 ghost use Rattle.std.specs.Prelude.{◌≡◌, List, ◌++◌, ◌∷◌, [], IfOk, map, None, true};
 ghost use Rattle.std.specs.List.{list_all};
 ghost use Rattle.wasm_core.specs.ids.ImportId.{ImportId};
@@ -7,9 +7,12 @@ ghost use Rattle.helper_table.specs.Closed as closed;
 ghost use Rattle.glue_shared.specs.Names.{own_imports};
 ghost use Rattle.glue_published.specs.Clash.{thing_clash};
 ghost use Rattle.glue_naming.specs.Naming as naming;
+ghost use Rattle.printed_adapters.specs.Printed as printed;
+ghost use Rattle.glue_context.specs.ClosureItems as closures;
 ghost use Rattle.glue_context.specs.DefinedItems as definitions;
 ghost use Rattle.glue_context.specs.Items as spec;
 
+use crate::closures::closure_functions;
 use crate::defined::define_imports;
 use crate::exported::{joined, published_items};
 use crate::foreign::foreign_lines;
@@ -50,6 +53,7 @@ fn front_groups<N: Names>(
 ) -> Result<Seq<Seq<Item>>, AllocError>
     requires bindable { list_all (spec.is_bindable basis.now.settings.now basis.now.names.now indexed.now) indexed.now.aux.exports ≡ true }
     requires definable { list_all (definitions.is_definable basis.now.settings.now basis.now.names.now indexed.now) (map (λ (id : ImportId). id.0) places.now) ≡ true }
+    requires declarable { list_all (closures.is_declarable basis.now.settings.now basis.now.names.now indexed.now) (printed.used_closures basis.now.settings.now indexed.now) ≡ true }
     requires named { list_all (naming.is_named basis.now.names.now) indexed.now.aux.exports ≡ true }
     requires apart { thing_clash basis.now.settings.now indexed.now.aux ≡ None }
     ensures groups { IfOk result (λ groups. spec.AreGroups basis.now.settings.now basis.now.names.now indexed.now (map (λ (id : ImportId). id.0) places.now) called.now (spec.frame_by frame.now) groups) }
@@ -76,6 +80,8 @@ fn front_groups<N: Names>(
     )?;
     let end_group = one_item(alloc, end)?;
     groups.push(end_group)?;
+    let functions = closure_functions::<N>(alloc, basis, indexed)?;
+    groups.push(functions)?;
     let lists = enum_lists(alloc, basis.settings, indexed.lowered())?;
     groups.push(lists)?;
     Ok(groups)
@@ -98,8 +104,9 @@ fn with_helpers(
 }
 
 /// The items that settings and a description ask for, where the check has found steps for each adapter that becomes a function, that of
-/// an export and that of an own import, each other own import brings in a memory whose definition is built, the function of each export was
-/// given a name, and no two things that are published clash. What an import begins with that was given none is printed under its own name, as one of the host. Want of memory is the only error.
+/// an export, that of an own import, and that of a closure that is made, each other own import brings in a memory whose definition is
+/// built, the function of each export was given a name and that of each closure has one, and no two things that are published clash. What
+/// an import begins with that was given none is printed under its own name, as one of the host. Want of memory is the only error.
 pub fn glue_items<N: Names>(
     alloc: Global,
     settings: &Settings,
@@ -108,6 +115,7 @@ pub fn glue_items<N: Names>(
 ) -> Result<Seq<Item>, AllocError>
     requires bindable { list_all (spec.is_bindable settings.now names.now lowered.now) lowered.now.aux.exports ≡ true }
     requires definable { list_all (definitions.is_definable settings.now names.now lowered.now) (own_imports settings.now lowered.now.«module» lowered.now.wit lowered.now.aux) ≡ true }
+    requires declarable { list_all (closures.is_declarable settings.now names.now lowered.now) (printed.used_closures settings.now lowered.now) ≡ true }
     requires named { list_all (naming.is_named names.now) lowered.now.aux.exports ≡ true }
     requires apart { thing_clash settings.now lowered.now.aux ≡ None }
     ensures items { IfOk result (λ items. spec.IsGlue settings.now names.now lowered.now items) }

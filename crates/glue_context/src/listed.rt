@@ -5,9 +5,10 @@ ghost use Rattle.glue_naming.specs.Arranged.{IsArranged};
 ghost use Rattle.glue_context.specs.ListedItems as spec;
 
 use glue_lines::texts_constant;
-use glue_names::{NameSet, named_enums, values_name};
+use glue_names::values_name;
 use glue_shared::{AuxStringEnum, Lowered, Settings};
 use glue_words::Item;
+use printed_adapters::{NameSet, named_enums};
 use std::alloc::{AllocError, Global};
 use std::cmp::Ordering;
 use values::Seq;

@@ -1,6 +1,5 @@
-//! What the tests of `glue_tree_cases`, `import_cases`, `glue_lower_cases`, `glue_check_cases`, `glue_cases` and `cli_support_cases` begin
-//! with: words that are printed, lists of names, settings, modules, also with a custom section, texts with edits, and how a value is
-//! shown. Only these tests use it.
+//! What tests of the crates `_cases` and of `glue_vectors` begin with, and `check_inputs`: words that are printed, lists of names, settings,
+//! modules, also with a custom section, texts with edits, and how a value is shown. Only tests use it.
 //!
 //! Promised: each function gives exactly what it says, or memory runs out; of `edited`, `shown` and `shown_fault` nothing is promised.
 //!

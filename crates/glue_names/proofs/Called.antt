@@ -15,10 +15,7 @@ use Rattle.glue_shared.specs.declared.description.Lowered.{Lowered}
 use Rattle.glue_shared.specs.declared.settings.Settings.{Settings}
 use Rattle.glue_shared.specs.Names.{has_number, code_of, own_imports}
 use Rattle.glue_names.specs.Handed.{callee, pair_callees, own_callees}
-
-pub or_last : (a b : Bool) → b ≡ true → (a || b) ≡ true
-or_last true b h = refl
-or_last false b h = h
+pub use Rattle.printed_adapters.proofs.Choices.{number_in, or_last}
 
 -- a number of one of these lists is one of all
 has_in_flat : {A : Type 0} (f : A → List ℕ) (xs : List A) (x : A) (n : ℕ) → IsIn x xs → has_number n (f x) ≡ true → has_number n (flat_map f xs) ≡ true
@@ -39,15 +36,6 @@ callee_in (i ∷ code) id (inr at) = by i (callee_in code id at)
     by : (i : Instruction) → has_number id (filter_map callee code) ≡ true → has_number id (filter_map callee (i ∷ code)) ≡ true
     by (instr.CallAdapter other) h = or_last (other == id) _ h
     by other h = h
-
--- a number that is found is one of them
-pub number_in : (n : ℕ) (ns : List ℕ) → has_number n ns ≡ true → IsIn n ns
-number_in n [] h = absurd (true≢false (sym h))
-number_in n (k ∷ ns) h = here (k == n) refl h (number_in n ns)
-  where
-    here : (b : Bool) → (k == n) ≡ b → (b || has_number n ns) ≡ true → (has_number n ns ≡ true → IsIn n ns) → IsIn n (k ∷ ns)
-    here true q h later = inl (sym (eqb-true k n q))
-    here false q h later = inr (later h)
 
 -- what an instruction calls
 pub callee_is : (step : Instruction) (id : ℕ) → callee step ≡ Some id → step ≡ instr.CallAdapter id

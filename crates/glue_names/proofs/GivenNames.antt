@@ -20,7 +20,7 @@ use Rattle.glue_faults.specs.declared.fault.Fault.TheVariants as faults
 use Rattle.glue_faults.specs.Clash.{first_clash_after, first_told}
 use Rattle.glue_faults.proofs.Clashes.{told_more}
 use Rattle.glue_faults.proofs.First.{neither, not_here}
-use Rattle.glue_names.specs.Given.{given_names, kept, other_names, values_name}
+use Rattle.glue_names.specs.Given.{closure_names, given_names, kept, other_names, values_name}
 use Rattle.glue_names.specs.Naming.{given_clash, one_word}
 use Rattle.glue_names.specs.Omitted.{begun, omitted_name, omitted_names, reexported}
 use Rattle.glue_names.specs.Once.{each_new, each_once, has_name}
@@ -81,7 +81,7 @@ first_given taken others names is =
     ap (λ (t : TextSet). set.contains t name) is ∙ in_set others name ∙ or_false (is_one_of others name))
 
 -- where nothing is given, nothing clashes
-pub none_given : (s : Settings) (l : Lowered) → given_names s.omit_imports l.aux ≡ [] → given_clash s l ≡ None
+pub none_given : (s : Settings) (l : Lowered) → given_names s.omit_imports l ≡ [] → given_clash s l ≡ None
 none_given s l h = ap (λ (names : List (List ℕ)). option_map faults.NameClash (first_clash_after bytes_eq (other_names s l) names)) h
 
 -- ---- where none is
@@ -155,13 +155,14 @@ omitted_either omitted aux n i x k = elim (in_either n (begun aux.imports) (reex
         (new_has n (begun aux.imports) (reexported aux.reexports) there e) k)
 
 -- so it is given
-pub omitted_given : (omitted : Bool) (aux : WasmBindgenAux) (n : JsImportName) → IsIn n (described_names aux) → (x : List ℕ)
-    → IsIn x (omitted_name omitted n) → IsIn x (given_names omitted aux)
-omitted_given omitted aux n i x k =
-    let first = imported_given omitted aux in
-    let values = map values_name aux.string_enums in
-    let later = reexported_given omitted aux in
-    elim (omitted_either omitted aux n i x k) [
+pub omitted_given : (omitted : Bool) (l : Lowered) (n : JsImportName) → IsIn n (described_names l.aux) → (x : List ℕ)
+    → IsIn x (omitted_name omitted n) → IsIn x (given_names omitted l)
+omitted_given omitted l n i x k =
+    let closures = closure_names l in
+    let first = imported_given omitted l.aux in
+    let values = map values_name l.aux.string_enums in
+    let later = reexported_given omitted l.aux in
+    in_right x closures (first ++ (values ++ later)) (elim (omitted_either omitted l.aux n i x k) [
       | inl here ↦ in_left x first (values ++ later) here
       | inr there ↦ in_right x first (values ++ later) (in_right x values later there)
-    ]
+    ])

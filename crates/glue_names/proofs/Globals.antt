@@ -1,5 +1,5 @@
 -- What a described name brings is of the outside.
-use Rattle.std.proofs.Common.{◌≡◌, ℕ, List, [], ◌∷◌, ◌++◌, map, Bool, Option, Some, None, true, false, true≢false, refl, sym, inl, inr, subst}
+use Rattle.std.proofs.Common.{◌≡◌, ℕ, List, [], ◌∷◌, ◌++◌, map, Bool, Option, Some, None, true, false, true≢false, refl, sym}
 use Rattle.std.specs.List.{flat_map}
 use Rattle.std.specs.Prelude.{is_some}
 use Rattle.values.specs.Lists.{IsIn}
@@ -12,20 +12,7 @@ use Rattle.glue_shared.specs.declared.settings.Settings.{Settings}
 use Rattle.glue_shared.specs.declared.names.TheConstants.{HOSTS}
 use Rattle.glue_shared.specs.Names.{names_of, js_import, described_names, described_hosts, target_hosts, inspect_names, host_names}
 use Rattle.glue_names.specs.Taken.{brought}
-
--- ---- lists
-
-pub in_flat : {A B : Type 0} (f : A → List B) (xs : List A) (x : A) (y : B) → IsIn x xs → IsIn y (f x) → IsIn y (flat_map f xs)
-in_flat f [] x y i k = absurd i
-in_flat f (z ∷ xs) x y (inl e) k = in_left y (f z) (flat_map f xs) (subst (λ w. IsIn y (f w)) e k)
-in_flat f (z ∷ xs) x y (inr i) k = in_right y (f z) (flat_map f xs) (in_flat f xs x y i k)
-
-pub from_flat : {A B : Type 0} (f : A → List B) (xs : List A) (y : B) → IsIn y (flat_map f xs) → (x : A) × IsIn x xs × IsIn y (f x)
-from_flat f [] y i = absurd i
-from_flat f (x ∷ xs) y i = elim (in_either y (f x) (flat_map f xs) i) [
-  | inl here ↦ (x, inl refl, here)
-  | inr later ↦ let r = from_flat f xs y later in (r.0, inr r.1, r.2)
-]
+pub use Rattle.printed_adapters.proofs.Choices.{from_flat, in_flat}
 
 -- an option that is some value is that of one
 pub some_of : {A : Type 0} (o : Option A) → is_some o ≡ true → (x : A) × (o ≡ Some x)

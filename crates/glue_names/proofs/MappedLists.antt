@@ -4,13 +4,9 @@ use Rattle.std.specs.Prelude.{Option, None, Some}
 use Rattle.std.specs.List.{cons_option, flat_map, filter_map}
 use Rattle.values.specs.Lists.{IsIn, IsAway, AreDistinct}
 use Rattle.glue_names.proofs.Globals.{from_flat, in_flat}
+pub use Rattle.printed_adapters.proofs.Choices.{in_map}
 
 -- ---- lists that are mapped, joined, or mapped in part
-
-pub in_map : {A B : Type 0} (f : A → B) (x : A) (xs : List A) → IsIn x xs → IsIn (f x) (map f xs)
-in_map f x [] i = absurd i
-in_map f x (y ∷ xs) (inl same) = inl (ap f same)
-in_map f x (y ∷ xs) (inr i) = inr (in_map f x xs i)
 
 pub from_map : {A B : Type 0} (f : A → B) (y : B) (xs : List A) → IsIn y (map f xs) → (x : A) × IsIn x xs × (y ≡ f x)
 from_map f y [] i = absurd i

@@ -1,9 +1,7 @@
 pub mod Given
 pub mod Handed
-pub mod Modules
 pub mod Naming
 pub mod Omitted
 pub mod Once
-pub mod Printed
 pub mod Publishing
 pub mod Taken

@@ -4,11 +4,11 @@ use Rattle.std.specs.List.{list_any}
 use Rattle.std.specs.Option.{option_or}
 use Rattle.std.specs.Str.{bytes_eq}
 use Rattle.wasm_core.specs.Contents.{Contents}
+use Rattle.wasm_core.specs.ids.ExportId.{ExportId}
 use Rattle.wasm_core.specs.ids.FuncId.{FuncId}
 use Rattle.wasm_core.specs.entries.Export.{Export}
 use Rattle.glue_words.specs.Ident.{is_ident}
 use Rattle.glue_shared.specs.declared.aux.AuxStringEnum.{AuxStringEnum}
-use Rattle.glue_shared.specs.declared.aux.WasmBindgenAux.{WasmBindgenAux}
 use Rattle.glue_shared.specs.declared.import.AuxImport.{AuxImport}
 use Rattle.glue_shared.specs.declared.import.JsImport.{JsImport}
 use Rattle.glue_shared.specs.declared.import.JsImportName.{JsImportName}
@@ -22,12 +22,16 @@ use Rattle.glue_faults.specs.Clash.{first_clash, first_clash_after}
 use Rattle.glue_steps.specs.Resolving.{entry_at}
 use Rattle.glue_published.specs.Named.{is_proto_name, bad_export_name, bad_declared_name}
 use Rattle.glue_names.specs.declared.naming.TheConstants.{START}
-use Rattle.glue_names.specs.declared.room.TheConstants.{SHIM}
-use Rattle.glue_names.specs.Given.{given_names, other_names, values_name}
-use Rattle.glue_names.specs.Printed.{uses_shim}
+use Rattle.printed_adapters.specs.declared.room.TheConstants.{SHIM}
+use Rattle.glue_names.specs.Given.{closure_export, given_names, other_names, values_name}
+use Rattle.printed_adapters.specs.Printed.{uses_shim}
 use Rattle.glue_names.specs.Taken.{global_of, name_if}
 
 -- ---- bad names
+
+-- the name of the export after which the function of a closure's adapter is named, where it is no identifier
+abbrev pub bad_closure : Contents → ExportId × ℕ → Option (List ℕ)
+bad_closure m pair = find (λ name. not (is_ident name)) (closure_export m pair)
 
 -- the first name of the outside that a described name brings, a global, a vendor's name with or without a prefix, or where imports are left
 -- out a name from a module, and that is no identifier
@@ -46,21 +50,22 @@ bad_values e = where_true (not (is_ident (values_name e))) (values_name e)
 abbrev pub bad_reexported : (omitted : Bool) → List ℕ × JsImport × Bool → Option (List ℕ)
 bad_reexported omitted r = option_or (where_true (is_proto_name r.0) r.0) (bad_described omitted r.1.name)
 
--- the first bad name: of exports, imports, classes and enums, string enums, re-exports, and `__proto__` among the names of the imports that
--- the glue file defines
-unfoldable pub bad_text : (omitted : Bool) → (own : List (List ℕ)) → WasmBindgenAux → Option (List ℕ)
-bad_text omitted own aux = first_some (
-    bad_export_name aux.exports
-    ∷ first_of (bad_import omitted) aux.imports
-    ∷ bad_declared_name aux
-    ∷ first_of bad_values aux.string_enums
-    ∷ first_of (bad_reexported omitted) aux.reexports
+-- the first bad name: of exports after which functions of closures are named, described exports, imports, classes and enums, string enums, re-exports,
+-- and `__proto__` among the names of the imports that the glue file defines
+unfoldable pub bad_text : (omitted : Bool) → (own : List (List ℕ)) → Lowered → Option (List ℕ)
+bad_text omitted own l = first_some (
+    first_of (bad_closure l.«module») l.wit.exports
+    ∷ bad_export_name l.aux.exports
+    ∷ first_of (bad_import omitted) l.aux.imports
+    ∷ bad_declared_name l.aux
+    ∷ first_of bad_values l.aux.string_enums
+    ∷ first_of (bad_reexported omitted) l.aux.reexports
     ∷ find is_proto_name own
     ∷ [])
 
 -- a name can't stand where it would have to
 abbrev pub bad_name : Settings → Lowered → Option Fault
-bad_name settings l = option_map faults.BadName (bad_text settings.omit_imports (own_names settings l.«module» l.wit l.aux) l.aux)
+bad_name settings l = option_map faults.BadName (bad_text settings.omit_imports (own_names settings l.«module» l.wit l.aux) l)
 
 -- ---- names of the outside
 
@@ -72,7 +77,7 @@ taken_described taken given name = option_or (find (is_one_of taken) (described_
 -- that a global is a given name of another kind
 abbrev pub twice_described : Settings → Lowered → Option (List ℕ)
 twice_described settings l =
-    first_of (taken_described (fixed_names settings l.«module») (given_names settings.omit_imports l.aux)) (described_names l.aux)
+    first_of (taken_described (fixed_names settings l.«module») (given_names settings.omit_imports l)) (described_names l.aux)
 
 -- a name of the outside stands for something else too
 abbrev pub global_twice : Settings → Lowered → Option Fault
@@ -118,7 +123,7 @@ has_start m = is_some (option_and_then (λ (f : FuncId). entry_at m.funcs f.0) m
 -- a given name is that of an earlier entry, or a name of the outside for another reason, or one that the glue file may bind
 abbrev pub given_clash : Settings → Lowered → Option Fault
 given_clash settings l =
-    option_map faults.NameClash (first_clash_after bytes_eq (other_names settings l) (given_names settings.omit_imports l.aux))
+    option_map faults.NameClash (first_clash_after bytes_eq (other_names settings l) (given_names settings.omit_imports l))
 
 -- two of the imports that the glue file defines, which have these names, have one name
 abbrev pub import_clash : List (List ℕ) → Option Fault
@@ -146,12 +151,7 @@ export_clash settings l = first_some (wasm_clash l.«module».exports ∷ shim_c
 
 -- two things of the module that is written have one name
 unfoldable pub written_clash : Settings → Lowered → Option Fault
-written_clash settings l = first_some (
-    import_clash (own_names settings l.«module» l.wit l.aux)
-    ∷ wasm_clash l.«module».exports
-    ∷ shim_clash settings l
-    ∷ start_clash l.«module»
-    ∷ [])
+written_clash settings l = option_or (import_clash (own_names settings l.«module» l.wit l.aux)) (export_clash settings l)
 
 -- a given name stands for something else too, or two things of the module that is written have one name
 unfoldable pub name_clash : Settings → Lowered → Option Fault

@@ -4,9 +4,10 @@ ghost use Rattle.glue_names.specs.Given as spec;
 ghost use Rattle.glue_names.specs.Omitted.{begun, omitted_names, reexported};
 ghost use Rattle.glue_names.specs.Once.{each_new, each_once};
 
+use crate::closures::push_closure_names;
 use crate::omitted::{begun, push_omitted_names, push_reexported};
 use crate::once::{each_new, each_once};
-use glue_shared::{AdapterId, AuxImport, AuxStringEnum, JsImport, Settings, WasmBindgenAux};
+use glue_shared::{AdapterId, AuxImport, AuxStringEnum, JsImport, Lowered, Settings};
 use std::alloc::{AllocError, Global};
 use values::{Duplicate, Seq, Text};
 
@@ -71,15 +72,13 @@ fn push_new_reexported(
 }
 
 /// The given names of a description. Want of memory is the only error.
-pub fn given_names(
-    alloc: Global,
-    omitted: bool,
-    aux: &WasmBindgenAux,
-) -> Result<Seq<Text>, AllocError>
-    ensures names { IfOk result (λ names. names ≡ spec.given_names omitted aux.now) }
+pub fn given_names(alloc: Global, omitted: bool, lowered: &Lowered) -> Result<Seq<Text>, AllocError>
+    ensures names { IfOk result (λ names. names ≡ spec.given_names omitted lowered.now) }
 {
+    let aux = &lowered.aux;
     let (imports, reexports) = (aux.imports.as_slice(), aux.reexports.as_slice());
     let mut names = Seq::new(alloc);
+    push_closure_names(alloc, lowered, &mut names)?;
     push_imported(alloc, omitted, imports, &mut names)?;
     push_values(alloc, aux.string_enums.as_slice(), &mut names)?;
     push_new_reexported(alloc, omitted, imports, reexports, &mut names)?;

@@ -1,5 +1,5 @@
 //! Names that can't stand where they would have to, and things of one name.
-ghost use Rattle.std.specs.Prelude.{◌≡◌, IfOk, bytes_eq, find, not, option_map};
+ghost use Rattle.std.specs.Prelude.{◌≡◌, ◌∷◌, [], IfOk, bytes_eq, find, not, option_map};
 ghost use Rattle.std.specs.List.{list_any};
 ghost use Rattle.glue_faults.specs.Clash.{first_clash_after};
 ghost use Rattle.glue_faults.specs.declared.fault.Fault.TheVariants as faults;
@@ -20,8 +20,6 @@ use crate::brought::{copied, described_hosts, global_of};
 use crate::clash::{Claim, first_clash, first_met};
 use crate::given::{given_names, kept, values_name};
 use crate::omitted::{begun, push_reexported};
-use crate::own::own_names;
-use crate::room::{SHIM, uses_shim};
 use crate::taken::{taken_names, with_each, with_fixed};
 use glue_faults::Fault;
 use glue_published::{bad_declared_name, bad_export_name, is_proto_name};
@@ -31,9 +29,10 @@ use glue_shared::{
     js_import,
 };
 use glue_words::is_valid_ident;
+use printed_adapters::{SHIM, own_names, uses_shim};
 use std::alloc::{AllocError, Global};
 use values::{Duplicate, Seq, Text};
-use wasm_core::{Export, Module};
+use wasm_core::{Export, ExportId, Module};
 
 /// The name of the export that a start function becomes.
 pub const START: &str = "__wbindgen_start";
@@ -57,6 +56,40 @@ fn first_not_ident(names: &[Text]) -> Option<&Text>
     ensures first { option_copied result ≡ find (λ name. not (is_ident name)) names.now }
 {
     names.iter().find(|name| !is_valid_ident(name.as_str()))
+}
+
+// The name, where it is no identifier.
+fn not_ident(name: &Text) -> Option<&Text>
+    ensures bad { option_copied result ≡ find (λ name. not (is_ident name)) (name.now ∷ []) }
+{
+    if is_valid_ident(name.as_str()) {
+        None
+    } else {
+        Some(name)
+    }
+}
+
+// The name of the export after which the function of a closure's adapter is named, where it is no identifier.
+fn bad_closure<'a>(module: &'a Module, pair: &(ExportId, AdapterId)) -> Option<&'a Text>
+    ensures bad { option_copied result ≡ spec.bad_closure «module».now pair.now }
+{
+    match module.exports().get(pair.0.0 as usize) {
+        Some(Some(export)) => not_ident(&export.name),
+        Some(None) | None => None,
+    }
+}
+
+// The first such of these.
+fn first_bad_closure<'a>(module: &'a Module, pairs: &[(ExportId, AdapterId)]) -> Option<&'a Text>
+    ensures first { option_copied result ≡ first.first_of (spec.bad_closure «module».now) pairs.now }
+{
+    for pair in pairs {
+        let name = bad_closure(module, pair);
+        if name.is_some() {
+            return name;
+        }
+    }
+    None
 }
 
 // The first name of the outside that a described name brings and that is no identifier.
@@ -161,10 +194,15 @@ fn bad_text(
     alloc: Global,
     omitted: bool,
     own: &[Text],
-    aux: &WasmBindgenAux,
+    lowered: &Lowered,
 ) -> Result<Option<Text>, AllocError>
-    ensures bad { IfOk result (λ bad. bad ≡ spec.bad_text omitted own.now aux.now) }
+    ensures bad { IfOk result (λ bad. bad ≡ spec.bad_text omitted own.now lowered.now) }
 {
+    let aux = &lowered.aux;
+    let called = first_bad_closure(&lowered.module, lowered.wit.exports.as_slice());
+    if called.is_some() {
+        return copied(alloc, called);
+    }
     let exported = bad_export_name(aux.exports.as_slice());
     if exported.is_some() {
         return copied(alloc, exported);
@@ -188,11 +226,11 @@ fn bad_text(
     copied(alloc, first_proto(own))
 }
 
-/// The first name that can't stand where it would have to: a segment or name of an export, a class or an enum that is `__proto__`; a variant
-/// of an enum that is `__proto__` or no identifier; the name of a string enum's values that is no identifier; a described global, a vendor's
-/// name with or without one of its prefixes, or where imports are left out a name from a module, that is no identifier; a re-export or an
-/// import that the glue file defines of the name `__proto__`. They come in the order of the description, and the module's imports last. Want
-/// of memory is the only error.
+/// The first name that can't stand where it would have to: the name of an export after which the function of a closure is named, and that is no
+/// identifier; a segment or name of an export, a class or an enum that is `__proto__`; a variant of an enum that is `__proto__` or no identifier;
+/// the name of a string enum's values that is no identifier; a described global, a vendor's name with or without one of its prefixes, or where
+/// imports are left out a name from a module, that is no identifier; a re-export or an import that the glue file defines of the name
+/// `__proto__`. They come in the order of the description, and the module's imports last. Want of memory is the only error.
 pub fn bad_name(
     alloc: Global,
     settings: &Settings,
@@ -201,7 +239,7 @@ pub fn bad_name(
     ensures fault { IfOk result (λ fault. fault ≡ spec.bad_name settings.now lowered.now) }
 {
     let own = own_names(alloc, settings, lowered)?;
-    match bad_text(alloc, settings.omit_imports, own.as_slice(), &lowered.aux)? {
+    match bad_text(alloc, settings.omit_imports, own.as_slice(), lowered)? {
         None => Ok(None),
         Some(name) => Ok(Some(Fault::BadName { name })),
     }
@@ -274,11 +312,11 @@ fn fixed_scope<N: Names>(
 fn given_scope<N: Names>(
     alloc: Global,
     settings: &Settings,
-    aux: &WasmBindgenAux,
+    lowered: &Lowered,
 ) -> Result<N, AllocError>
-    ensures bound { IfOk result (λ given. N.bound given ≡ with_texts set.empty (given_spec.given_names settings.now.omit_imports aux.now)) }
+    ensures bound { IfOk result (λ given. N.bound given ≡ with_texts set.empty (given_spec.given_names settings.now.omit_imports lowered.now)) }
 {
-    let names = given_names(alloc, settings.omit_imports, aux)?;
+    let names = given_names(alloc, settings.omit_imports, lowered)?;
     let none: N = Names::new(alloc);
     with_each(none, names.as_slice())
 }
@@ -293,8 +331,8 @@ fn described_names(alloc: Global, aux: &WasmBindgenAux) -> Result<Seq<JsImportNa
 }
 
 /// The first name of the outside, a described global or a vendor's name with or without one of its prefixes, that the glue file may bind itself,
-/// or that is a global and a given name of another kind too: of the values of a string enum, or where imports are left out from a module. Those
-/// of imports come before those of re-exports. Want of memory is the only error.
+/// or that is a global and a given name of another kind too: of an export after which the function of a closure is named, of the values of a string
+/// enum, or where imports are left out from a module. Those of imports come before those of re-exports. Want of memory is the only error.
 #[tactic(auto, using(crate::proofs::TakenNames::taken_same))]
 pub fn global_twice(
     alloc: Global,
@@ -304,7 +342,7 @@ pub fn global_twice(
     ensures fault { IfOk result (λ fault. fault ≡ spec.global_twice settings.now lowered.now) }
 {
     let taken: IdentScope = fixed_scope(alloc, settings, &lowered.module)?;
-    let given: IdentScope = given_scope(alloc, settings, &lowered.aux)?;
+    let given: IdentScope = given_scope(alloc, settings, lowered)?;
     let described = described_names(alloc, &lowered.aux)?;
     match first_taken(alloc, &taken, &given, described.as_slice())? {
         None => Ok(None),
@@ -399,7 +437,7 @@ fn given_clash(
 ) -> Result<Option<Fault>, AllocError>
     ensures fault { IfOk result (λ fault. fault ≡ spec.given_clash settings.now lowered.now) }
 {
-    let names = given_names(alloc, settings.omit_imports, &lowered.aux)?;
+    let names = given_names(alloc, settings.omit_imports, lowered)?;
     if names.is_empty() {
         return Ok(None);
     }
@@ -542,8 +580,8 @@ fn written_clash(
 /// The first given name that another has, that is of the outside for another reason, or that the glue file may bind, or else the first name that
 /// two imports have that the glue file defines, that two exports of the module have, or an export and a function that is exported besides: first
 /// the one that moves the stack of the module, where an adapter that becomes a function takes room on it, then the start function. Given names
-/// are those of the values of string enums, and where imports are left out those from modules, of each import once. Want of memory is the only
-/// error.
+/// are those of exports after which functions of closures are named, of each export and adapter once, those of the values of string enums, and where
+/// imports are left out those from modules, of each import once. Want of memory is the only error.
 #[tactic(auto, unfolding(crate::specs::Naming::name_clash))]
 pub fn name_clash(
     alloc: Global,

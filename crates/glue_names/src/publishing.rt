@@ -4,11 +4,11 @@ ghost use Rattle.glue_published.specs.Fixed as fixed;
 ghost use Rattle.glue_shared.specs.Names as names;
 ghost use Rattle.glue_names.specs.Publishing as spec;
 
-use crate::own::own_names;
 use glue_exports::qualified_name;
 use glue_faults::Fault;
 use glue_published::fixed_thing;
 use glue_shared::{AuxExport, Lowered, Settings};
+use printed_adapters::own_names;
 use std::alloc::{AllocError, Global};
 use values::Text;
 

@@ -2,24 +2,14 @@
 use Rattle.std.specs.Prelude.{ℕ, List, [], ◌∷◌, ◌++◌, Option, Some, map, slice_get, if◌then◌else◌}
 use Rattle.std.specs.List.{flat_map}
 use Rattle.values.specs.TextSet.{TextSet, with_texts}
-use Rattle.wasm_core.specs.entries.Export.{Export}
 use Rattle.wasm_core.specs.declared.types.Import.{Import}
-use Rattle.wasm_core.specs.ids.ExportId.{ExportId}
-use Rattle.wasm_core.specs.Contents.{Contents}
 use Rattle.glue_shared.specs.declared.settings.Settings.{Settings}
 use Rattle.glue_shared.specs.declared.description.Lowered.{Lowered}
 use Rattle.glue_shared.specs.Names.{own_names}
+pub use Rattle.glue_names.specs.Given.{closure_export, export_name_at}
 use Rattle.glue_names.specs.Given.{values_name}
 use Rattle.glue_names.specs.Publishing.{is_bundler}
 use Rattle.glue_names.specs.Taken.{taken_names}
-
--- the name of the export at a place, where one stands
-abbrev pub export_name_at : List (Option Export) → ℕ → List (List ℕ)
-export_name_at exports place = name_of (slice_get exports place)
-  where
-    name_of : Option (Option Export) → List (List ℕ)
-    name_of (Some (Some e)) = e.name ∷ []
-    name_of other = []
 
 -- the name of the import at a place, where one stands
 abbrev pub import_name_at : List (Option Import) → ℕ → List (List ℕ)
@@ -28,10 +18,6 @@ import_name_at imports place = name_of (slice_get imports place)
     name_of : Option (Option Import) → List (List ℕ)
     name_of (Some (Some i)) = i.name ∷ []
     name_of other = []
-
--- the name of the export that a closure calls
-abbrev pub closure_export : Contents → ExportId × ℕ → List (List ℕ)
-closure_export m entry = export_name_at m.exports entry.0.0
 
 -- a bundler's glue file exports each own import under its name
 abbrev pub bundled_names : Settings → Lowered → List (List ℕ)

@@ -1,2 +1,3 @@
+mod FirstExports
 mod Resolved
 pub mod Named

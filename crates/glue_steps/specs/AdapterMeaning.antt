@@ -3,7 +3,7 @@ use Rattle.std.specs.Prelude.{ℕ, zero, suc, pos, neg_ℤ, Bool, true, false, L
 use Rattle.values.specs.Value.{Helper, OfExport, OfHost, Value, Undefined, Null, Truth, Number, Itself, Reads, ReadsAt, WritesAt, Calls, CallsOn, CallsAdapter, Answer, Ran, Went, Threw, Ended, Act, goes_on, step, and_then_cleans, is_true, unsigned, is_not_zero, sum_of, bump}
 use Rattle.glue_steps.specs.Stack.{top, below, item_at, last_of, operands, without}
 use Rattle.glue_steps.specs.declared.step.Step.{Step}
-use Rattle.glue_steps.specs.declared.step.Step.TheVariants.{Parameter, Unchanged, CallExport, CallImport, ToUnsigned, IsNotZero, ToUnsigned64, CallHelper, IndexFromBorrow, UnwrapResult, PassToMemory, DeferFree, CopyOut, ReturnPointer, LoadReturn, StoreReturn, IndexOf, ItemAt}
+use Rattle.glue_steps.specs.declared.step.Step.TheVariants.{Parameter, Unchanged, CallExport, CallImport, ToUnsigned, IsNotZero, ToUnsigned64, CallHelper, IndexFromBorrow, UnwrapResult, PassToMemory, DeferFree, CopyOut, ReturnPointer, LoadReturn, StoreReturn, MakeClosure, IndexOf, ItemAt}
 
 -- ---- steps. Where an operand or a parameter is lacking, `null` stands for it; a checked adapter never comes there
 
@@ -103,6 +103,12 @@ stores view offset is_wide address stored trace answers =
     goes_on (step (Calls (Helper view) []) trace answers) (λ v.
     step (CallsOn v (writing_method is_wide) (sum_of address (Number (pos offset)) ∷ stored ∷ Truth true ∷ [])))
 
+-- `helper(address, other, function)`, of the two newest operands
+abbrev pub makes : (helper function : List ℕ) → List Value → Act Value
+makes helper function stack trace answers =
+    goes_on (step (Reads (Helper function)) trace answers) (λ f.
+    step (Calls (Helper helper) (operands Null 2 stack (f ∷ []))))
+
 -- `list.indexOf(v)`
 abbrev pub index_of : (list : List ℕ) → Value → Act Value
 index_of list v trace answers =
@@ -160,6 +166,9 @@ act (LoadReturn view offset is_wide) args stack trace answers =
 act (StoreReturn view offset is_wide) args stack trace answers =
     goes_on (stores view offset is_wide (item_at Null args 0) (top Null stack) trace answers) (λ v.
     pushes (below stack))
+act (MakeClosure helper function) args stack trace answers =
+    goes_on (makes helper function stack trace answers) (λ v.
+    pushes (v ∷ without 2 stack))
 act (IndexOf list) args stack trace answers =
     goes_on (index_of list (top Null stack) trace answers) (λ v.
     pushes (v ∷ below stack))
@@ -167,7 +176,7 @@ act (ItemAt list) args stack trace answers =
     goes_on (item_of list (top Null stack) trace answers) (λ v.
     pushes (v ∷ below stack))
 
--- the helpers, and the lists of string enums, that a step calls, reads or writes, by their names
+-- the helpers, the lists of string enums and the functions of closures that a step calls, reads or writes, by their names
 abbrev pub helpers_of : Step → List (List ℕ)
 helpers_of (CallHelper helper n) = helper ∷ []
 helpers_of IndexFromBorrow = codes "addBorrowedObject" ∷ codes "heap" ∷ codes "stack_pointer" ∷ []
@@ -177,6 +186,7 @@ helpers_of (PassToMemory helper exports true) = codes "isLikeNone" ∷ helper �
 helpers_of (CopyOut helper) = helper ∷ []
 helpers_of (LoadReturn view offset is_wide) = view ∷ []
 helpers_of (StoreReturn view offset is_wide) = view ∷ []
+helpers_of (MakeClosure helper function) = helper ∷ function ∷ []
 helpers_of (IndexOf list) = list ∷ []
 helpers_of (ItemAt list) = list ∷ []
 helpers_of other = []

@@ -1,4 +1,5 @@
 pub mod AdapterMeaning
+pub mod Callbacks
 pub mod Exported
 pub mod Needed
 pub mod Resolving

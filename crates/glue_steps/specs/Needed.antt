@@ -1,5 +1,6 @@
--- What an instruction takes of the module: what its ids name, and parts of the description for values that are kept in a table of references.
-use Rattle.std.specs.Prelude.{Bool, true, false, List, [], ◌∷◌, ◌++◌, Option, option_map, if◌then◌else◌}
+-- What an instruction takes of the module: what its ids name, and parts of the description, for values that are kept in a table of references
+-- and for closures.
+use Rattle.std.specs.Prelude.{ℕ, Bool, true, false, is_some, List, [], ◌∷◌, ◌++◌, Option, Some, None, option_map, if◌then◌else◌}
 use Rattle.std.specs.List.{flat_map, filter}
 use Rattle.wasm_core.specs.entries.ExportItem.{ExportItem}
 use Rattle.wasm_core.specs.entries.ExportItem.TheVariants as items
@@ -61,6 +62,25 @@ part_named aux parts.Table = option_map items.Table aux.externref_table
 abbrev pub part_item : Lowered → ReferencePart → Option ExportItem
 part_item l part = live_item l.«module» (part_named l.aux part)
 
+-- ---- closures
+
+-- the adapter of the closure that an instruction makes
+abbrev pub closure_id : Instruction → Option ℕ
+closure_id (instr.Closure id mutable) = Some id
+closure_id other = None
+
+-- an instruction makes a closure
+abbrev pub makes_closure : Instruction → Bool
+makes_closure i = is_some (closure_id i)
+
+-- the function that a description names as the one that destroys closures
+abbrev pub destroyer : WasmBindgenAux → Option ExportItem
+destroyer aux = option_map items.Func aux.destroy_closure
+
+-- the item that is this function, where it is there
+abbrev pub destroyer_item : Lowered → Option ExportItem
+destroyer_item l = live_item l.«module» (destroyer l.aux)
+
 -- ---- what an instruction takes
 
 -- what a description names as a part, where the instruction goes by it
@@ -70,9 +90,13 @@ part_taken aux i part = if goes_by i part then listed (part_named aux part) else
 abbrev pub parts_taken : WasmBindgenAux → Instruction → List ExportItem
 parts_taken aux i = part_taken aux i parts.Alloc ++ (part_taken aux i parts.Drop ++ (part_taken aux i parts.DropSlice ++ part_taken aux i parts.Table))
 
+-- the function that destroys closures, where the instruction makes one
+abbrev pub destroyer_taken : WasmBindgenAux → Instruction → List ExportItem
+destroyer_taken aux i = if makes_closure i then listed (destroyer aux) else []
+
 -- what an instruction names, by its ids and as parts
 abbrev pub named_by : (externref : Bool) → WasmBindgenAux → Instruction → List ExportItem
-named_by externref aux i = instruction_items i ++ (if externref then parts_taken aux i else [])
+named_by externref aux i = instruction_items i ++ ((if externref then parts_taken aux i else []) ++ destroyer_taken aux i)
 
 -- the items that an instruction takes, as far as they are there
 abbrev pub needed_items : Settings → Lowered → Instruction → List ExportItem

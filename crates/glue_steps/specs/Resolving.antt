@@ -11,6 +11,7 @@ use Rattle.wasm_core.specs.entries.Export.{Export}
 use Rattle.wasm_core.specs.entries.ExportItem.{ExportItem}
 use Rattle.wasm_core.specs.entries.ExportItem.TheVariants as items
 use Rattle.wasm_core.specs.Contents.{Contents}
+use Rattle.wasm_core.specs.ids.ExportId.{ExportId}
 use Rattle.wasm_core.specs.ids.FuncId.{FuncId}
 use Rattle.wasm_core.specs.ids.MemoryId.{MemoryId}
 use Rattle.wasm_core.specs.ids.TableId.{TableId}
@@ -210,6 +211,40 @@ result_written offset ty memory = steps.StoreReturn (view_helper memory) offset 
 abbrev pub list_named : (enum : List ℕ) → List ℕ
 list_named enum = codes "__wbindgen_enum_" ++ enum
 
+-- the export after which the function of a closure's adapter is named: the first that is given for the adapter
+abbrev pub callback_of : List (ExportId × ℕ) → ℕ → Option ExportId
+callback_of entries id = option_map (λ (e : ExportId × ℕ). e.0) (find (λ (e : ExportId × ℕ). e.1 == id) entries)
+
+-- the name of the export at a place
+abbrev pub name_at_place : Contents → ExportId → Option (List ℕ)
+name_at_place m id = option_map (λ (e : Export). e.name) (entry_at m.exports id.0)
+
+-- the name of the function of a closure's adapter: that of this export
+abbrev pub callback_name : Lowered → ℕ → Option (List ℕ)
+callback_name l id = option_and_then (name_at_place l.«module») (callback_of l.wit.exports id)
+
+-- the helper that makes closures, those that change what they hold or not
+abbrev pub closure_helper : (mutable : Bool) → List ℕ
+closure_helper true = codes "makeMutClosure"
+closure_helper false = codes "makeClosure"
+
+-- a closure is made, with the function of its adapter
+abbrev pub closure_made : Lowered → ℕ → (mutable : Bool) → Option Step
+closure_made l id mutable = option_map (steps.MakeClosure (closure_helper mutable)) (callback_name l id)
+
+-- the step that an instruction is which passes values through memory or takes room there, or else passes one by a handle
+abbrev pub passing_step : Settings → NameMap → Lowered → Instruction → Option Step
+passing_step s names l (instr.StringToMemory malloc realloc memory) = Some (string_written names false malloc realloc memory)
+passing_step s names l (instr.OptionStringToMemory malloc realloc memory) = Some (string_written names true malloc realloc memory)
+passing_step s names l (instr.MemoryToString memory) = Some (steps.CallHelper (codes "getStringFromWasm" ++ decimal memory.0) 2)
+passing_step s names l (instr.DeferFree free align) = Some (steps.DeferFree (export_named names (Some (items.Func free))) align)
+passing_step s names l (instr.VecFromWasm kind memory) = Some (vector_read kind memory)
+passing_step s names l (instr.VecToWasm kind malloc memory) = Some (vector_written names kind malloc memory)
+passing_step s names l (instr.Retptr size) = Some (steps.ReturnPointer size)
+passing_step s names l (instr.LoadRetptr offset ty memory) = Some (result_read offset ty memory)
+passing_step s names l (instr.StoreRetptr offset ty memory) = Some (result_written offset ty memory)
+passing_step s names l other = handle_step s l other
+
 -- the step that an instruction is, where it is built
 abbrev pub step_of : Settings → NameMap → Lowered → Instruction → Option Step
 step_of s names l (instr.ArgGet n) = Some (steps.Parameter n)
@@ -223,18 +258,10 @@ step_of s names l instr.I32FromBool = Some steps.Unchanged
 step_of s names l (instr.WasmToInt64 false) = Some steps.Unchanged
 step_of s names l (instr.WasmToInt64 true) = Some steps.ToUnsigned64
 step_of s names l instr.BoolFromI32 = Some steps.IsNotZero
-step_of s names l (instr.StringToMemory malloc realloc memory) = Some (string_written names false malloc realloc memory)
-step_of s names l (instr.OptionStringToMemory malloc realloc memory) = Some (string_written names true malloc realloc memory)
-step_of s names l (instr.MemoryToString memory) = Some (steps.CallHelper (codes "getStringFromWasm" ++ decimal memory.0) 2)
-step_of s names l (instr.DeferFree free align) = Some (steps.DeferFree (export_named names (Some (items.Func free))) align)
-step_of s names l (instr.VecFromWasm kind memory) = Some (vector_read kind memory)
-step_of s names l (instr.VecToWasm kind malloc memory) = Some (vector_written names kind malloc memory)
-step_of s names l (instr.Retptr size) = Some (steps.ReturnPointer size)
-step_of s names l (instr.LoadRetptr offset ty memory) = Some (result_read offset ty memory)
-step_of s names l (instr.StoreRetptr offset ty memory) = Some (result_written offset ty memory)
+step_of s names l (instr.Closure id mutable) = closure_made l id mutable
 step_of s names l (instr.EnumIndex name) = Some (steps.IndexOf (list_named name))
 step_of s names l (instr.EnumText name) = Some (steps.ItemAt (list_named name))
-step_of s names l other = handle_step s l other
+step_of s names l other = passing_step s names l other
 
 abbrev pub with_step : Option Step → Option (List Step) → Option (List Step)
 with_step None rest = None
@@ -268,4 +295,5 @@ helper_of s l (instr.VecFromWasm kind memory) = Some (reading_helper kind memory
 helper_of s l (instr.VecToWasm kind malloc memory) = Some (writing_helper kind memory)
 helper_of s l (instr.LoadRetptr offset ty memory) = Some (view_helper memory)
 helper_of s l (instr.StoreRetptr offset ty memory) = Some (view_helper memory)
+helper_of s l (instr.Closure id mutable) = Some (closure_helper mutable)
 helper_of s l other = None

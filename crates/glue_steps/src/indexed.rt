@@ -1,18 +1,22 @@
-//! A module and its description, with an index of what is said of import adapters.
+//! A module and its description, with an index of what is said of import adapters, and of the exports of those of closures.
 ghost use Rattle.std.specs.Prelude.{◌≡◌, IfOk};
 ghost use Rattle.std.specs.Option.{option_copied};
 ghost use Rattle.glue_steps.specs.Resolving as spec;
 
+use crate::callbacks::Callbacks;
 use glue_shared::{AdapterId, AuxImport, DescribedImports, IdSet, Lowered};
 use std::alloc::{AllocError, Global};
 use std::marker::Model;
+use wasm_core::ExportId;
 
-/// A module with its description, and an index of what it says of import adapters. A contract sees the module with its description.
+/// A module with its description, and an index of what it says of import adapters, and of the exports of those of closures. A contract sees
+/// the module with its description.
 #[derive(Drop)]
 pub struct Indexed<'a> {
     lowered: &'a Lowered,
     imports: DescribedImports<'a>,
     spread: IdSet,
+    callbacks: Callbacks<'a>,
 }
 
 impl<'a> Model for Indexed<'a> {
@@ -28,7 +32,8 @@ impl<'a> Model for Indexed<'a> {
     ghost view = { λ indexed. indexed.lowered.now };
 
     ghost invariant = { λ indexed. (indexed.imports ≡ indexed.lowered.now.aux.imports)
-        × (indexed.spread ≡ indexed.lowered.now.aux.imports_with_variadic) };
+        × (indexed.spread ≡ indexed.lowered.now.aux.imports_with_variadic)
+        × (indexed.callbacks ≡ indexed.lowered.now.wit.exports) };
 }
 
 // The ids of a list.
@@ -49,10 +54,12 @@ impl<'a> Indexed<'a> {
     {
         let imports = DescribedImports::new(alloc, lowered.aux.imports.as_slice())?;
         let spread = id_set(alloc, lowered.aux.imports_with_variadic.as_slice())?;
+        let callbacks = Callbacks::new(alloc, lowered.wit.exports.as_slice())?;
         Ok(Indexed {
             lowered,
             imports,
             spread,
+            callbacks,
         })
     }
 
@@ -75,5 +82,11 @@ impl<'a> Indexed<'a> {
         ensures test { result ≡ spec.is_spread self.now id }
     {
         self.spread.has(id.0)
+    }
+    /// The export after which the function of a closure's adapter is named.
+    pub fn callback(&self, id: AdapterId) -> Option<ExportId>
+        ensures found { result ≡ spec.callback_of self.now.wit.exports id }
+    {
+        self.callbacks.get(id)
     }
 }

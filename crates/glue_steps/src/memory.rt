@@ -61,13 +61,17 @@ fn writing_helper(alloc: Global, kind: VectorKind, memory: MemoryId) -> Result<T
 }
 
 /// The step of a vector that is read: it is copied, and one of any values is made by the helper.
-pub fn vector_read(alloc: Global, kind: VectorKind, memory: MemoryId) -> Result<Step, AllocError>
-    ensures step { IfOk result (λ step. step ≡ spec.vector_read kind memory) }
+pub fn vector_read(
+    alloc: Global,
+    kind: VectorKind,
+    memory: MemoryId,
+) -> Result<Option<Step>, AllocError>
+    ensures step { IfOk result (λ step. step ≡ Some (spec.vector_read kind memory)) }
 {
     let helper = reading_helper(alloc, kind, memory)?;
     match kind {
-        VectorKind::Value => Ok(Step::CallHelper { helper, params: 2 }),
-        _ => Ok(Step::CopyOut { helper }),
+        VectorKind::Value => Ok(Some(Step::CallHelper { helper, params: 2 })),
+        _ => Ok(Some(Step::CopyOut { helper })),
     }
 }
 
@@ -110,26 +114,26 @@ pub fn string_written(
     malloc: FuncId,
     realloc: Option<FuncId>,
     memory: MemoryId,
-) -> Result<Step, AllocError>
-    ensures step { IfOk result (λ step. step ≡ spec.string_written names.now optional malloc realloc memory) }
+) -> Result<Option<Step>, AllocError>
+    ensures step { IfOk result (λ step. step ≡ Some (spec.string_written names.now optional malloc realloc memory)) }
 {
     let place = memory.0;
-    Ok(Step::PassToMemory {
+    Ok(Some(Step::PassToMemory {
         helper: Text::new(format!(in alloc; "passStringToWasm{place}")?),
         exports: functions_named(alloc, names, malloc, realloc)?,
         optional,
-    })
+    }))
 }
 
 /// The step of a string that is read.
-pub fn string_read(alloc: Global, memory: MemoryId) -> Result<Step, AllocError>
-    ensures step { IfOk result (λ step. step ≡ steps.CallHelper (codes "getStringFromWasm" ++ decimal memory.0) 2) }
+pub fn string_read(alloc: Global, memory: MemoryId) -> Result<Option<Step>, AllocError>
+    ensures step { IfOk result (λ step. step ≡ Some (steps.CallHelper (codes "getStringFromWasm" ++ decimal memory.0) 2)) }
 {
     let place = memory.0;
-    Ok(Step::CallHelper {
+    Ok(Some(Step::CallHelper {
         helper: Text::new(format!(in alloc; "getStringFromWasm{place}")?),
         params: 2,
-    })
+    }))
 }
 
 /// The step of a vector that is written.
@@ -139,25 +143,30 @@ pub fn vector_written(
     kind: VectorKind,
     malloc: FuncId,
     memory: MemoryId,
-) -> Result<Step, AllocError>
-    ensures step { IfOk result (λ step. step ≡ spec.vector_written names.now kind malloc memory) }
+) -> Result<Option<Step>, AllocError>
+    ensures step { IfOk result (λ step. step ≡ Some (spec.vector_written names.now kind malloc memory)) }
 {
-    Ok(Step::PassToMemory {
+    Ok(Some(Step::PassToMemory {
         helper: writing_helper(alloc, kind, memory)?,
         exports: functions_named(alloc, names, malloc, None)?,
         optional: false,
-    })
+    }))
 }
 
 /// The step of what is freed in the end.
-pub fn freed(alloc: Global, names: &NameMap, free: FuncId, align: u32) -> Result<Step, AllocError>
-    ensures step { IfOk result (λ step. step ≡ steps.DeferFree (spec.export_named names.now (Some (items.Func free))) align) }
+pub fn freed(
+    alloc: Global,
+    names: &NameMap,
+    free: FuncId,
+    align: u32,
+) -> Result<Option<Step>, AllocError>
+    ensures step { IfOk result (λ step. step ≡ Some (steps.DeferFree (spec.export_named names.now (Some (items.Func free))) align)) }
 {
     let name = export_named(names, Some(ExportItem::Func(free)));
-    Ok(Step::DeferFree {
+    Ok(Some(Step::DeferFree {
         free: Text::from_str(alloc, name)?,
         align,
-    })
+    }))
 }
 
 // The helper that gives a view of a memory.
@@ -181,14 +190,14 @@ pub fn result_read(
     offset: u32,
     ty: ValType,
     memory: MemoryId,
-) -> Result<Step, AllocError>
-    ensures step { IfOk result (λ step. step ≡ spec.result_read offset ty memory) }
+) -> Result<Option<Step>, AllocError>
+    ensures step { IfOk result (λ step. step ≡ Some (spec.result_read offset ty memory)) }
 {
-    Ok(Step::LoadReturn {
+    Ok(Some(Step::LoadReturn {
         view: view_helper(alloc, memory)?,
         offset,
         is_wide: is_wide(ty),
-    })
+    }))
 }
 
 /// The step of a result that is written to the room that a caller took.
@@ -197,12 +206,12 @@ pub fn result_written(
     offset: u32,
     ty: ValType,
     memory: MemoryId,
-) -> Result<Step, AllocError>
-    ensures step { IfOk result (λ step. step ≡ spec.result_written offset ty memory) }
+) -> Result<Option<Step>, AllocError>
+    ensures step { IfOk result (λ step. step ≡ Some (spec.result_written offset ty memory)) }
 {
-    Ok(Step::StoreReturn {
+    Ok(Some(Step::StoreReturn {
         view: view_helper(alloc, memory)?,
         offset,
         is_wide: is_wide(ty),
-    })
+    }))
 }

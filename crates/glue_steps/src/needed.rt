@@ -1,4 +1,5 @@
-//! What an instruction takes of the module: what its ids name, and parts of the description for values that are kept in a table of references.
+//! What an instruction takes of the module: what its ids name, and parts of the description, for values that are kept in a table of references
+//! and for closures.
 ghost use Rattle.std.specs.Prelude.{◌≡◌, ◌++◌, if◌then◌else◌, [], IfOk, OnOk};
 ghost use Rattle.glue_shared.specs.Roots.{live_item};
 ghost use Rattle.glue_steps.specs.Needed as spec;
@@ -124,6 +125,36 @@ fn push_parts(
     push_part(out, aux, instruction, ReferencePart::Table)
 }
 
+/// Whether an instruction makes a closure.
+pub fn makes_closure(instruction: &Instruction) -> bool
+    ensures test { result ≡ spec.makes_closure instruction.now }
+{
+    matches!(instruction, Instruction::Closure(_, _))
+}
+
+/// The item of the module that is the function that destroys closures, where the description names one and it is there.
+pub fn destroyer_item(lowered: &Lowered) -> Option<ExportItem>
+    ensures item { result ≡ spec.destroyer_item lowered.now }
+{
+    live_item(&lowered.module, func_item(lowered.aux.destroy_closure))
+}
+
+// Adds the function that destroys closures, where an instruction makes one.
+fn push_destroyer(
+    out: &mut Vec<ExportItem>,
+    aux: &WasmBindgenAux,
+    instruction: &Instruction,
+) -> Result<(), AllocError>
+    ensures pushed { OnOk result (out.new.items ≡ out.old.items ++ spec.destroyer_taken aux.now instruction.now) }
+{
+    if makes_closure(instruction) {
+        if let Some(item) = func_item(aux.destroy_closure) {
+            out.push(item)?;
+        }
+    }
+    Ok(())
+}
+
 // What an instruction names, by its ids and as parts.
 fn named_by(
     alloc: Global,
@@ -138,11 +169,12 @@ fn named_by(
     if settings.externref {
         push_parts(&mut named, aux, instruction)?;
     }
+    push_destroyer(&mut named, aux, instruction)?;
     Ok(named)
 }
 
-/// The items of the module that an instruction takes, as far as they are there: those that its ids name, and, where values are kept in a table
-/// of references, the parts that it goes by. Want of memory is the only error.
+/// The items of the module that an instruction takes, as far as they are there: those that its ids name, where values are kept in a table
+/// of references the parts that it goes by, and where it makes a closure the function that destroys closures. Want of memory is the only error.
 pub fn needed_items(
     alloc: Global,
     settings: &Settings,

@@ -275,6 +275,79 @@ fn list_named(alloc: Global, name: &Text) -> Result<Text, AllocError>
     Ok(list)
 }
 
+// The helper that makes closures, those that change what they hold or not.
+fn closure_helper(mutable: bool) -> &'static str
+    ensures helper { result.now ≡ spec.closure_helper mutable }
+{
+    if mutable {
+        "makeMutClosure"
+    } else {
+        "makeClosure"
+    }
+}
+
+/// The name of the function of a closure's adapter: that of the first export of the adapter, where it stands.
+pub fn callback_name<'a>(indexed: &'a Indexed<'_>, id: AdapterId) -> Option<&'a Text>
+    ensures name { option_copied result ≡ spec.callback_name indexed.now id }
+{
+    let export = indexed.callback(id)?;
+    let entry = indexed.lowered().module.exports().get(export.0 as usize)?;
+    match entry {
+        Some(export) => Some(&export.name),
+        None => None,
+    }
+}
+
+// A closure is made, with the function of its adapter.
+fn closure_made(
+    alloc: Global,
+    indexed: &Indexed<'_>,
+    id: AdapterId,
+    mutable: bool,
+) -> Result<Option<Step>, AllocError>
+    ensures step { IfOk result (λ step. step ≡ spec.closure_made indexed.now id mutable) }
+{
+    match callback_name(indexed, id) {
+        None => Ok(None),
+        Some(name) => Ok(Some(Step::MakeClosure {
+            helper: Text::from_str(alloc, closure_helper(mutable))?,
+            function: name.copy(alloc)?,
+        })),
+    }
+}
+
+// The step that an instruction is which passes values through memory or takes room there, or else passes one by a handle.
+fn passing_step(
+    alloc: Global,
+    basis: &Basis<'_>,
+    lowered: &Lowered,
+    instruction: &Instruction,
+) -> Result<Option<Step>, AllocError>
+    ensures step { IfOk result (λ step. step ≡ spec.passing_step basis.now.settings.now basis.now.names.now lowered.now instruction.now) }
+{
+    let names = basis.names;
+    match instruction {
+        Instruction::StringToMemory(malloc, realloc, memory) => {
+            string_written(alloc, names, false, *malloc, *realloc, *memory)
+        }
+        Instruction::OptionStringToMemory(malloc, realloc, memory) => {
+            string_written(alloc, names, true, *malloc, *realloc, *memory)
+        }
+        Instruction::MemoryToString(memory) => string_read(alloc, *memory),
+        Instruction::DeferFree(free, align) => freed(alloc, names, *free, *align),
+        Instruction::VecFromWasm(kind, memory) => vector_read(alloc, *kind, *memory),
+        Instruction::VecToWasm(kind, malloc, memory) => {
+            vector_written(alloc, names, *kind, *malloc, *memory)
+        }
+        Instruction::Retptr(size) => Ok(Some(Step::ReturnPointer { size: *size })),
+        Instruction::LoadRetptr(offset, ty, memory) => result_read(alloc, *offset, *ty, *memory),
+        Instruction::StoreRetptr(offset, ty, memory) => {
+            result_written(alloc, *offset, *ty, *memory)
+        }
+        other => handle_step(alloc, basis.settings, lowered, other),
+    }
+}
+
 // The step that an instruction is, where it is built.
 fn step_of(
     alloc: Global,
@@ -295,46 +368,14 @@ fn step_of(
         }
         Instruction::WasmToInt64(true) => Ok(Some(Step::ToUnsigned64)),
         Instruction::BoolFromI32 => Ok(Some(Step::IsNotZero)),
-        Instruction::StringToMemory(malloc, realloc, memory) => Ok(Some(string_written(
-            alloc,
-            basis.names,
-            false,
-            *malloc,
-            *realloc,
-            *memory,
-        )?)),
-        Instruction::OptionStringToMemory(malloc, realloc, memory) => Ok(Some(string_written(
-            alloc,
-            basis.names,
-            true,
-            *malloc,
-            *realloc,
-            *memory,
-        )?)),
-        Instruction::MemoryToString(memory) => Ok(Some(string_read(alloc, *memory)?)),
-        Instruction::DeferFree(free, align) => Ok(Some(freed(alloc, basis.names, *free, *align)?)),
-        Instruction::VecFromWasm(kind, memory) => Ok(Some(vector_read(alloc, *kind, *memory)?)),
-        Instruction::VecToWasm(kind, malloc, memory) => Ok(Some(vector_written(
-            alloc,
-            basis.names,
-            *kind,
-            *malloc,
-            *memory,
-        )?)),
-        Instruction::Retptr(size) => Ok(Some(Step::ReturnPointer { size: *size })),
-        Instruction::LoadRetptr(offset, ty, memory) => {
-            Ok(Some(result_read(alloc, *offset, *ty, *memory)?))
-        }
-        Instruction::StoreRetptr(offset, ty, memory) => {
-            Ok(Some(result_written(alloc, *offset, *ty, *memory)?))
-        }
+        Instruction::Closure(id, mutable) => closure_made(alloc, indexed, *id, *mutable),
         Instruction::EnumIndex(name) => Ok(Some(Step::IndexOf {
             list: list_named(alloc, name)?,
         })),
         Instruction::EnumText(name) => Ok(Some(Step::ItemAt {
             list: list_named(alloc, name)?,
         })),
-        other => handle_step(alloc, basis.settings, indexed.lowered(), other),
+        other => passing_step(alloc, basis, indexed.lowered(), other),
     }
 }
 

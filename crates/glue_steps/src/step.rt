@@ -96,6 +96,14 @@ pub enum Step {
         /// Whether it has 64 bits, and not 32.
         is_wide: bool,
     },
+    /// Pops an address and what goes with it, and pushes a function that calls back into the module with both, which a helper makes of them
+    /// and of a function of the file.
+    MakeClosure {
+        /// The helper's name.
+        helper: Text,
+        /// The name of the file's function.
+        function: Text,
+    },
     /// Pops a text of a string enum, and pushes its place in the enum's list, counted from 0, or -1 where it doesn't stand there.
     IndexOf {
         /// The list's name.

@@ -1,5 +1,5 @@
-//! Functions of steps that pass strings, vectors and results through memory, or texts through lists: steps, the names that the parameters
-//! want, and the text.
+//! Functions of steps that pass strings, vectors and results through memory, or texts through lists, or make closures: steps, the names that
+//! the parameters want, and the text.
 use crate::compare::assert_told;
 use glue_binding::bind;
 use glue_inputs::{printed, texts};
@@ -34,6 +34,8 @@ enum Row {
     Load64(&'static str, u32),
     Store32(&'static str, u32),
     Store64(&'static str, u32),
+    /// What a helper makes of two operands and of a function of the file.
+    Closure(&'static str, &'static str),
     /// The place of a text in a list, and the text at a place.
     IndexOf(&'static str),
     ItemAt(&'static str),
@@ -108,6 +110,10 @@ fn step(alloc: Global, row: Row) -> Result<Step, AllocError> {
         Row::Load64(view, offset) => load(alloc, view, offset, true),
         Row::Store32(view, offset) => store(alloc, view, offset, false),
         Row::Store64(view, offset) => store(alloc, view, offset, true),
+        Row::Closure(helper, function) => Ok(Step::MakeClosure {
+            helper: Text::from_str(alloc, helper)?,
+            function: Text::from_str(alloc, function)?,
+        }),
         Row::IndexOf(name) => Ok(Step::IndexOf {
             list: Text::from_str(alloc, name)?,
         }),
@@ -383,4 +389,34 @@ const LISTS: &[Case] = &[
 #[test]
 fn texts_of_string_enums_pass_as_their_places(rt: HostRuntime) -> Result<(), AllocError> {
     assert_all(&rt, rt.alloc(), LISTS)
+}
+
+const CLOSURES: &[Case] = &[
+    // The function stands behind the operands, the older of them first.
+    (
+        &[
+            Row::Parameter(0),
+            Row::Parameter(1),
+            Row::Closure("makeMutClosure", "on_click"),
+        ],
+        &["arg0", "arg1"],
+        "(arg0, arg1) {\nconst v0 = makeMutClosure(arg0, arg1, on_click);\nreturn v0;\n}",
+    ),
+    // Its name is no parameter's, and what is made has a number.
+    (
+        &[
+            Row::Parameter(0),
+            Row::Unsigned,
+            Row::Parameter(1),
+            Row::Closure("makeClosure", "on_click"),
+            Row::Helper("addHeapObject", 1),
+        ],
+        &["on_click", "makeClosure"],
+        "(on_click2, makeClosure2) {\nconst v0 = makeClosure(on_click2 >>> 0, makeClosure2, on_click);\nconst v1 = addHeapObject(v0);\nreturn v1;\n}",
+    ),
+];
+
+#[test]
+fn a_closure_is_made_with_a_function_of_the_file(rt: HostRuntime) -> Result<(), AllocError> {
+    assert_all(&rt, rt.alloc(), CLOSURES)
 }

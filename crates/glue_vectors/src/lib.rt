@@ -8,6 +8,8 @@
 #[cfg(test)]
 mod adapters;
 #[cfg(test)]
+mod closures;
+#[cfg(test)]
 mod compare;
 #[cfg(test)]
 mod evaluator;

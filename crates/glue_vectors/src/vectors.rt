@@ -35,6 +35,8 @@ pub enum Row {
     /// parameter.
     Load(&'static str, u32),
     Store(&'static str, u32),
+    /// What a helper makes of two operands and of a function of the file.
+    Closure(&'static str, &'static str),
     /// The place of a text in a list, and the text at a place.
     IndexOf(&'static str),
     ItemAt(&'static str),
@@ -91,6 +93,10 @@ fn step(alloc: Global, row: Row) -> Result<Step, AllocError> {
             view: Text::from_str(alloc, view)?,
             offset,
             is_wide: false,
+        },
+        Row::Closure(helper, function) => Step::MakeClosure {
+            helper: Text::from_str(alloc, helper)?,
+            function: Text::from_str(alloc, function)?,
         },
         Row::IndexOf(name) => Step::IndexOf {
             list: Text::from_str(alloc, name)?,

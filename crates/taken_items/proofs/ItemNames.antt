@@ -38,11 +38,11 @@ use Rattle.glue_names.proofs.Globals.{from_flat, in_flat, some_of}
 use Rattle.glue_names.proofs.Called.{callee_is, number_in}
 use Rattle.glue_names.proofs.MappedLists.{from_part, in_map, in_where, where_true}
 use Rattle.glue_names.specs.Naming.{shim_name, start_name}
-use Rattle.glue_names.specs.Printed.{code_by, export_code, pair_code, printed_code}
+use Rattle.printed_adapters.specs.Printed.{code_by, export_code, outer_code, pair_code, printed_code, used_closures}
 use Rattle.glue_steps.specs.Exported.{export_name, export_names}
 use Rattle.glue_steps.specs.Needed.{named_by, needed_items}
 use Rattle.glue_steps.specs.Resolving.{item_order}
-use Rattle.taken_items.specs.Asked.{asked_items, called_item, code_asks, export_asks, instruction_asks, pair_asks}
+use Rattle.taken_items.specs.Asked.{asked_items, called_item, closure_asks, code_asks, export_asks, instruction_asks, pair_asks}
 use Rattle.taken_items.specs.ItemNames.{AreFresh, added, added_exports, bound_exports, bound_with, each_item, export_of, free_number, fresh_name, further_exports, gives, item_map, item_name, item_names, named_items, put_named, wanted_export, with_item}
 
 -- ---- fresh names
@@ -343,18 +343,31 @@ module _ (s : Settings) (l : Lowered) where
   abbrev pub names_with_added : List (List ℕ)
   names_with_added = export_names l.«module» ++ map (λ (e : List ℕ × ExportItem). e.0) (added_exports s l)
 
+  -- those that the adapters of own imports and of closures that are used ask for
+  abbrev others : List ExportItem
+  others = flat_map (pair_asks s own l) l.wit.implements ++ flat_map (closure_asks s l) (used_closures s l)
+
   -- what an instruction of an adapter that becomes a function asks for is asked for
   pub printed_asked : (i : Instruction) (item : ExportItem) → IsIn i (printed_code s l) → IsIn item (instruction_asks s l i) → IsIn item (asked_items s l)
-  printed_asked i item at asks = elim (in_either i (flat_map (export_code l) l.aux.exports) (flat_map (pair_code own l) l.wit.implements) at) [
-    | inl first ↦
-        let e = from_flat (export_code l) l.aux.exports i first in
-        in_left item (flat_map (export_asks s l) l.aux.exports) (flat_map (pair_asks s own l) l.wit.implements)
-        (in_flat (export_asks s l) l.aux.exports e.0 item e.1 (in_flat (instruction_asks s l) (export_code l e.0) i item e.2 asks))
-    | inr second ↦
-        let p = from_flat (pair_code own l) l.wit.implements i second in
-        in_right item (flat_map (export_asks s l) l.aux.exports) (flat_map (pair_asks s own l) l.wit.implements)
-        (in_flat (pair_asks s own l) l.wit.implements p.0 item p.1 (in_flat (instruction_asks s l) (pair_code own l p.0) i item p.2 asks))
+  printed_asked i item at asks = elim (in_either i (outer_code s l) (flat_map (code_by l) (used_closures s l)) at) [
+    | inl outer ↦ by_outer (in_either i (flat_map (export_code l) l.aux.exports) (flat_map (pair_code own l) l.wit.implements) outer)
+    | inr third ↦
+        let c = from_flat (code_by l) (used_closures s l) i third in
+        in_right item (flat_map (export_asks s l) l.aux.exports) others
+        (in_right item (flat_map (pair_asks s own l) l.wit.implements) (flat_map (closure_asks s l) (used_closures s l))
+        (in_flat (closure_asks s l) (used_closures s l) c.0 item c.1 (in_flat (instruction_asks s l) (code_by l c.0) i item c.2 asks)))
   ]
+    where
+      by_outer : IsIn i (flat_map (export_code l) l.aux.exports) ⊎ IsIn i (flat_map (pair_code own l) l.wit.implements) → IsIn item (asked_items s l)
+      by_outer (inl first) =
+          let e = from_flat (export_code l) l.aux.exports i first in
+          in_left item (flat_map (export_asks s l) l.aux.exports) others
+          (in_flat (export_asks s l) l.aux.exports e.0 item e.1 (in_flat (instruction_asks s l) (export_code l e.0) i item e.2 asks))
+      by_outer (inr second) =
+          let p = from_flat (pair_code own l) l.wit.implements i second in
+          in_right item (flat_map (export_asks s l) l.aux.exports) others
+          (in_left item (flat_map (pair_asks s own l) l.wit.implements) (flat_map (closure_asks s l) (used_closures s l))
+          (in_flat (pair_asks s own l) l.wit.implements p.0 item p.1 (in_flat (instruction_asks s l) (pair_code own l p.0) i item p.2 asks)))
 
   -- so is what such an instruction takes
   pub needed_asked : (i : Instruction) (item : ExportItem) → IsIn i (printed_code s l) → IsIn item (needed_items s l i) → IsIn item (asked_items s l)
@@ -374,7 +387,7 @@ module _ (s : Settings) (l : Lowered) where
       (subst (λ (o : Option ExportItem). IsIn item (listed o)) (sym given) (inl refl))) in
       let at = in_right step.0 (flat_map (export_code l) l.aux.exports) (flat_map (pair_code own l) l.wit.implements)
       (in_flat (pair_code own l) l.wit.implements pair.0 step.0 pair.1 (where_true step.0 code (has_number pair.0.0.0 own) call.1 step.1)) in
-      printed_asked step.0 item at (in_left item (called_item l step.0) (needed_items s l step.0) there)
+      printed_asked step.0 item (in_left step.0 (outer_code s l) (flat_map (code_by l) (used_closures s l)) at) (in_left item (called_item l step.0) (needed_items s l step.0) there)
 
   -- an export of the module gives an item under this name, or one that is added does
   abbrev pub IsGivenAs : ExportItem → List ℕ → Type 0
@@ -455,10 +468,15 @@ module _ (s : Settings) (l : Lowered) where
   code_live code item at = let step = from_flat (instruction_asks s l) code item at in asks_live step.0 item step.2
 
   asked_live : (item : ExportItem) → IsIn item (asked_items s l) → is_live_item l.«module» item ≡ true
-  asked_live item at = elim (in_either item (flat_map (export_asks s l) l.aux.exports) (flat_map (pair_asks s own l) l.wit.implements) at) [
+  asked_live item at = elim (in_either item (flat_map (export_asks s l) l.aux.exports) others at) [
     | inl first ↦ let e = from_flat (export_asks s l) l.aux.exports item first in code_live (export_code l e.0) item e.2
-    | inr second ↦ let p = from_flat (pair_asks s own l) l.wit.implements item second in code_live (pair_code own l p.0) item p.2
+    | inr later ↦ by (in_either item (flat_map (pair_asks s own l) l.wit.implements) (flat_map (closure_asks s l) (used_closures s l)) later)
   ]
+    where
+      by : IsIn item (flat_map (pair_asks s own l) l.wit.implements) ⊎ IsIn item (flat_map (closure_asks s l) (used_closures s l))
+          → is_live_item l.«module» item ≡ true
+      by (inl second) = let p = from_flat (pair_asks s own l) l.wit.implements item second in code_live (pair_code own l p.0) item p.2
+      by (inr third) = let c = from_flat (closure_asks s l) (used_closures s l) item third in code_live (code_by l c.0) item c.2
 
   -- so does each that is exported besides
   pub added_live : (e : List ℕ × ExportItem) → IsIn e (added_exports s l) → is_live_item l.«module» e.1 ≡ true

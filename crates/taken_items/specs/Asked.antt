@@ -12,7 +12,7 @@ use Rattle.glue_shared.specs.Names.{entry_of, own_imports}
 use Rattle.glue_shared.specs.Roots.{listed}
 use Rattle.glue_imports.specs.Given.{given_item}
 use Rattle.glue_steps.specs.Needed.{needed_items}
-use Rattle.glue_names.specs.Printed.{export_code, pair_code}
+use Rattle.printed_adapters.specs.Printed.{code_by, export_code, pair_code, used_closures}
 
 -- the item that is given by what an instruction calls, by what is described of that import adapter
 abbrev pub called_item : Lowered → Instruction → List ExportItem
@@ -35,7 +35,12 @@ export_asks s l e = code_asks s l (export_code l e)
 abbrev pub pair_asks : Settings → List ℕ → Lowered → ImportId × ℕ → List ExportItem
 pair_asks s own l pair = code_asks s l (pair_code own l pair)
 
--- those that the adapters of exports and of own imports ask for
+-- those that the adapter of a closure asks for
+abbrev pub closure_asks : Settings → Lowered → ℕ → List ExportItem
+closure_asks s l id = code_asks s l (code_by l id)
+
+-- those that the adapters of exports, of own imports, and of closures that are used ask for
 abbrev pub asked_items : Settings → Lowered → List ExportItem
 asked_items s l =
-    flat_map (export_asks s l) l.aux.exports ++ flat_map (pair_asks s (own_imports s l.«module» l.wit l.aux) l) l.wit.implements
+    flat_map (export_asks s l) l.aux.exports
+    ++ (flat_map (pair_asks s (own_imports s l.«module» l.wit l.aux) l) l.wit.implements ++ flat_map (closure_asks s l) (used_closures s l))

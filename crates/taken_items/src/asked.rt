@@ -3,13 +3,13 @@ ghost use Rattle.std.specs.Prelude.{◌≡◌, ◌++◌, IfOk, OnOk};
 ghost use Rattle.std.specs.List.{flat_map};
 ghost use Rattle.glue_shared.specs.Roots.{listed};
 ghost use Rattle.glue_steps.specs.Needed.{needed_items};
-ghost use Rattle.glue_names.specs.Printed.{code_by};
+ghost use Rattle.printed_adapters.specs.Printed.{code_by};
 ghost use Rattle.taken_items.specs.Asked as spec;
 
 use glue_imports::given_item;
-use glue_names::own_places;
 use glue_shared::{AdapterId, AuxExport, IdSet, Instruction, Lowered, Settings, code_of};
 use glue_steps::{Indexed, needed_items};
+use printed_adapters::{own_places, used_closures};
 use std::alloc::{AllocError, Global};
 use values::Seq;
 use wasm_core::{ExportItem, ImportId};
@@ -150,7 +150,23 @@ fn pairs_asked(
     Ok(asked)
 }
 
-/// Those that the adapters of exports and of own imports ask for. Want of memory is the only error.
+// Those that the adapters of these closures ask for.
+fn closures_asked(
+    alloc: Global,
+    settings: &Settings,
+    indexed: &Indexed<'_>,
+    ids: &[AdapterId],
+) -> Result<Seq<ExportItem>, AllocError>
+    ensures asked { IfOk result (λ asked. asked ≡ flat_map (spec.closure_asks settings.now indexed.now) ids.now) }
+{
+    let mut asked = Seq::new(alloc);
+    for id in ids {
+        push_adapter(alloc, settings, indexed, *id, &mut asked)?;
+    }
+    Ok(asked)
+}
+
+/// Those that the adapters of exports, of own imports, and of closures that are used ask for. Want of memory is the only error.
 pub(crate) fn asked_items(
     alloc: Global,
     settings: &Settings,
@@ -168,6 +184,9 @@ pub(crate) fn asked_items(
         &indexed,
         lowered.wit.implements.as_slice(),
     )?;
+    let closures = used_closures(alloc, settings, lowered)?;
+    let called = closures_asked(alloc, settings, &indexed, closures.as_slice())?;
     asked.append(others)?;
+    asked.append(called)?;
     Ok(asked)
 }

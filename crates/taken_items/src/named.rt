@@ -11,9 +11,10 @@ ghost use Rattle.glue_steps.specs.Resolving.{entry_at};
 ghost use Rattle.taken_items.specs.ItemNames as spec;
 
 use crate::asked::asked_items;
-use glue_names::{SHIM, START, with_name};
+use glue_names::{START, with_name};
 use glue_scope::Names;
 use glue_shared::{Lowered, Settings};
+use printed_adapters::SHIM;
 use std::alloc::{AllocError, Global};
 use std::cmp::Ordering;
 use values::{Duplicate, Map, Seq, Text};

@@ -1,5 +1,5 @@
 use Rattle.std.proofs.Common.{◌∙◌}
-use Rattle.glue_names.proofs.OwnNames.{any_own}
+use Rattle.printed_adapters.proofs.OwnNames.{any_own}
 use Rattle.glue_check.specs.Unbuilt.{is_other_own}
 use Rattle.glue_check.proofs.unbuilt.has_other_own.Goals as goal
 

@@ -1,5 +1,5 @@
 use Rattle.glue_context.proofs.Common.{sym, ◌∙◌}
-use Rattle.glue_names.proofs.OwnNames.{any_of_ids}
+use Rattle.printed_adapters.proofs.OwnNames.{any_of_ids}
 use Rattle.glue_context.specs.DefinedItems.{is_unpaired}
 use Rattle.glue_context.proofs.defined.has_unpaired.Goals as goal
 

@@ -10,6 +10,7 @@ front_groups-requires g c =
     let own = own_imports s l.«module» l.wit l.aux in record {
       bindable = rw c.in_ok-indexed.ensures.same c.requires.bindable;
       definable = rw (c.in_ok-indexed.ensures.same, c.as_slice-2.ensures.value) (all_moved definable own _ c.in_ok-places.ensures.sorted c.requires.definable);
+      declarable = rw c.in_ok-indexed.ensures.same c.requires.declarable;
       named = rw c.in_ok-indexed.ensures.same c.requires.named;
       apart = rw c.in_ok-indexed.ensures.same c.requires.apart;
     }

@@ -1,8 +1,0 @@
-use Rattle.std.proofs.Common.{◌≡◌, drop}
-use Rattle.std.specs.List.{list_any}
-use Rattle.glue_names.specs.Modules.{calls_from}
-use Rattle.glue_names.proofs.modules.has_call_from.Given as goal
-
-abbrev pub invariant-loop-instruction : goal.invariant-loop-instruction
-invariant-loop-instruction l =
-    list_any (calls_from l.entries l.name) (drop l.instruction-index l.code) ≡ list_any (calls_from l.entries l.name) l.code
