@@ -1,5 +1,5 @@
 -- What an instruction takes of the module: what its ids name, and parts of the description, for values that are kept in a table of references
--- and for closures.
+-- and for closures. And the part that takes what an import threw.
 use Rattle.std.specs.Prelude.{ℕ, Bool, true, false, is_some, List, [], ◌∷◌, ◌++◌, Option, Some, None, option_map, if◌then◌else◌}
 use Rattle.std.specs.List.{flat_map, filter}
 use Rattle.wasm_core.specs.entries.ExportItem.{ExportItem}
@@ -80,6 +80,16 @@ destroyer aux = option_map items.Func aux.destroy_closure
 -- the item that is this function, where it is there
 abbrev pub destroyer_item : Lowered → Option ExportItem
 destroyer_item l = live_item l.«module» (destroyer l.aux)
+
+-- ---- what imports throw
+
+-- the function that a description names as the one that takes what an import threw
+abbrev pub exception_store : WasmBindgenAux → Option ExportItem
+exception_store aux = option_map items.Func aux.exn_store
+
+-- the item that is this function, where it is there
+abbrev pub store_item : Lowered → Option ExportItem
+store_item l = live_item l.«module» (exception_store l.aux)
 
 -- ---- what an instruction takes
 

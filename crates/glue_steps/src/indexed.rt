@@ -1,6 +1,7 @@
 //! A module and its description, with an index of what is said of import adapters, and of the exports of those of closures.
 ghost use Rattle.std.specs.Prelude.{◌≡◌, IfOk};
 ghost use Rattle.std.specs.Option.{option_copied};
+ghost use Rattle.glue_shared.specs.Names.{has_number};
 ghost use Rattle.glue_steps.specs.Resolving as spec;
 
 use crate::callbacks::Callbacks;
@@ -16,6 +17,7 @@ pub struct Indexed<'a> {
     lowered: &'a Lowered,
     imports: DescribedImports<'a>,
     spread: IdSet,
+    caught: IdSet,
     callbacks: Callbacks<'a>,
 }
 
@@ -33,6 +35,7 @@ impl<'a> Model for Indexed<'a> {
 
     ghost invariant = { λ indexed. (indexed.imports ≡ indexed.lowered.now.aux.imports)
         × (indexed.spread ≡ indexed.lowered.now.aux.imports_with_variadic)
+        × (indexed.caught ≡ indexed.lowered.now.aux.imports_with_catch)
         × (indexed.callbacks ≡ indexed.lowered.now.wit.exports) };
 }
 
@@ -54,11 +57,13 @@ impl<'a> Indexed<'a> {
     {
         let imports = DescribedImports::new(alloc, lowered.aux.imports.as_slice())?;
         let spread = id_set(alloc, lowered.aux.imports_with_variadic.as_slice())?;
+        let caught = id_set(alloc, lowered.aux.imports_with_catch.as_slice())?;
         let callbacks = Callbacks::new(alloc, lowered.wit.exports.as_slice())?;
         Ok(Indexed {
             lowered,
             imports,
             spread,
+            caught,
             callbacks,
         })
     }
@@ -83,6 +88,14 @@ impl<'a> Indexed<'a> {
     {
         self.spread.has(id.0)
     }
+
+    /// Whether the description lists an adapter among those whose throws are caught.
+    pub fn is_listed_caught(&self, id: AdapterId) -> bool
+        ensures test { result ≡ has_number id self.now.aux.imports_with_catch }
+    {
+        self.caught.has(id.0)
+    }
+
     /// The export after which the function of a closure's adapter is named.
     pub fn callback(&self, id: AdapterId) -> Option<ExportId>
         ensures found { result ≡ spec.callback_of self.now.wit.exports id }

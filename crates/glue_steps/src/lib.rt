@@ -6,7 +6,7 @@
 //! (`proofs/Named.antt`). `specs/AdapterMeaning.antt` says what steps mean: a run over a stack of operands, with a trace of all that it does
 //! to the outside. `specs/Exported.antt` has the names under which a module exports, of which a call names one. `callback_name` is the name of
 //! the function of a closure's adapter. `needed_items` tells which items of the module an instruction takes, by its ids and by the parts of
-//! the description that it goes by (`specs/Needed.antt`); `makes_room` tells whether code takes room for results on the stack of the module
+//! the description that it goes by, and `store_item` gives the one that takes what imports throw (`specs/Needed.antt`); `makes_room` tells whether code takes room for results on the stack of the module
 //! (`specs/Room.antt`).
 //!
 //! Stands on `wasm_core`, `glue_shared`, `glue_imports` and `values`. It draws no names, and of an import's text it knows nothing.
@@ -24,6 +24,7 @@ pub use callbacks::Callbacks;
 pub use indexed::Indexed;
 pub use needed::{
     REFERENCE_PARTS, ReferencePart, destroyer_item, goes_by, makes_closure, needed_items, part_item,
+    store_item,
 };
 pub use resolving::{adapter_steps, callback_name, function_type};
 pub use room::{has_stack, is_room, makes_room};

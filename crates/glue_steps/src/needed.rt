@@ -1,5 +1,5 @@
 //! What an instruction takes of the module: what its ids name, and parts of the description, for values that are kept in a table of references
-//! and for closures.
+//! and for closures. And the part that takes what an import threw.
 ghost use Rattle.std.specs.Prelude.{◌≡◌, ◌++◌, if◌then◌else◌, [], IfOk, OnOk};
 ghost use Rattle.glue_shared.specs.Roots.{live_item};
 ghost use Rattle.glue_steps.specs.Needed as spec;
@@ -153,6 +153,13 @@ fn push_destroyer(
         }
     }
     Ok(())
+}
+
+/// The item of the module that is the function which takes what an import threw, where the description names one and it is there.
+pub fn store_item(lowered: &Lowered) -> Option<ExportItem>
+    ensures item { result ≡ spec.store_item lowered.now }
+{
+    live_item(&lowered.module, func_item(lowered.aux.exn_store))
 }
 
 // What an instruction names, by its ids and as parts.

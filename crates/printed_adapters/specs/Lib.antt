@@ -1,2 +1,3 @@
+pub mod Caught
 pub mod Places
 pub mod Printed

@@ -38,11 +38,12 @@ use Rattle.glue_names.proofs.Globals.{from_flat, in_flat, some_of}
 use Rattle.glue_names.proofs.Called.{callee_is, number_in}
 use Rattle.glue_names.proofs.MappedLists.{from_part, in_map, in_where, where_true}
 use Rattle.glue_names.specs.Naming.{shim_name, start_name}
+use Rattle.printed_adapters.specs.Caught.{IsOfGlue, catches, handing}
 use Rattle.printed_adapters.specs.Printed.{code_by, export_code, outer_code, pair_code, printed_code, used_closures}
 use Rattle.glue_steps.specs.Exported.{export_name, export_names}
-use Rattle.glue_steps.specs.Needed.{named_by, needed_items}
+use Rattle.glue_steps.specs.Needed.{exception_store, named_by, needed_items, store_item}
 use Rattle.glue_steps.specs.Resolving.{item_order}
-use Rattle.taken_items.specs.Asked.{asked_items, called_item, closure_asks, code_asks, export_asks, instruction_asks, pair_asks}
+use Rattle.taken_items.specs.Asked.{adapters_ask, asked_items, called_item, closure_asks, code_asks, export_asks, handing_asks, instruction_asks, pair_asks}
 use Rattle.taken_items.specs.ItemNames.{AreFresh, added, added_exports, bound_exports, bound_with, each_item, export_of, free_number, fresh_name, further_exports, gives, item_map, item_name, item_names, named_items, put_named, wanted_export, with_item}
 
 -- ---- fresh names
@@ -349,16 +350,16 @@ module _ (s : Settings) (l : Lowered) where
 
   -- what an instruction of an adapter that becomes a function asks for is asked for
   pub printed_asked : (i : Instruction) (item : ExportItem) → IsIn i (printed_code s l) → IsIn item (instruction_asks s l i) → IsIn item (asked_items s l)
-  printed_asked i item at asks = elim (in_either i (outer_code s l) (flat_map (code_by l) (used_closures s l)) at) [
+  printed_asked i item at asks = in_left item (adapters_ask s l) (handing_asks s l) (elim (in_either i (outer_code s l) (flat_map (code_by l) (used_closures s l)) at) [
     | inl outer ↦ by_outer (in_either i (flat_map (export_code l) l.aux.exports) (flat_map (pair_code own l) l.wit.implements) outer)
     | inr third ↦
         let c = from_flat (code_by l) (used_closures s l) i third in
         in_right item (flat_map (export_asks s l) l.aux.exports) others
         (in_right item (flat_map (pair_asks s own l) l.wit.implements) (flat_map (closure_asks s l) (used_closures s l))
         (in_flat (closure_asks s l) (used_closures s l) c.0 item c.1 (in_flat (instruction_asks s l) (code_by l c.0) i item c.2 asks)))
-  ]
+  ])
     where
-      by_outer : IsIn i (flat_map (export_code l) l.aux.exports) ⊎ IsIn i (flat_map (pair_code own l) l.wit.implements) → IsIn item (asked_items s l)
+      by_outer : IsIn i (flat_map (export_code l) l.aux.exports) ⊎ IsIn i (flat_map (pair_code own l) l.wit.implements) → IsIn item (adapters_ask s l)
       by_outer (inl first) =
           let e = from_flat (export_code l) l.aux.exports i first in
           in_left item (flat_map (export_asks s l) l.aux.exports) others
@@ -369,9 +370,18 @@ module _ (s : Settings) (l : Lowered) where
           (in_left item (flat_map (pair_asks s own l) l.wit.implements) (flat_map (closure_asks s l) (used_closures s l))
           (in_flat (pair_asks s own l) l.wit.implements p.0 item p.1 (in_flat (instruction_asks s l) (pair_code own l p.0) i item p.2 asks)))
 
-  -- so is what such an instruction takes
-  pub needed_asked : (i : Instruction) (item : ExportItem) → IsIn i (printed_code s l) → IsIn item (needed_items s l i) → IsIn item (asked_items s l)
-  needed_asked i item at needed = printed_asked i item at (in_right item (called_item l i) (needed_items s l i) needed)
+  -- what an import throws is handed to a function that is asked for, where it is caught
+  pub store_asked : (item : ExportItem) → catches s l ≡ true → store_item l ≡ Some item → IsIn item (asked_items s l)
+  store_asked item caught e =
+      in_right item (adapters_ask s l) (handing_asks s l)
+      (rw caught (in_left item (listed (store_item l)) (needed_items s l handing) (rw e (inl refl))))
+
+  -- so is what an instruction takes that the glue file goes by
+  pub needed_asked : (i : Instruction) (item : ExportItem) → IsOfGlue s l i → IsIn item (needed_items s l i) → IsIn item (asked_items s l)
+  needed_asked i item (inl at) needed = printed_asked i item at (in_right item (called_item l i) (needed_items s l i) needed)
+  needed_asked i item (inr hands) needed =
+      in_right item (adapters_ask s l) (handing_asks s l) (rw hands.0 (in_right item (listed (store_item l)) (needed_items s l handing)
+      (subst (λ (x : Instruction). IsIn item (needed_items s l x)) hands.1 needed)))
 
   -- an item that a described import gives is asked for, where an adapter of an own import calls it
   pub item_asked : (id : ℕ) (w : AuxImport) (item : ExportItem) → has_number id (own_callees s l) ≡ true → entry_of id l.aux.imports ≡ Some w
@@ -427,22 +437,23 @@ module _ (s : Settings) (l : Lowered) where
       let found = some_of (look_up item_order (item_map named) item) (map_has named [] item there) in
       (found.0, (found.1, name_given item found.0 found.1))
 
+  -- a live item stands
+  listed_live : (item : ExportItem) (o : Option ExportItem) → IsIn item (listed (live_item l.«module» o)) → is_live_item l.«module» item ≡ true
+  listed_live item None at = absurd at
+  listed_live item (Some x) at = one (is_live_item l.«module» x) refl at
+    where
+      one : (b : Bool) → is_live_item l.«module» x ≡ b → IsIn item (listed (cond b (Some x) None)) → is_live_item l.«module» item ≡ true
+      one true q (inl same) = ap (is_live_item l.«module») same ∙ q
+      one true q (inr none) = absurd none
+      one false q at = absurd at
+
   -- each item that is asked for stands
   called_live : (x : Instruction) (item : ExportItem) → IsIn item (called_item l x) → is_live_item l.«module» item ≡ true
   called_live (instr.CallAdapter id) item at = by (entry_of id l.aux.imports) at
     where
-      live : (o : Option ExportItem) → IsIn item (listed (live_item l.«module» o)) → is_live_item l.«module» item ≡ true
-      live None at = absurd at
-      live (Some x) at = one (is_live_item l.«module» x) refl at
-        where
-          one : (b : Bool) → is_live_item l.«module» x ≡ b → IsIn item (listed (cond b (Some x) None)) → is_live_item l.«module» item ≡ true
-          one true q (inl same) = ap (is_live_item l.«module») same ∙ q
-          one true q (inr none) = absurd none
-          one false q at = absurd at
-
       by : (o : Option AuxImport) → IsIn item (listed (option_and_then (given_item l) o)) → is_live_item l.«module» item ≡ true
       by None at = absurd at
-      by (Some (what.Intrinsic name)) at = live (named_item l name) at
+      by (Some (what.Intrinsic name)) at = listed_live item (named_item l name) at
       by (Some other) at = absurd at
   called_live other item at = absurd at
 
@@ -467,8 +478,8 @@ module _ (s : Settings) (l : Lowered) where
   code_live : (code : List Instruction) (item : ExportItem) → IsIn item (code_asks s l code) → is_live_item l.«module» item ≡ true
   code_live code item at = let step = from_flat (instruction_asks s l) code item at in asks_live step.0 item step.2
 
-  asked_live : (item : ExportItem) → IsIn item (asked_items s l) → is_live_item l.«module» item ≡ true
-  asked_live item at = elim (in_either item (flat_map (export_asks s l) l.aux.exports) others at) [
+  adapters_live : (item : ExportItem) → IsIn item (adapters_ask s l) → is_live_item l.«module» item ≡ true
+  adapters_live item at = elim (in_either item (flat_map (export_asks s l) l.aux.exports) others at) [
     | inl first ↦ let e = from_flat (export_asks s l) l.aux.exports item first in code_live (export_code l e.0) item e.2
     | inr later ↦ by (in_either item (flat_map (pair_asks s own l) l.wit.implements) (flat_map (closure_asks s l) (used_closures s l)) later)
   ]
@@ -477,6 +488,22 @@ module _ (s : Settings) (l : Lowered) where
           → is_live_item l.«module» item ≡ true
       by (inl second) = let p = from_flat (pair_asks s own l) l.wit.implements item second in code_live (pair_code own l p.0) item p.2
       by (inr third) = let c = from_flat (closure_asks s l) (used_closures s l) item third in code_live (code_by l c.0) item c.2
+
+  handing_live : (item : ExportItem) → IsIn item (handing_asks s l) → is_live_item l.«module» item ≡ true
+  handing_live item = by (catches s l)
+    where
+      by : (b : Bool) → IsIn item (cond b (listed (store_item l) ++ needed_items s l handing) []) → is_live_item l.«module» item ≡ true
+      by false at = absurd at
+      by true at = elim (in_either item (listed (store_item l)) (needed_items s l handing) at) [
+        | inl store ↦ listed_live item (exception_store l.aux) store
+        | inr needed ↦ kept_live (named_by s.externref l.aux handing) item needed
+      ]
+
+  asked_live : (item : ExportItem) → IsIn item (asked_items s l) → is_live_item l.«module» item ≡ true
+  asked_live item at = elim (in_either item (adapters_ask s l) (handing_asks s l) at) [
+    | inl adapters ↦ adapters_live item adapters
+    | inr handed ↦ handing_live item handed
+  ]
 
   -- so does each that is exported besides
   pub added_live : (e : List ℕ × ExportItem) → IsIn e (added_exports s l) → is_live_item l.«module» e.1 ≡ true

@@ -1,5 +1,5 @@
--- The items of the module that the adapters which become functions ask for.
-use Rattle.std.specs.Prelude.{ℕ, List, [], ◌++◌, option_and_then}
+-- The items of the module that the adapters which become functions ask for, and those by which what imports throw is handed to the module.
+use Rattle.std.specs.Prelude.{ℕ, List, [], ◌++◌, option_and_then, if◌then◌else◌}
 use Rattle.std.specs.List.{flat_map}
 use Rattle.wasm_core.specs.ids.ImportId.{ImportId}
 use Rattle.wasm_core.specs.entries.ExportItem.{ExportItem}
@@ -11,7 +11,8 @@ use Rattle.glue_shared.specs.declared.settings.Settings.{Settings}
 use Rattle.glue_shared.specs.Names.{entry_of, own_imports}
 use Rattle.glue_shared.specs.Roots.{listed}
 use Rattle.glue_imports.specs.Given.{given_item}
-use Rattle.glue_steps.specs.Needed.{needed_items}
+use Rattle.glue_steps.specs.Needed.{needed_items, store_item}
+use Rattle.printed_adapters.specs.Caught.{catches, handing}
 use Rattle.printed_adapters.specs.Printed.{code_by, export_code, pair_code, used_closures}
 
 -- the item that is given by what an instruction calls, by what is described of that import adapter
@@ -40,7 +41,15 @@ abbrev pub closure_asks : Settings → Lowered → ℕ → List ExportItem
 closure_asks s l id = code_asks s l (code_by l id)
 
 -- those that the adapters of exports, of own imports, and of closures that are used ask for
-abbrev pub asked_items : Settings → Lowered → List ExportItem
-asked_items s l =
+abbrev pub adapters_ask : Settings → Lowered → List ExportItem
+adapters_ask s l =
     flat_map (export_asks s l) l.aux.exports
     ++ (flat_map (pair_asks s (own_imports s l.«module» l.wit l.aux) l) l.wit.implements ++ flat_map (closure_asks s l) (used_closures s l))
+
+-- those by which what imports throw is handed to the module, where it is caught: the function that takes it, and what the value goes by
+abbrev pub handing_asks : Settings → Lowered → List ExportItem
+handing_asks s l = if catches s l then listed (store_item l) ++ needed_items s l handing else []
+
+-- all that is asked for
+abbrev pub asked_items : Settings → Lowered → List ExportItem
+asked_items s l = adapters_ask s l ++ handing_asks s l

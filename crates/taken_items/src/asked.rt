@@ -1,15 +1,16 @@
-//! The items of the module that the adapters which become functions ask for.
+//! The items of the module that the adapters which become functions ask for, and those by which what imports throw is handed to the module.
 ghost use Rattle.std.specs.Prelude.{◌≡◌, ◌++◌, IfOk, OnOk};
 ghost use Rattle.std.specs.List.{flat_map};
 ghost use Rattle.glue_shared.specs.Roots.{listed};
-ghost use Rattle.glue_steps.specs.Needed.{needed_items};
+ghost use Rattle.glue_steps.specs.Needed.{needed_items, store_item};
+ghost use Rattle.printed_adapters.specs.Caught.{handing};
 ghost use Rattle.printed_adapters.specs.Printed.{code_by};
 ghost use Rattle.taken_items.specs.Asked as spec;
 
 use glue_imports::given_item;
 use glue_shared::{AdapterId, AuxExport, IdSet, Instruction, Lowered, Settings, code_of};
-use glue_steps::{Indexed, needed_items};
-use printed_adapters::{own_places, used_closures};
+use glue_steps::{Indexed, needed_items, store_item};
+use printed_adapters::{catches, own_places, used_closures};
 use std::alloc::{AllocError, Global};
 use values::Seq;
 use wasm_core::{ExportItem, ImportId};
@@ -166,13 +167,13 @@ fn closures_asked(
     Ok(asked)
 }
 
-/// Those that the adapters of exports, of own imports, and of closures that are used ask for. Want of memory is the only error.
-pub(crate) fn asked_items(
+// Those that the adapters of exports, of own imports, and of closures that are used ask for.
+fn adapters_asked(
     alloc: Global,
     settings: &Settings,
     lowered: &Lowered,
 ) -> Result<Seq<ExportItem>, AllocError>
-    ensures asked { IfOk result (λ asked. asked ≡ spec.asked_items settings.now lowered.now) }
+    ensures asked { IfOk result (λ asked. asked ≡ spec.adapters_ask settings.now lowered.now) }
 {
     let own = own_places(alloc, settings, lowered)?;
     let indexed = Indexed::new(alloc, lowered)?;
@@ -188,5 +189,65 @@ pub(crate) fn asked_items(
     let called = closures_asked(alloc, settings, &indexed, closures.as_slice())?;
     asked.append(others)?;
     asked.append(called)?;
+    Ok(asked)
+}
+
+// Adds the function that takes what imports throw, where it is there.
+fn push_store(lowered: &Lowered, asked: &mut Seq<ExportItem>) -> Result<(), AllocError>
+    ensures pushed { OnOk result (asked.new ≡ asked.old ++ listed (store_item lowered.now)) }
+{
+    if let Some(item) = store_item(lowered) {
+        asked.push(item)?;
+    }
+    Ok(())
+}
+
+// That function, and what a value goes by that is handed on.
+fn handing_items(
+    alloc: Global,
+    settings: &Settings,
+    lowered: &Lowered,
+) -> Result<Seq<ExportItem>, AllocError>
+    ensures items { IfOk result (λ items. items ≡ listed (store_item lowered.now) ++ needed_items settings.now lowered.now handing) }
+{
+    let mut items = Seq::new(alloc);
+    push_store(lowered, &mut items)?;
+    push_needed(
+        alloc,
+        settings,
+        lowered,
+        &Instruction::IndexFromOwned,
+        &mut items,
+    )?;
+    Ok(items)
+}
+
+// Those by which what imports throw is handed to the module, where it is caught.
+fn handing_asked(
+    alloc: Global,
+    settings: &Settings,
+    lowered: &Lowered,
+) -> Result<Seq<ExportItem>, AllocError>
+    ensures asked { IfOk result (λ asked. asked ≡ spec.handing_asks settings.now lowered.now) }
+{
+    if catches(alloc, settings, lowered)? {
+        handing_items(alloc, settings, lowered)
+    } else {
+        Ok(Seq::new(alloc))
+    }
+}
+
+/// Those that the adapters of exports, of own imports, and of closures that are used ask for, and those by which what imports throw is handed to
+/// the module. Want of memory is the only error.
+pub(crate) fn asked_items(
+    alloc: Global,
+    settings: &Settings,
+    lowered: &Lowered,
+) -> Result<Seq<ExportItem>, AllocError>
+    ensures asked { IfOk result (λ asked. asked ≡ spec.asked_items settings.now lowered.now) }
+{
+    let mut asked = adapters_asked(alloc, settings, lowered)?;
+    let handed = handing_asked(alloc, settings, lowered)?;
+    asked.append(handed)?;
     Ok(asked)
 }
