@@ -149,25 +149,14 @@ unfolding answer
 exports_built f s l h e i =
     let classes = neither (is_some_item l.aux.structs) (list_any spec.is_member l.aux.exports) (no_classes f s l h).0 in
     let alone = list_any-none spec.is_member l.aux.exports e classes.1 i in
-    let kept = neither (is_some_item l.aux.imports_with_catch) (list_any spec.is_special_export l.aux.exports)
-    (where_true-none (is_some_item l.aux.imports_with_catch || list_any spec.is_special_export l.aux.exports) _ (none_unbuilt conditions.UnbuiltInstructions f s l (search rules) h)) in
-    let special = list_any-none spec.is_special_export l.aux.exports e kept.1 i in
+    let kept = where_true-none (list_any spec.is_special_export l.aux.exports) _ (none_unbuilt conditions.UnbuiltInstructions f s l (search rules) h) in
+    let special = list_any-none spec.is_special_export l.aux.exports e kept i in
     let this = (neither (spec.takes_this e.kind) (e.variadic || e.jsdoc) special).0 in record { function = function_is e.kind alone this }
 
--- no class is described, and no caught import
-pub record AreAbsent (l : Lowered) : Type 0 where
-  pub structs : l.aux.structs ≡ []
-  pub caught : l.aux.imports_with_catch ≡ []
-
-pub absent_built : (f : FileFlags) (s : Settings) (l : Lowered) → unbuilt f s l ≡ None → AreAbsent l
-unfolding answer
-absent_built f s l h =
-    let classes = neither (is_some_item l.aux.structs) (list_any spec.is_member l.aux.exports) (no_classes f s l h).0 in
-    let kept = neither (is_some_item l.aux.imports_with_catch) (list_any spec.is_special_export l.aux.exports)
-    (where_true-none (is_some_item l.aux.imports_with_catch || list_any spec.is_special_export l.aux.exports) _ (none_unbuilt conditions.UnbuiltInstructions f s l (search rules) h)) in record {
-      structs = nothing l.aux.structs classes.0;
-      caught = nothing l.aux.imports_with_catch kept.0;
-    }
+-- no class is described
+pub structs_built : (f : FileFlags) (s : Settings) (l : Lowered) → unbuilt f s l ≡ None → l.aux.structs ≡ []
+structs_built f s l h =
+    nothing l.aux.structs (neither (is_some_item l.aux.structs) (list_any spec.is_member l.aux.exports) (no_classes f s l h).0).0
 
 -- ---- lifecycle
 

@@ -24,7 +24,7 @@ use Rattle.glue_shared.specs.Names.{has_number, is_one_of, own_imports}
 use Rattle.glue_steps.specs.declared.needed.ReferencePart.{ReferencePart}
 use Rattle.glue_steps.specs.declared.needed.ReferencePart.TheVariants as parts
 use Rattle.glue_steps.specs.declared.needed.TheConstants.{REFERENCE_PARTS}
-use Rattle.glue_steps.specs.Needed.{destroyer_item, goes_by, makes_closure, part_item}
+use Rattle.glue_steps.specs.Needed.{destroyer_item, goes_by, makes_closure, part_item, store_item}
 use Rattle.glue_steps.specs.Room.{is_room, makes_room, has_stack}
 use Rattle.glue_adapters.specs.declared.kind.Kind.{Kind}
 use Rattle.glue_adapters.specs.declared.kind.Kind.TheVariants as kind
@@ -36,12 +36,13 @@ use Rattle.glue_faults.proofs.First.{first_of-none, list_any-none}
 use Rattle.glue_names.proofs.Called.{number_in, or_last}
 use Rattle.glue_names.proofs.Globals.{from_flat}
 use Rattle.glue_names.proofs.MappedLists.{from_map, from_part}
+use Rattle.printed_adapters.specs.Caught.{catches, handing}
 use Rattle.printed_adapters.specs.Printed.{adapter_ids, adapters_among, closure_id, closures_in, code_by, enum_named, export_code, outer_code, pair_code, printed_code, used_closures, uses_shim}
 use Rattle.printed_adapters.proofs.Choices.{each_by, from_filter, number_there}
 use Rattle.printed_adapters.proofs.Used.{used_least}
-use Rattle.glue_check.specs.Missing.{lacked_unless, lends, part_name, lacks_part, part_lacked, reference_lacked, closure_lacked, memory_lacked, stack_lacked, code_lacks}
+use Rattle.glue_check.specs.Missing.{lacked_unless, lends, part_name, lacks_part, part_lacked, reference_lacked, closure_lacked, memory_lacked, stack_lacked, code_lacks, catch_lacks, handing_lacks}
 use Rattle.glue_check.specs.Verdict.{verdict}
-use Rattle.glue_check.proofs.Embedded.{code_complete, or_none, there_if}
+use Rattle.glue_check.proofs.Embedded.{catch_complete, code_complete, or_none, there_if}
 use Rattle.glue_check.proofs.Passed.{callbacks_fit, exports_fit, looked_up, pairs_fit}
 
 -- an adapter that closures call, with code and the parameters for what a closure holds
@@ -188,6 +189,38 @@ complete_code s l params results code h stacked i at =
       closures = closed_by l params i (has_effect l params results [] code kept i at);
     }
 
+-- ---- what is caught
+
+-- what an import throws can be handed on: the function that takes it is there, and what the value goes by
+pub record CanHand (s : Settings) (l : Lowered) : Type 0 where
+  pub store : is_some (store_item l) ≡ true
+  pub complete : IsComplete s l handing
+
+-- what code lacks of a table of references, of all that it lacks
+of_reference : (s : Settings) (l : Lowered) (code : List Instruction) → code_lacks s l code ≡ None → reference_lacked s.externref l code ≡ None
+of_reference s l code h =
+    let beside = option_or (memory_lacked l code) (stack_lacked l code) in
+    let passing = or_none (closure_lacked l code) (option_or (reference_lacked s.externref l code) beside) h in
+    (or_none (reference_lacked s.externref l code) beside passing.1).0
+
+can_hand : (s : Settings) (l : Lowered) → handing_lacks s l ≡ None → CanHand s l
+can_hand s l h =
+    let code : List Instruction = handing ∷ [] in
+    let both = or_none (lacked_unless (is_some (store_item l)) (codes "exn_store")) (code_lacks s l code) h in
+    let kept = of_reference s l code both.1 in record {
+      store = there_if (is_some (store_item l)) (codes "exn_store") both.0;
+      complete = record {
+        unlent = λ on. refl;
+        parts = λ on part goes.
+            second (goes_by handing part) (is_some (part_item l part))
+            (list_any-none (lacks_part l part) code handing ((by_reference s.externref l code kept on).1 part) (inl refl)) goes;
+        room = λ takes. absurd (true≢false (sym takes));
+        destroys = λ makes. absurd (true≢false (sym makes));
+        enums = λ name none. absurd none;
+        closures = λ id none. cc;
+      };
+    }
+
 -- ---- a description without a fault
 
 -- the code of an adapter by itself, and of one that was looked up
@@ -278,3 +311,11 @@ module _ (s : Settings) (l : Lowered) (passed : verdict s l ≡ None) where
   -- where one of these adapters takes room, a global is there that tells where the stack ends
   pub room_there : uses_shim s l ≡ true → has_stack l ≡ true
   room_there uses = let r = made_by (printed_code s l) uses in (complete_printed r.0 r.1).room r.2
+
+  -- what the glue file catches can be handed on
+  pub handing_there : catches s l ≡ true → CanHand s l
+  handing_there caught = can_hand s l (by (catches s l) caught (catch_complete s l passed))
+    where
+      by : (b : Bool) → b ≡ true → cond b (handing_lacks s l) None ≡ None → handing_lacks s l ≡ None
+      by true e h = h
+      by false e h = absurd (true≢false (sym e))

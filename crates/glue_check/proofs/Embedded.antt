@@ -21,7 +21,7 @@ use Rattle.glue_imports.specs.Given.{given_item, gives_item, is_giving}
 use Rattle.glue_check.specs.declared.verdict.Condition.TheVariants as conditions
 use Rattle.glue_check.specs.Answers.{answer}
 use Rattle.glue_check.specs.Links.{unembedded}
-use Rattle.glue_check.specs.Missing.{adapter_lacks, code_lacks, entry_lacks, excludes, has_sole_memory, is_excluded, lacked_part, lacked_unless, lacking, memory_there}
+use Rattle.glue_check.specs.Missing.{adapter_lacks, catch_lacks, code_lacks, entry_lacks, first_missing, excludes, has_sole_memory, is_excluded, lacked_part, lacked_unless, lacking, memory_there}
 use Rattle.glue_check.specs.TargetValues.{is_absent}
 use Rattle.glue_check.specs.Unbuilt.{is_told}
 use Rattle.glue_check.specs.Verdict.{verdict}
@@ -51,14 +51,16 @@ pub or_none : {A : Type 0} (a b : Option A) → option_or a b ≡ None → (a �
 or_none None b h = (refl, h)
 or_none (Some x) b h = cc
 
--- no adapter lacks a part, and no import
+-- no adapter lacks a part, no import, and not what is caught
 none_missing : (s : Settings) (l : Lowered) → verdict s l ≡ None
-    → (first_of (adapter_lacks s l) l.wit.adapters ≡ None) × (first_of (entry_lacks s l) l.aux.imports ≡ None)
+    → (first_of (adapter_lacks s l) l.wit.adapters ≡ None) × ((first_of (entry_lacks s l) l.aux.imports ≡ None) × (catch_lacks s l ≡ None))
 unfolding answer
 none_missing s l h =
     let adapters = first_of (adapter_lacks s l) l.wit.adapters in
     let imports = first_of (entry_lacks s l) l.aux.imports in
-    or_none adapters imports (option_map-none faults.MissingPart (option_or adapters imports) (none_of conditions.MissingPart s l (search rules) h))
+    let all = or_none adapters (option_or imports (catch_lacks s l))
+    (option_map-none faults.MissingPart (first_missing s l) (none_of conditions.MissingPart s l (search rules) h)) in
+    (all.0, or_none imports (catch_lacks s l) all.1)
 
 -- the code of no adapter lacks one
 pub code_complete : (s : Settings) (l : Lowered) → verdict s l ≡ None → (e : ℕ × Adapter) → IsIn e l.wit.adapters → code_lacks s l (code_of e.1.kind) ≡ None
@@ -66,7 +68,11 @@ code_complete s l h e i = first_of-none (adapter_lacks s l) l.wit.adapters e (no
 
 -- none of the imports lacks a part
 complete : (s : Settings) (l : Lowered) → verdict s l ≡ None → (e : ℕ × AuxImport) → IsIn e l.aux.imports → lacking s l e.1 ≡ None
-complete s l h e i = first_of-none (entry_lacks s l) l.aux.imports e (none_missing s l h).1 i
+complete s l h e i = first_of-none (entry_lacks s l) l.aux.imports e (none_missing s l h).1.0 i
+
+-- nor does what is caught
+pub catch_complete : (s : Settings) (l : Lowered) → verdict s l ≡ None → catch_lacks s l ≡ None
+catch_complete s l h = (none_missing s l h).1.1
 
 -- a part that isn't lacked is there
 pub there_if : (there : Bool) (part : List ℕ) → lacked_unless there part ≡ None → there ≡ true

@@ -16,7 +16,7 @@ use Rattle.glue_check.specs.declared.verdict.Condition.TheVariants as conditions
 use Rattle.glue_check.specs.Answers.{answer}
 use Rattle.glue_check.specs.Classes.{class_name, class_names, instruction_class, unknown, unknown_in, unknown_instruction, unknown_type}
 use Rattle.glue_check.specs.Verdict.{unbuilt, verdict}
-use Rattle.glue_check.proofs.BuiltForm.{absent_built}
+use Rattle.glue_check.proofs.BuiltForm.{structs_built}
 use Rattle.glue_check.proofs.Conditions.{none_of}
 
 -- no name is known where none is
@@ -38,4 +38,4 @@ no_class f s l built passed e at i in_code =
     let code = some-none parts by_code here (inr (inr (inl refl))) in
     let step = first_of-none (unknown_instruction classes) (code_of e.1.kind) i code in_code in
     none_known (instruction_class i)
-    (subst (λ (structs : List AuxStruct). unknown (map class_name structs) (instruction_class i) ≡ None) (absent_built f s l built).structs step)
+    (subst (λ (structs : List AuxStruct). unknown (map class_name structs) (instruction_class i) ≡ None) (structs_built f s l built) step)

@@ -51,6 +51,7 @@ use Rattle.glue_imports.specs.Given.{given_item, gives_item}
 use Rattle.glue_imports.proofs.Any.{any_call}
 use Rattle.glue_names.specs.Given.{values_name}
 use Rattle.glue_names.specs.Handed.{own_callees}
+use Rattle.printed_adapters.specs.Caught.{IsOfGlue}
 use Rattle.printed_adapters.specs.Printed.{adapter_ids, code_by, enum_named, export_code, named_enums, outer_code, pair_code, printed_code, used_closures, uses_shim}
 use Rattle.printed_adapters.proofs.Used.{used_printed}
 use Rattle.glue_check.specs.Missing.{lends}
@@ -80,9 +81,9 @@ pub record IsDescribed (s : Settings) (l : Lowered) (names : NameMap) (text : Ex
   pub is : expression s names (given_of names l entry.1) call spread bound entry.1 ≡ Some text
   pub given : gives_item entry.1 ≡ true → is_some (given_item l entry.1) ≡ true
 
--- an instruction of an adapter that becomes a function: nothing that it needs is lacked, and what its ids name is there
+-- an instruction that the glue file goes by: nothing that it needs is lacked, and what its ids name is there
 pub record IsPrinted (s : Settings) (l : Lowered) (i : Instruction) : Type 0 where
-  pub among : IsIn i (printed_code s l)
+  pub among : IsOfGlue s l i
   pub complete : IsComplete s l i
   pub live : names_live l i ≡ true
 
@@ -272,7 +273,7 @@ module _ (s : Settings) (l : Lowered) (names : NameMap) where
       let called = and_parts (has_number id (called_back l)) (is_callback (adapter_at l id)) (k.closures id refl) in
       let g = callback_named s l passed id called.0 in
       rw g.1 (
-        record { instruction = instr.Closure id mutable; printed = record { among = at; complete = k; live = refl }; calls = refl },
+        record { instruction = instr.Closure id mutable; printed = record { among = inl at; complete = k; live = refl }; calls = refl },
         record { adapter = id; used = used_printed s l id mutable at (there (adapter_at l id) refl called.1); named = g.1 },
       )
     where
@@ -287,46 +288,46 @@ module _ (s : Settings) (l : Lowered) (names : NameMap) where
   unfolding effect
   called built passed params instr.IndexFromOwned at k u e d own =
       handled instr.IndexFromOwned (codes "addHeapObject") (codes "addToExternrefTable") (λ helper. CallHelper helper 1)
-      (record { among = at; complete = k; live = refl }) refl refl (λ helper h. h)
+      (record { among = inl at; complete = k; live = refl }) refl refl (λ helper h. h)
   called built passed params instr.IndexFromBorrow at k u e d own = rw (lent s.externref k.unlent) tt
   called built passed params instr.TakeIndex at k u e d own =
       handled instr.TakeIndex (codes "takeObject") (codes "takeFromExternrefTable") (λ helper. CallHelper helper 1)
-      (record { among = at; complete = k; live = refl }) refl refl (λ helper h. h)
+      (record { among = inl at; complete = k; live = refl }) refl refl (λ helper h. h)
   called built passed params instr.GetIndex at k u e d own =
       handled instr.GetIndex (codes "getObject") (codes "getFromExternrefTable") (λ helper. CallHelper helper 1)
-      (record { among = at; complete = k; live = refl }) refl refl (λ helper h. h)
+      (record { among = inl at; complete = k; live = refl }) refl refl (λ helper h. h)
   called built passed params instr.UnwrapResult at k u e d own =
       handled instr.UnwrapResult (codes "takeObject") (codes "takeFromExternrefTable") UnwrapResult
-      (record { among = at; complete = k; live = refl }) refl refl (λ helper h. h)
+      (record { among = inl at; complete = k; live = refl }) refl refl (λ helper h. h)
   called built passed params (instr.StringToMemory malloc realloc memory) at k u e d own =
       let i = instr.StringToMemory malloc realloc memory in
-      let printed : IsPrinted s l i = record { among = at; complete = k; live = only_if (names_live l i) (memory_effect params i) e } in
+      let printed : IsPrinted s l i = record { among = inl at; complete = k; live = only_if (names_live l i) (memory_effect params i) e } in
       (record { instruction = i; printed = printed; calls = refl }, functions_there i printed (malloc ∷ listed_id realloc) (allocating malloc realloc memory))
   called built passed params (instr.OptionStringToMemory malloc realloc memory) at k u e d own =
       let i = instr.OptionStringToMemory malloc realloc memory in
-      let printed : IsPrinted s l i = record { among = at; complete = k; live = only_if (names_live l i) (memory_effect params i) e } in
+      let printed : IsPrinted s l i = record { among = inl at; complete = k; live = only_if (names_live l i) (memory_effect params i) e } in
       (record { instruction = i; printed = printed; calls = refl }, functions_there i printed (malloc ∷ listed_id realloc) (allocating malloc realloc memory))
   called built passed params (instr.MemoryToString memory) at k u e d own =
       let i = instr.MemoryToString memory in
-      record { instruction = i; printed = record { among = at; complete = k; live = only_if (names_live l i) (memory_effect params i) e }; calls = refl }
+      record { instruction = i; printed = record { among = inl at; complete = k; live = only_if (names_live l i) (memory_effect params i) e }; calls = refl }
   called built passed params (instr.DeferFree free align) at k u e d own =
       let i = instr.DeferFree free align in record {
         instruction = i;
-        printed = record { among = at; complete = k; live = only_if (names_live l i) (memory_effect params i) e };
+        printed = record { among = inl at; complete = k; live = only_if (names_live l i) (memory_effect params i) e };
         function = free;
         named = inl refl;
         is = refl;
       }
   called built passed params (instr.VecFromWasm kind memory) at k u e d own =
       let i = instr.VecFromWasm kind memory in
-      by kind (record { instruction = i; printed = record { among = at; complete = k; live = only_if (names_live l i) (memory_effect params i) e }; calls = refl })
+      by kind (record { instruction = i; printed = record { among = inl at; complete = k; live = only_if (names_live l i) (memory_effect params i) e }; calls = refl })
     where
       by : (kind : VectorKind) → IsHelperOf s l (reading_helper kind memory) → IsThere s l names (vector_read kind memory)
       by vectors.Value h = h
       by other h = h
   called built passed params (instr.VecToWasm kind malloc memory) at k u e d own =
       let i = instr.VecToWasm kind malloc memory in
-      let printed : IsPrinted s l i = record { among = at; complete = k; live = only_if (names_live l i) (memory_effect params i) e } in
+      let printed : IsPrinted s l i = record { among = inl at; complete = k; live = only_if (names_live l i) (memory_effect params i) e } in
       (record { instruction = i; printed = printed; calls = refl }, functions_there i printed (malloc ∷ []) (λ f at. one f at))
     where
       one : (f : FuncId) → IsIn f (malloc ∷ []) → IsIn (items.Func f) (items.Func malloc ∷ items.Memory memory ∷ [])
@@ -335,10 +336,10 @@ module _ (s : Settings) (l : Lowered) (names : NameMap) where
   called built passed params (instr.Retptr size) at k u e d own = (room_made (printed_code s l) (instr.Retptr size) at refl, k.room refl)
   called built passed params (instr.LoadRetptr offset ty memory) at k u e d own =
       let i = instr.LoadRetptr offset ty memory in
-      record { instruction = i; printed = record { among = at; complete = k; live = only_if (names_live l i) (memory_effect params i) e }; calls = refl }
+      record { instruction = i; printed = record { among = inl at; complete = k; live = only_if (names_live l i) (memory_effect params i) e }; calls = refl }
   called built passed params (instr.StoreRetptr offset ty memory) at k u e d own =
       let i = instr.StoreRetptr offset ty memory in
-      record { instruction = i; printed = record { among = at; complete = k; live = only_if (names_live l i) (memory_effect params i) e }; calls = refl }
+      record { instruction = i; printed = record { among = inl at; complete = k; live = only_if (names_live l i) (memory_effect params i) e }; calls = refl }
   called built passed params (instr.Closure id mutable) at k u e d own = closed passed id mutable at k
   called built passed params (instr.EnumIndex name) at k u e d own = enum_listed (instr.EnumIndex name) at k name (inl refl)
   called built passed params (instr.EnumText name) at k u e d own = enum_listed (instr.EnumText name) at k name (inl refl)

@@ -1,4 +1,4 @@
--- Parts that instructions and imports need and that the module or its description lacks.
+-- Parts that instructions and imports need, and what catches what imports throw, and that the module or its description lacks.
 use Rattle.std.specs.Prelude.{ℕ, Bool, true, false, not, ◌&&◌, ◌||◌, is_some, List, [], ◌∷◌, codes, Option, Some, None, option_map, if◌then◌else◌}
 use Rattle.std.specs.List.{list_any}
 use Rattle.std.specs.Option.{option_or}
@@ -19,10 +19,11 @@ use Rattle.glue_imports.specs.Given.{given_item}
 use Rattle.glue_steps.specs.declared.needed.ReferencePart.{ReferencePart}
 use Rattle.glue_steps.specs.declared.needed.ReferencePart.TheVariants as parts
 use Rattle.glue_steps.specs.declared.needed.TheConstants.{REFERENCE_PARTS}
-use Rattle.glue_steps.specs.Needed.{destroyer_item, goes_by, makes_closure, part_item}
+use Rattle.glue_steps.specs.Needed.{destroyer_item, goes_by, makes_closure, part_item, store_item}
 use Rattle.glue_steps.specs.Resolving.{entry_at}
 use Rattle.glue_steps.specs.Room.{makes_room, has_stack}
 use Rattle.glue_adapters.specs.Adapters.{code_of}
+use Rattle.printed_adapters.specs.Caught.{catches, handing}
 use Rattle.glue_faults.specs.declared.fault.Fault.{Fault}
 use Rattle.glue_faults.specs.declared.fault.Fault.TheVariants as faults
 use Rattle.glue_faults.specs.First.{first_of}
@@ -131,7 +132,22 @@ code_lacks settings l code =
 abbrev pub adapter_lacks : Settings → Lowered → ℕ × Adapter → Option (List ℕ)
 adapter_lacks settings l entry = code_lacks settings l (code_of entry.1.kind)
 
--- an adapter, or else a described import, lacks a part
+-- ---- what is caught
+
+-- the first in that order that handing on lacks what an import throws: the function that takes it, or a part that the value goes by
+abbrev pub handing_lacks : Settings → Lowered → Option (List ℕ)
+handing_lacks settings l = option_or (lacked_unless (is_some (store_item l)) (codes "exn_store")) (code_lacks settings l (handing ∷ []))
+
+-- where the glue file catches that
+abbrev pub catch_lacks : Settings → Lowered → Option (List ℕ)
+catch_lacks settings l = if catches settings l then handing_lacks settings l else None
+
+-- ---- all
+
+-- an adapter lacks a part, or else a described import, or else what is caught
+abbrev pub first_missing : Settings → Lowered → Option (List ℕ)
+first_missing settings l =
+    option_or (first_of (adapter_lacks settings l) l.wit.adapters) (option_or (first_of (entry_lacks settings l) l.aux.imports) (catch_lacks settings l))
+
 abbrev pub missing_part : Settings → Lowered → Option Fault
-missing_part settings l =
-    option_map faults.MissingPart (option_or (first_of (adapter_lacks settings l) l.wit.adapters) (first_of (entry_lacks settings l) l.aux.imports))
+missing_part settings l = option_map faults.MissingPart (first_missing settings l)

@@ -104,10 +104,10 @@ takes_this other = false
 abbrev pub is_special_export : AuxExport → Bool
 is_special_export e = takes_this e.kind || (e.variadic || e.jsdoc)
 
--- caught throws, and such exports
+-- such exports
 abbrev pub unbuilt_instructions : Lowered → Option Fault
 unbuilt_instructions l =
-    where_true (is_some_item l.aux.imports_with_catch || list_any is_special_export l.aux.exports) (faults.NotBuilt (codes "instructions"))
+    where_true (list_any is_special_export l.aux.exports) (faults.NotBuilt (codes "instructions"))
 
 -- ---- classes
 

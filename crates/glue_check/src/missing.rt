@@ -1,4 +1,4 @@
-//! Parts that instructions and imports need and that the module or its description lacks.
+//! Parts that instructions and imports need, and what catches what imports throw, and that the module or its description lacks.
 ghost use Rattle.std.specs.Prelude.{◌≡◌, is_some, IfOk};
 ghost use Rattle.std.specs.List.{list_any};
 ghost use Rattle.std.specs.Option.{option_copied, option_or};
@@ -15,8 +15,9 @@ use glue_shared::{
 };
 use glue_steps::{
     REFERENCE_PARTS, ReferencePart, destroyer_item, goes_by, has_stack, makes_closure, makes_room,
-    part_item,
+    part_item, store_item,
 };
+use printed_adapters::catches;
 use std::alloc::{AllocError, Global};
 use values::Text;
 use wasm_core::{ExportItem, Memory, MemoryId};
@@ -364,23 +365,66 @@ fn first_of_adapters(
     Ok(None)
 }
 
-// The first part that an adapter or else a described import lacks.
+// The first part that handing on lacks what an import throws.
+fn handing_lacks(
+    alloc: Global,
+    settings: &Settings,
+    lowered: &Lowered,
+) -> Result<Option<&'static str>, AllocError>
+    ensures first { IfOk result (λ part. option_copied part ≡ spec.handing_lacks settings.now lowered.now) }
+{
+    match lacked_unless(store_item(lowered).is_some(), "exn_store") {
+        Some(part) => Ok(Some(part)),
+        None => code_lacks(alloc, settings, lowered, &[Instruction::IndexFromOwned]),
+    }
+}
+
+// That part, where the glue file catches what an import throws.
+fn catch_lacks(
+    alloc: Global,
+    settings: &Settings,
+    lowered: &Lowered,
+) -> Result<Option<&'static str>, AllocError>
+    ensures first { IfOk result (λ part. option_copied part ≡ spec.catch_lacks settings.now lowered.now) }
+{
+    if catches(alloc, settings, lowered)? {
+        handing_lacks(alloc, settings, lowered)
+    } else {
+        Ok(None)
+    }
+}
+
+// The first part that a described import or else what is caught lacks.
+fn import_lacks(
+    alloc: Global,
+    settings: &Settings,
+    lowered: &Lowered,
+) -> Result<Option<&'static str>, AllocError>
+    ensures first { IfOk result (λ part. option_copied part ≡ option_or (first_of (spec.entry_lacks settings.now lowered.now) lowered.now.aux.imports) (spec.catch_lacks settings.now lowered.now)) }
+{
+    match first_lacked(settings, lowered) {
+        Some(part) => Ok(Some(part)),
+        None => catch_lacks(alloc, settings, lowered),
+    }
+}
+
+// The first part that an adapter or else one of these lacks.
 fn first_missing(
     alloc: Global,
     settings: &Settings,
     lowered: &Lowered,
 ) -> Result<Option<&'static str>, AllocError>
-    ensures first { IfOk result (λ part. option_copied part ≡ option_or (first_of (spec.adapter_lacks settings.now lowered.now) lowered.now.wit.adapters) (first_of (spec.entry_lacks settings.now lowered.now) lowered.now.aux.imports)) }
+    ensures first { IfOk result (λ part. option_copied part ≡ spec.first_missing settings.now lowered.now) }
 {
     match first_of_adapters(alloc, settings, lowered)? {
         Some(part) => Ok(Some(part)),
-        None => Ok(first_lacked(settings, lowered)),
+        None => import_lacks(alloc, settings, lowered),
     }
 }
 
-/// That an adapter or a described import lacks a part that it needs: a table, a function or a global by the name that it has in the
-/// description; `memory`, where a memory has addresses of 64 bits, or the one that an import gives isn't there or isn't the only one; or
-/// `externref`, where references would have to be kept in the other way. Want of memory is the only error.
+/// That an adapter, a described import or what catches what an import throws lacks a part that it needs: a table, a function or a global by the
+/// name that it has in the description; `memory`, where a memory has addresses of 64 bits, or the one that an import gives isn't there or isn't
+/// the only one; or `externref`, where references would have to be kept in the other way. Want of memory is the only error.
 pub(crate) fn missing_part(
     alloc: Global,
     settings: &Settings,

@@ -186,9 +186,11 @@ pub(crate) fn unbuilt_instructions(
 ) -> Result<Option<Fault>, AllocError>
     ensures fault { IfOk result (λ fault. fault ≡ spec.unbuilt_instructions lowered.now) }
 {
-    let asked = !lowered.aux.imports_with_catch.is_empty()
-        || has_special_export(lowered.aux.exports.as_slice());
-    not_built(alloc, asked, "instructions")
+    not_built(
+        alloc,
+        has_special_export(lowered.aux.exports.as_slice()),
+        "instructions",
+    )
 }
 
 fn has_member(exports: &[AuxExport]) -> bool

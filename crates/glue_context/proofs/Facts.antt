@@ -1,6 +1,6 @@
 -- What is known of a description whose items are made, however it was checked, and that the check gives it.
 use Rattle.glue_context.proofs.Common.{◌≡◌, ℕ, List, [], true, false, None, Some, Option, arith, list_all, is_bindable, is_definable, IsIn, IsAway, AreDistinct, ImportId, AuxExport, Settings, NameMap, Deno, Lowered, described_hosts, frame_of, rewritten, fixed_names, own_imports, callback_name, used_closures, is_declarable, IsBuiltExport, HasSteps, FileFlags, unbuilt, verdict}
-use Rattle.glue_check.proofs.{BuiltForm.target_built, BuiltForm.settings_built, BuiltForm.exports_built, BuiltForm.absent_built}
+use Rattle.glue_check.proofs.{BuiltForm.target_built, BuiltForm.settings_built, BuiltForm.exports_built, BuiltForm.structs_built}
 use Rattle.glue_check.proofs.ListNames.{AreListNames, lists_named}
 use Rattle.glue_check.proofs.{OwnPairs.IsDefinableBy, OwnPairs.IsDefinedImport, OwnPairs.kept_pair, OwnPairs.number_there, OwnPairs.own_defined, OwnPairs.own_distinct, Passed.described_apart, Passed.described_ident, Passed.reexports_fit, Passed.things_apart, Passed.variants_ident, Steps.closure_named, Steps.closure_steps, Steps.export_steps, Steps.pair_steps}
 use Rattle.std.specs.Prelude.{ℤ}
@@ -64,8 +64,7 @@ variants_named s l passed e i =
 
 pub built : (f : FileFlags) (s : Settings) (l : Lowered) → unbuilt f s l ≡ None → verdict s l ≡ None → Facts s l
 built f s l whole passed =
-    let asked = settings_built f s l whole in
-    let absent = absent_built f s l whole in record {
+    let asked = settings_built f s l whole in record {
       deno = target_built f s l whole;
       no_reset = asked.no_reset;
       plain_files = (asked.no_tests, asked.no_module);
@@ -74,7 +73,7 @@ built f s l whole passed =
       variants = variants_named s l passed;
       once = own_distinct f s l whole;
       defined = own_defined f s l whole passed;
-      structs = absent.structs;
+      structs = structs_built f s l whole;
       idents = described_ident s l passed;
       apart = described_apart s l passed;
       lists = lists_named s l passed;

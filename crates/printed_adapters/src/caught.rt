@@ -12,9 +12,6 @@ use glue_steps::Indexed;
 use std::alloc::{AllocError, Global};
 use wasm_core::ImportId;
 
-/// How what is caught is handed on: as a value that the module owns from then on.
-pub const HANDING: [Instruction; 1] = [Instruction::IndexFromOwned];
-
 // Whether an import throws because it is called for that.
 fn is_thrower(import: Option<&AuxImport>) -> bool
     ensures test { result ≡ spec.is_thrower (option_copied import.entry) }

@@ -18,7 +18,7 @@ mod own;
 mod places;
 mod room;
 
-pub use caught::{HANDING, catches, is_caught};
+pub use caught::{catches, is_caught};
 pub use closures::used_closures;
 pub use enums::named_enums;
 pub use name_set::NameSet;
