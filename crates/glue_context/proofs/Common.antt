@@ -50,4 +50,5 @@ pub use Rattle.glue_words.specs.declared.item.Item.{Item}
 pub use Rattle.wasm_core.specs.Contents.{Contents, IsLive}
 unfoldable pub use Rattle.wasm_core.specs.Edits.{with_import}
 pub use Rattle.wasm_core.specs.declared.types.Import.{Import}
+pub use Rattle.wasm_core.specs.declared.types.ImportKind.{ImportKind}
 pub use Rattle.wasm_core.specs.ids.ImportId.{ImportId}

@@ -1,5 +1,5 @@
 -- What the items that define own imports hold and declare, and that each belongs into the file.
-use Rattle.glue_context.proofs.Common.{◌≡◌, ℕ, inl, inr, List, [], ◌∷◌, ◌++◌, map, Bool, true, false, refl, sym, ap, ◌∙◌, subst, rules, append-nil, codes, filter_map, filter_map-append, true≢false, list_all, list_any, Option, Some, None, IsIn, AreAmong, HOSTS, Item, Belongs, Context, IsFrame, bound_name, bound_in, used_in, hosted_in, wasm_in, spliced_in, is_export_key, is_exported, Settings, NameMap, Lowered, host_names, own_imports, HasSteps, IsDefineItem}
+use Rattle.glue_context.proofs.Common.{◌≡◌, ℕ, inl, inr, List, [], ◌∷◌, ◌++◌, map, Bool, true, false, refl, sym, ap, ◌∙◌, subst, append-nil, codes, filter_map, filter_map-append, true≢false, list_all, list_any, Option, Some, None, IsIn, AreAmong, HOSTS, Item, Belongs, Context, ImportKind, bound_name, bound_in, used_in, hosted_in, wasm_in, spliced_in, is_export_key, is_exported, Settings, NameMap, Lowered, host_names, own_imports, HasSteps, IsDefineItem}
 use Rattle.std.proofs.lemmas.Bool.{and_parts}
 use Rattle.std.proofs.lemmas.List.Folds.{list_any-append}
 use Rattle.wasm_core.specs.ids.ImportId.{ImportId}
@@ -13,7 +13,7 @@ use Rattle.glue_words.specs.Names.{used_name, hosted_name, local_name, local_bou
 use Rattle.glue_words.specs.Spacing.{joins, first_word, each_next}
 use Rattle.glue_words.specs.Tables.{punct_text}
 use Rattle.glue_words.specs.Words.{printed, space}
-use Rattle.glue_words.proofs.Among.{apart_none}
+use Rattle.glue_words.proofs.Among.{among_in}
 use Rattle.glue_words.proofs.Idents.{ascii_ident, ascii_prop}
 use Rattle.glue_words.proofs.Spaced.{all_both, each_next_both, ends_in_gap-append, first_word-append}
 use Rattle.glue_tree.specs.FixedWords.{comma}
@@ -35,15 +35,22 @@ use Rattle.glue_shared.specs.Names.{adapter_for, handed_part, has_number}
 use Rattle.glue_names.proofs.Called.{called_own}
 use Rattle.glue_check.proofs.OwnPairs.{IsDefinableBy, IsDefinedImport, number_there}
 use Rattle.glue_context.specs.Defined.{HoldsAdapter, HoldsDefinition, HoldsFunction}
-use Rattle.glue_context.specs.DefinedItems.{IsAdapterItem, IsDefinedBy, IsFunctionItem, IsMemoryItem, IsPartItem, definition_back, definition_front, is_unpaired, address_words, limit_words, maximum_words, memory_back, memory_front, memory_words, part_words, spelled, value_front, value_text, words_text}
+use Rattle.glue_context.specs.DefinedItems.{IsAdapterItem, IsDefinedBy, IsFunctionItem, IsMemoryItem, IsPartItem, is_unpaired, value_back, address_words, limit_words, maximum_words, memory_back, memory_front, memory_words, part_words, spelled, value_front, value_text, words_text}
+use Rattle.glue_context.specs.Handing.{definition_back, definition_front, names_around, throws_of}
+use Rattle.glue_context.specs.Parts.{helper_parts}
 use Rattle.glue_context.specs.Rewritten.{rewritten}
 use Rattle.glue_context.proofs.Declared.{all_found}
 use Rattle.glue_context.proofs.Edited.{moved_keeps}
 use Rattle.glue_context.proofs.Entries.{any_there}
 use Rattle.glue_context.proofs.ExpressionFits.{function_fit}
 use Rattle.glue_context.proofs.ExpressionNames.{HasImport, function_has}
-use Rattle.glue_context.proofs.Fits.{AreWell, HasBasis, HasNames, fixed_hosts, free_declared, function_binds, function_fits, function_inner, has_parts, inner_words, keys_described, names_with}
+use Rattle.glue_context.proofs.Fits.{AreWell, HasBasis, HasNames, fixed_hosts, free_declared, function_apart, function_binds, function_fits, function_inner, has_parts, inner_words, keys_described, names_with}
 use Rattle.glue_context.proofs.HandedParts.{IsHanded, entry_there, handed_is}
+use Rattle.glue_context.proofs.HandingFacts.{around_declared, back_binds, back_inner, beside, defines, front_binds, front_inner}
+use Rattle.glue_context.proofs.Provided.{errors_provided}
+use Rattle.printed_adapters.specs.Caught.{catches}
+use Rattle.glue_check.proofs.Complete.{CanHand}
+use Rattle.helper_table.proofs.Supplied.{in_provided, provided_names}
 
 -- the text of an item by itself is that of its words
 pub one_printed : (r : Role) (words : List Word) → printed (record { role = r; words = words } ∷ []) ≡ words_text words
@@ -72,26 +79,26 @@ pub record IsValue (c : Context) (value : List Word) : Type 0 where
 
 module _ (c : Context) (name : List ℕ) (value : List Word) (v : IsValue c value) where
   abbrev words : List Word
-  words = value_front name ++ (value ++ definition_back)
+  words = value_front name ++ (value ++ value_back)
 
   -- the words behind it hold no names
-  kept : (kind : Word → Option (List ℕ)) → filter_map kind definition_back ≡ [] → filter_map kind (value ++ definition_back) ≡ filter_map kind value
+  kept : (kind : Word → Option (List ℕ)) → filter_map kind value_back ≡ [] → filter_map kind (value ++ value_back) ≡ filter_map kind value
   kept kind h =
-      filter_map-append kind value definition_back ∙ ap (λ (ns : List (List ℕ)). filter_map kind value ++ ns) h ∙ append-nil (filter_map kind value)
+      filter_map-append kind value value_back ∙ ap (λ (ns : List (List ℕ)). filter_map kind value ++ ns) h ∙ append-nil (filter_map kind value)
 
   stand : each_next spaced words None ≡ true
   unfolding joins punct_text
   stand =
-      let first : spaced space (first_word (value ++ definition_back) None) ≡ true =
-      ap (spaced space) (first_word-append value definition_back None) ∙ v.front in
-      let each = each_next_both spaced value definition_back None v.each refl in
+      let first : spaced space (first_word (value ++ value_back) None) ≡ true =
+      ap (spaced space) (first_word-append value value_back None) ∙ v.front in
+      let each = each_next_both spaced value value_back None v.each refl in
       rw (first, each) refl
 
   right : list_all is_right words ≡ true
-  right = all_both is_right value definition_back (good_parts value v.good).0 refl
+  right = all_both is_right value value_back (good_parts value v.good).0 refl
 
   inner : list_any is_export_key words ≡ false
-  inner = list_any-append is_export_key value definition_back ∙ rw (inner_words value (good_parts value v.good).1) refl
+  inner = list_any-append is_export_key value value_back ∙ rw (inner_words value (good_parts value v.good).1) refl
 
   value_binds : bound_in words ≡ []
   value_binds = kept bound_name refl ∙ v.binds
@@ -114,7 +121,7 @@ module _ (c : Context) (name : List ℕ) (value : List Word) (v : IsValue c valu
       known = subst (λ (ns : List (List ℕ)). AreAmong ns c.keys) (sym (kept spliced_key refl)) v.names.3;
       formed = subst (λ (ns : List (List ℕ)). list_all is_computed ns ≡ true) (sym (kept spliced_key refl)) v.names.4;
     };
-    alone = words_alone words right stand refl (ends_in_gap-append (value_front name) (value ++ definition_back) (ends_in_gap-append value definition_back refl));
+    alone = words_alone words right stand refl (ends_in_gap-append (value_front name) (value ++ value_back) (ends_in_gap-append value value_back refl));
   }
 
 -- ---- a memory
@@ -240,9 +247,10 @@ module _ (s : Settings) (m : NameMap) (l : Lowered) where
 
   pub define_binds : (place : ℕ) (item : Item) → IsDefineItem s m l place item → bound_in item.words ≡ []
   define_binds place item = define_cases place item (bound_in item.words ≡ [])
-      (λ adapter e d. rw (d.is, function_binds d.of_adapter definition_back) refl)
-      (λ adapter j e q d. ap (λ (i : Item). bound_in i.words) d.is ∙ filter_map-append bound_name (part_words m j) definition_back ∙ rw (part_binds m j) refl)
-      (λ e d. ap (λ (i : Item). bound_in i.words) d.is ∙ filter_map-append bound_name (memory_words d.memory.limits) definition_back
+      (λ adapter e d. let t = throws_of l adapter d.«import».kind in ap (λ (i : Item). bound_in i.words) d.is
+      ∙ front_binds t d.«import».name (d.function.words ++ definition_back t) ∙ function_binds d.of_adapter (definition_back t) ∙ back_binds t)
+      (λ adapter j e q d. ap (λ (i : Item). bound_in i.words) d.is ∙ filter_map-append bound_name (part_words m j) value_back ∙ rw (part_binds m j) refl)
+      (λ e d. ap (λ (i : Item). bound_in i.words) d.is ∙ filter_map-append bound_name (memory_words d.memory.limits) value_back
       ∙ rw (memory_holds d.memory.limits.min d.memory.limits.wide d.memory.limits.max).binds refl)
 
   -- ---- it defines the import in the written module
@@ -263,7 +271,7 @@ module _ (s : Settings) (m : NameMap) (l : Lowered) where
             rw d.is (record { pair = pair; «import» = k.0; stands = k.1; words = rw k.2 })
         by_part adapter pair None d =
             let k = moved_keeps s l place d.«import» mine d.stands in
-            rw d.is (record { pair = pair; function = d.function; of_adapter = d.of_adapter; «import» = k.0; stands = k.1; words = rw k.2 })
+            rw d.is (record { pair = pair; described = d.«import»; there = d.stands; function = d.function; of_adapter = d.of_adapter; «import» = k.0; stands = k.1; words = rw k.2 })
 
         by : (o : Option ℕ) → IsDefinableBy l place known.«import» o → IsDefinedBy s m l place item o → HoldsDefinition s m l (rewritten s l) place item o
         by (Some adapter) pair d = by_part adapter pair (handed_part s l.wit l.aux adapter) d
@@ -272,11 +280,6 @@ module _ (s : Settings) (m : NameMap) (l : Lowered) where
             rw d.is (record { described = d.«import»; there = d.stands; memory = d.memory; brought = d.brought; «import» = k.0; stands = k.1; words = rw k.2 })
 
   -- ---- it belongs into the file
-
-  -- its frame is spaced from the function
-  defines : (name : List ℕ) → IsFrame (definition_front name) definition_back
-  unfolding joins punct_text
-  defines name = record { right = (refl, refl); before = refl; behind = refl; after = refl; apart = refl; ends = refl }
 
   web_known : IsIn (codes "WebAssembly") (host_names s l.aux)
   unfolding host_names
@@ -327,7 +330,7 @@ module _ (s : Settings) (m : NameMap) (l : Lowered) where
         memory_value c limits (basis.memory (any_there (is_unpaired l.wit.implements) own place at (rw e refl))) web_known
 
     module _ (steps : (pair : ImportId × ℕ) → IsIn pair l.wit.implements → has_number pair.0.0 own ≡ true → HasSteps s l pair.1)
-        (place : ℕ) (at : IsIn place own) (known : IsDefinedImport l place) (item : Item) where
+        (hands : catches s l ≡ true → CanHand s l) (place : ℕ) (at : IsIn place own) (known : IsDefinedImport l place) (item : Item) where
       mine_there : has_number place own ≡ true
       mine_there = number_there place own at
 
@@ -337,21 +340,32 @@ module _ (s : Settings) (m : NameMap) (l : Lowered) where
       part_there : (adapter : ℕ) (j : JsImport) → adapter_for l.wit.implements place ≡ Some adapter → handed_part s l.wit l.aux adapter ≡ Some j → IsValue c (part_words m j)
       part_there adapter j e q = part_value (record { 0 = place }, adapter) (pair_there adapter e) mine_there j (handed_is s l adapter j q)
 
+      -- the names around the adapter's function are declared
+      around_there : (adapter : ℕ) → adapter_for l.wit.implements place ≡ Some adapter → (kind : ImportKind) → AreAmong (names_around (throws_of l adapter kind)) declared
+      around_there adapter e kind = around_declared s l declared handled (record { 0 = place }, adapter) (pair_there adapter e) mine_there kind
+        where
+          handled : catches s l ≡ true → IsIn (codes "handleError") declared
+          handled caught =
+              among_in (codes "handleError") (provided_names (helper_parts s l m)) declared basis.helpers
+              (in_provided (helper_parts s l m) (codes "handleError") (errors_provided s l m basis.taken.items basis.taken.few caught (hands caught)))
+
       pub define_belongs : IsDefineItem s m l place item → Belongs c item.words
       define_belongs = define_cases place item (Belongs c item.words)
-          (λ adapter e d.
-          rw d.is (function_fits d.of_adapter well (steps (record { 0 = place }, adapter) (pair_there adapter e) mine_there) (definition_front d.«import».name)
-          definition_back (defines d.«import».name) declared basis (search (rules, apart_none))))
+          (λ adapter e d. let t = throws_of l adapter d.«import».kind in
+          rw d.is (function_fits d.of_adapter well (steps (record { 0 = place }, adapter) (pair_there adapter e) mine_there) (definition_front t d.«import».name)
+          (definition_back t) (defines t d.«import».name) declared basis
+          (beside c (d.function.params ++ d.of_adapter.bound.temps) d.«import».name t (around_there adapter e d.«import».kind) (function_apart d.of_adapter))))
           (λ adapter j e q d. rw d.is (value_belongs c d.«import».name (part_words m j) (part_there adapter j e q)))
           (λ e d. rw d.is (value_belongs c d.«import».name (memory_words d.memory.limits) (memory_there place at e d.memory.limits)))
 
       pub define_exported : IsDefineItem s m l place item → is_exported item ≡ false
       define_exported = define_cases place item (is_exported item ≡ false)
-          (λ adapter e d. rw (
-            d.is,
-            list_any-append is_export_key d.function.words definition_back,
-            function_inner d.of_adapter well (steps (record { 0 = place }, adapter) (pair_there adapter e) mine_there) (definition_front d.«import».name)
-                definition_back (defines d.«import».name),
-          ) refl)
+          (λ adapter e d. let t = throws_of l adapter d.«import».kind in ap is_exported d.is
+          ∙ front_inner t d.«import».name (d.function.words ++ definition_back t)
+          ∙ list_any-append is_export_key d.function.words (definition_back t)
+          ∙ ap (λ (b : Bool). b || list_any is_export_key (definition_back t))
+          (function_inner d.of_adapter well (steps (record { 0 = place }, adapter) (pair_there adapter e) mine_there) (definition_front t d.«import».name)
+          (definition_back t) (defines t d.«import».name))
+          ∙ back_inner t)
           (λ adapter j e q d. rw d.is (inner c d.«import».name (part_words m j) (part_there adapter j e q)))
           (λ e d. rw d.is (inner c d.«import».name (memory_words d.memory.limits) (memory_there place at e d.memory.limits)))

@@ -1,6 +1,7 @@
 -- What is known of a description whose items are made, however it was checked, and that the check gives it.
 use Rattle.glue_context.proofs.Common.{◌≡◌, ℕ, List, [], true, false, None, Some, Option, arith, list_all, is_bindable, is_definable, IsIn, IsAway, AreDistinct, ImportId, AuxExport, Settings, NameMap, Deno, Lowered, described_hosts, frame_of, rewritten, fixed_names, own_imports, callback_name, used_closures, is_declarable, IsBuiltExport, HasSteps, FileFlags, unbuilt, verdict}
 use Rattle.glue_check.proofs.{BuiltForm.target_built, BuiltForm.settings_built, BuiltForm.exports_built, BuiltForm.structs_built}
+use Rattle.glue_check.proofs.Complete.{CanHand, handing_there}
 use Rattle.glue_check.proofs.ListNames.{AreListNames, lists_named}
 use Rattle.glue_check.proofs.{OwnPairs.IsDefinableBy, OwnPairs.IsDefinedImport, OwnPairs.kept_pair, OwnPairs.number_there, OwnPairs.own_defined, OwnPairs.own_distinct, Passed.described_apart, Passed.described_ident, Passed.reexports_fit, Passed.things_apart, Passed.variants_ident, Steps.closure_named, Steps.closure_steps, Steps.export_steps, Steps.pair_steps}
 use Rattle.std.specs.Prelude.{ℤ}
@@ -12,6 +13,7 @@ use Rattle.glue_published.specs.Reexports.{bad_reexport}
 use Rattle.glue_shared.specs.declared.aux.AuxEnum.{AuxEnum}
 use Rattle.glue_shared.specs.declared.import.JsImportName.{JsImportName}
 use Rattle.glue_shared.specs.Names.{adapter_for, described_names, has_number}
+use Rattle.printed_adapters.specs.Caught.{catches}
 use Rattle.glue_words.specs.Ident.{is_ident}
 use Rattle.glue_words.specs.Limits.{is_prop}
 use Rattle.glue_words.proofs.Idents.{ident_prop}
@@ -46,6 +48,8 @@ pub record Facts (s : Settings) (l : Lowered) : Type 0 where
   pub export_steps : (e : AuxExport) → IsIn e l.aux.exports → HasSteps s l e.adapter
   pub pair_steps : (pair : ImportId × ℕ) → IsIn pair l.wit.implements → has_number pair.0.0 (own_imports s l.«module» l.wit l.aux) ≡ true → HasSteps s l pair.1
   pub closure_steps : (id : ℕ) → IsIn id (used_closures s l) → HasSteps s l id
+  -- what imports throw can be handed to the module, where it is caught
+  pub hands : catches s l ≡ true → CanHand s l
   -- what the frame goes by can be read off the written module
   pub framed : frame_of s l ≡ frame_in s.stem (rewritten s l)
 
@@ -82,6 +86,7 @@ built f s l whole passed =
       export_steps = export_steps f s l whole passed;
       pair_steps = pair_steps f s l whole passed;
       closure_steps = closure_steps f s l whole passed;
+      hands = handing_there s l passed;
       framed = frame_read f s l whole passed;
     }
 

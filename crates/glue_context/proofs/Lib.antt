@@ -11,6 +11,7 @@ pub mod Facts
 mod Fits
 mod FrameRead
 mod HandedParts
+mod HandingFacts
 mod HeldNames
 mod ImportBound
 mod ImportedFacts

@@ -580,7 +580,7 @@ module _ (s : Settings) (m : NameMap) (l : Lowered) (items : List Item) (b : Fac
       (imported.constants_belong form (imports g) g.lines g.imported c drawn_idents (known (codes "undefined" ∷ []) refl).0 (import_hosts c refl))
       (published.items_belong s m l b n g.declares g.declared well c.declared basis
       (there names (names_first s l.«module» paths held memory few g.numbered parts standing listed imported_names constant_names names given_names)) reexport_first)
-      (λ place item k x. define_belongs s m l well c.declared basis b.pair_steps place k (b.defined place k) item x)
+      (λ place item k x. define_belongs s m l well c.declared basis b.pair_steps b.hands place k (b.defined place k) item x)
       (belongs_by_facts c _ (fixed.start_fits c s.stem memory))
       (belongs_by_facts c _ (end_fits s.stem paths strings c (modules_idents 0 (own_path s.stem ∷ paths) (omega (arith, small)))
       (subst (λ (ns : List (List ℕ)). AreAmong ns c.declared) (sym own0) (first_module, there (module_names 1 paths) lined)) (proxy_known strings)))
@@ -777,7 +777,7 @@ module _ (s : Settings) (m : NameMap) (l : Lowered) (items : List Item) (b : Fac
         none_given published_by g.helpers (held_so _ (λ entry. refl)),
       ) (simp (flat_none, append-nil)) in
       let none : fixed_published all ≡ [] =
-      given g fixed_by (λ place. []) g.helpers (λ place item k x. rw (define_role s m l place item x, define_exported s m l well (first ++ provided) basis b.pair_steps place k (b.defined place k) item x) refl)
+      given g fixed_by (λ place. []) g.helpers (λ place item k x. rw (define_role s m l place item x, define_exported s m l well (first ++ provided) basis b.pair_steps b.hands place k (b.defined place k) item x) refl)
       ∙ rw (
         lines_none fixed_by imported.import_fixed,
         none_given fixed_by (foreign_lines 1 paths) (lines_inner 1 paths),

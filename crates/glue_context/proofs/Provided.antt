@@ -1,6 +1,6 @@
 -- Helpers that instructions call are provided by what the module gives: their names are among those that helpers may bind there, and what is given
 -- stands.
-use Rattle.glue_context.proofs.Common.{◌≡◌, ℕ, zero, suc, ◌+◌, ◌<◌, List, [], ◌∷◌, ◌++◌, Bool, true, false, true≢false, Option, Some, None, refl, sym, ap, ◌∙◌, subst, arith, inl, inr, codes, is_some, length, list_all, some_of, IsIn, Lowered, NameMap, Settings, option_map, in_left, in_right, bytes_eq-Decides, Contents}
+use Rattle.glue_context.proofs.Common.{◌≡◌, ℕ, zero, suc, ◌+◌, ◌<◌, List, [], ◌∷◌, ◌++◌, Bool, true, false, true≢false, Option, Some, None, refl, sym, ap, ◌∙◌, subst, arith, inl, inr, codes, is_some, length, list_all, some_of, IsIn, Item, Lowered, NameMap, Settings, option_map, in_left, in_right, bytes_eq-Decides, Contents}
 use Rattle.values.proofs.Members.{in_either}
 use Rattle.std.specs.Prelude.{◌^◌, ◌≤◌, ◌&&◌, cond, filter, not, slice_get, nat_le}
 use Rattle.std.specs.List.{flat_map}
@@ -20,17 +20,21 @@ use Rattle.glue_shared.specs.declared.adapter.VectorKind.TheVariants as vectors
 use Rattle.glue_shared.specs.Roots.{instruction_items, is_entry, is_live_item, live_item, listed}
 use Rattle.glue_steps.specs.declared.needed.ReferencePart.{ReferencePart}
 use Rattle.glue_steps.specs.declared.needed.ReferencePart.TheVariants as part
-use Rattle.glue_steps.specs.Needed.{destroyer, destroyer_item, destroyer_taken, goes_by, makes_closure, named_by, needed_items, part_item, part_named, part_taken, parts_taken}
+use Rattle.glue_steps.specs.Needed.{destroyer, destroyer_item, destroyer_taken, goes_by, makes_closure, named_by, needed_items, part_item, part_named, part_taken, parts_taken, store_item}
 use Rattle.glue_steps.specs.Resolving.{handle_helper, helper_of, item_order, or_empty}
 use Rattle.taken_items.specs.ItemNames.{item_map, item_names}
-use Rattle.taken_items.proofs.ItemNames.{given_listed, item_named, name_given, names_with_added, needed_asked}
+use Rattle.taken_items.proofs.ItemNames.{given_listed, item_named, name_given, names_with_added, needed_asked, store_asked}
+use Rattle.printed_adapters.specs.Caught.{catches, handing}
+use Rattle.glue_check.proofs.Complete.{CanHand}
 use Rattle.glue_check.proofs.Steps.{IsHelperOf, IsNamedFunction, IsPrinted}
 use Rattle.glue_helpers.specs.declared.closures.ClosureHelper.{ClosureHelper}
 use Rattle.glue_helpers.specs.declared.closures.ClosureHelper.TheVariants as closure
 use Rattle.glue_helpers.specs.declared.element.ElementKind.TheVariants as element
 use Rattle.glue_helpers.specs.declared.element.Width.TheVariants as width
 use Rattle.glue_helpers.specs.Closures.{closure_item}
+use Rattle.glue_helpers.specs.Errors.{handle_error_by_heap, handle_error_by_table}
 use Rattle.glue_helpers.proofs.ClosureTexts.{closure_holds}
+use Rattle.glue_helpers.proofs.ErrorTexts.{by_heap_holds, by_table_holds}
 use Rattle.helper_table.specs.Laws.{any_in}
 use Rattle.helper_table.specs.declared.parts.HelperParts.{HelperParts}
 use Rattle.helper_table.specs.declared.parts.TableExport.{TableExport}
@@ -40,7 +44,7 @@ use Rattle.helper_table.specs.declared.kinds.Family.TheVariants as family
 use Rattle.helper_table.specs.declared.kinds.TableHelper.TheVariants as table
 use Rattle.helper_table.specs.declared.kinds.Single.TheVariants as single
 use Rattle.helper_table.specs.declared.kinds.TheConstants.{FAMILY_BINDS, SINGLES}
-use Rattle.helper_table.specs.Made.{added, closure_made, family_at, is_there, memory_item, single_at, taken, values_got, values_passed}
+use Rattle.helper_table.specs.Made.{added, closure_made, error_handled, family_at, is_there, memory_item, single_at, taken, values_got, values_passed}
 use Rattle.helper_table.specs.Names.{family_name, family_owner}
 use Rattle.helper_table.proofs.HeldItems.{none_some, some_is}
 use Rattle.helper_table.specs.Names as table_names
@@ -467,6 +471,51 @@ module _ (s : Settings) (l : Lowered) (m : NameMap) (known : m.wasm ≡ item_map
   pub helper_provided : (helper : List ℕ) → IsHelperOf s l helper → IsProvided parts helper
   helper_provided helper h = provides h.instruction h.printed helper h.calls
 
+  -- ---- what imports throw
+
+  -- the instruction by which it is handed on, where it is caught
+  handing_printed : catches s l ≡ true → CanHand s l → IsPrinted s l handing
+  handing_printed caught can = record { among = inr (caught, refl); complete = can.complete; live = refl }
+
+  -- the function that takes it is given
+  store_given : catches s l ≡ true → CanHand s l → (store : List ℕ) × (parts.exn_store ≡ Some store)
+  store_given caught can =
+      let there = some_of (store_item l) can.store in
+      let n = item_named s l there.0 (store_asked s l there.0 caught there.1) in
+      (n.0, ap (export_at m) there.1 ∙ (ap (λ (es : List (ExportItem × List ℕ)). look_up item_order es there.0) known ∙ n.1.0))
+
+  -- the helper that hands it on is there
+  handler_there : (store : List ℕ) → parts.exn_store ≡ Some store → IsPrinted s l handing
+      → (item : Item) × (error_handled parts.externref parts.table parts.exn_store ≡ Some item) × IsIn (codes "handleError") (bound_in item.words)
+  handler_there store given printed = by s.externref refl
+    where
+      binds_of : (item : Item) (names : List (List ℕ)) → bound_in item.words ≡ names → IsIn (codes "handleError") names
+          → IsIn (codes "handleError") (bound_in item.words)
+      binds_of item names h at = subst (λ (ns : List (List ℕ)). IsIn (codes "handleError") ns) (sym h) at
+
+      by : (b : Bool) → s.externref ≡ b
+          → (item : Item) × (error_handled b parts.table parts.exn_store ≡ Some item) × IsIn (codes "handleError") (bound_in item.words)
+      by false q = (
+        handle_error_by_heap store,
+        ap (λ (o : Option (List ℕ)). error_handled false parts.table o) given,
+        binds_of (handle_error_by_heap store) _ (by_heap_holds store).binds (inl refl),
+      )
+      by true q =
+          let t = table_given handing printed q refl in (
+            handle_error_by_table t.1.0.place store,
+            ap (λ (o : Option TableExport). error_handled true o parts.exn_store) t.1.1.1.1
+            ∙ ap (λ (o : Option (List ℕ)). error_handled true (Some t.1.0) o) given,
+            binds_of (handle_error_by_table t.1.0.place store) _ (by_table_holds store t.1.0.place).binds (inl refl),
+          )
+
+  -- so it is provided
+  pub errors_provided : catches s l ≡ true → CanHand s l → IsProvided parts (codes "handleError")
+  errors_provided caught can =
+      let printed = handing_printed caught can in
+      let store = store_given caught can in
+      let h = handler_there store.0 store.1 printed in
+      single_provides parts 24 single.HandleError h.0 (codes "handleError") (omega arith) refl h.1 (adding handing printed refl refl) h.2
+
   -- ---- what is given stands
 
   -- a memory that is given stands
@@ -541,10 +590,16 @@ module _ (s : Settings) (l : Lowered) (m : NameMap) (known : m.wasm ≡ item_map
   -- all exports that are given are such ones
   pub all_given : (name : List ℕ) → IsIn name (given_exports parts) → IsIn name (names_with_added s l)
   all_given name at =
-      elim (in_either name (flat_map option_names parts.memories) (table_exports parts parts.table ++ option_names parts.destroy_closure) at) [
+      elim (in_either name (flat_map option_names parts.memories) (table_exports parts parts.table ++ functions) at) [
         | inl memories ↦ memories_known 0 l.«module».memories name memories
-        | inr rest ↦ elim (in_either name (table_exports parts parts.table) (option_names parts.destroy_closure) rest) [
+        | inr rest ↦ elim (in_either name (table_exports parts parts.table) functions rest) [
           | inl table ↦ table_known (reference_item s l part.Table) name table
-          | inr destroys ↦ given_known (destroyer_item l) name destroys
+          | inr others ↦ elim (in_either name (option_names parts.exn_store) (option_names parts.destroy_closure) others) [
+            | inl takes ↦ given_known (store_item l) name takes
+            | inr destroys ↦ given_known (destroyer_item l) name destroys
+          ]
         ]
       ]
+    where
+      functions : List (List ℕ)
+      functions = option_names parts.exn_store ++ option_names parts.destroy_closure

@@ -27,9 +27,10 @@ use Rattle.printed_adapters.specs.Printed.{used_closures}
 use Rattle.taken_items.specs.Asked.{asked_items}
 use Rattle.glue_naming.specs.Naming.{declared_name}
 use Rattle.glue_context.specs.ClosureItems.{IsClosureItem}
-use Rattle.glue_context.specs.DefinedItems.{define_item, memory_words, part_words, value_item}
+use Rattle.glue_context.specs.DefinedItems.{memory_words, part_words, value_item}
 use Rattle.glue_context.specs.ExportedItems.{declaration_words}
-use Rattle.glue_context.specs.Functions.{IsFunctionOf}
+use Rattle.glue_context.specs.Functions.{IsFunctionOf, usual_form}
+use Rattle.glue_context.specs.Handing.{define_item, names_around, throws_of}
 
 -- the imports that an item of a role defines: one, or none
 abbrev pub defined_by : Role → List ℕ
@@ -40,14 +41,16 @@ abbrev pub defined_places : List Item → List ℕ
 defined_places items = flat_map (λ (item : Item). defined_by item.role) items
 
 -- the item defines the import, by its name in the written module, as the function of the adapter that implements it, where these names are
--- drawn
+-- drawn, or where what the import throws is caught, as one that calls this function and hands that to the module
 pub record IsDefinition (s : Settings) (m : NameMap) (l : Lowered) (written : Contents) (place adapter : ℕ) (item : Item) : Type 0 where
   pub pair : IsIn (record { 0 = place }, adapter) l.wit.implements
+  pub described : Import
+  pub there : entry_at l.«module».imports place ≡ Some described
   pub function : JsFunction
-  pub of_adapter : IsFunctionOf s m l adapter [] function
+  pub of_adapter : IsFunctionOf s m l adapter [] usual_form (names_around (throws_of l adapter described.kind)) function
   pub «import» : Import
   pub stands : entry_at written.imports place ≡ Some «import»
-  pub words : item.words ≡ (define_item place «import».name function.words).words
+  pub words : item.words ≡ (define_item (throws_of l adapter described.kind) place «import».name function.words).words
 
 -- the item defines the import, by its name in the written module, as this property of a module's name where that is a function, and else as a
 -- function that throws

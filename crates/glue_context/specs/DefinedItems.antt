@@ -25,28 +25,19 @@ use Rattle.glue_shared.specs.declared.settings.Settings.{Settings}
 use Rattle.glue_shared.specs.Names.{adapter_for, handed_part, own_imports}
 use Rattle.glue_steps.specs.Resolving.{entry_at, adapter_steps}
 use Rattle.glue_check.specs.Unbuilt.{is_plain_memory, memory_of}
-use Rattle.glue_context.specs.Functions.{IsFunctionOf}
+use Rattle.glue_context.specs.Functions.{IsFunctionOf, usual_form}
+use Rattle.glue_context.specs.Handing.{define_item, names_around, throws_of}
 
--- `name: `, and what stands behind a definition
+-- `name: `, and what stands behind a value
 abbrev pub value_front : List ℕ → List Word
 value_front name = w.Outer name ∷ w.Punct punct.COLON ∷ space ∷ []
 
-abbrev pub definition_back : List Word
-definition_back = w.Punct punct.COMMA ∷ line_feed ∷ []
+abbrev pub value_back : List Word
+value_back = w.Punct punct.COMMA ∷ line_feed ∷ []
 
 -- `name: value,`
 abbrev pub value_item : ℕ → List ℕ → List Word → Item
-value_item place name value = record { role = Define place; words = value_front name ++ (value ++ definition_back) }
-
--- ---- by a function
-
--- `name: function`
-abbrev pub definition_front : List ℕ → List Word
-definition_front name = w.Outer name ∷ w.Punct punct.COLON ∷ space ∷ w.Key key.FUNCTION ∷ []
-
--- `name: function(..) {..},`
-abbrev pub define_item : ℕ → List ℕ → List Word → Item
-define_item place name function = record { role = Define place; words = definition_front name ++ (function ++ definition_back) }
+value_item place name value = record { role = Define place; words = value_front name ++ (value ++ value_back) }
 
 -- ---- by a property of a module's name
 
@@ -106,8 +97,8 @@ pub record IsFunctionItem (s : Settings) (m : NameMap) (l : Lowered) (place adap
   pub «import» : Import
   pub stands : entry_at l.«module».imports place ≡ Some «import»
   pub function : JsFunction
-  pub of_adapter : IsFunctionOf s m l adapter [] function
-  pub is : item ≡ define_item place «import».name function.words
+  pub of_adapter : IsFunctionOf s m l adapter [] usual_form (names_around (throws_of l adapter «import».kind)) function
+  pub is : item ≡ define_item (throws_of l adapter «import».kind) place «import».name function.words
 
 -- the item defines it by this property of a module's name
 pub record IsPartItem (m : NameMap) (l : Lowered) (place : ℕ) (js : JsImport) (item : Item) : Type 0 where

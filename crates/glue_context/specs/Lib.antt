@@ -6,6 +6,7 @@ pub mod ExportedItems
 pub mod Foreign
 pub mod FrameIn
 pub mod Functions
+pub mod Handing
 pub mod ImportedItems
 pub mod Items
 pub mod Keys

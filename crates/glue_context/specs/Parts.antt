@@ -1,5 +1,5 @@
 -- What the texts of helpers depend on: the settings, and the names of the exports that give memories, the table of references and its functions,
--- and the function that destroys closures. Nothing that is built asks for a helper that takes another function of the module.
+-- the function that takes what imports throw, and the one that destroys closures.
 use Rattle.std.specs.Prelude.{ℕ, ◌+◌, ◌^◌, nat_le, Bool, true, false, ◌&&◌, List, [], ◌∷◌, length, Option, Some, None, option_map, if◌then◌else◌}
 use Rattle.values.specs.Map.{look_up}
 use Rattle.wasm_core.specs.Contents.{Contents}
@@ -15,7 +15,7 @@ use Rattle.glue_shared.specs.declared.settings.Target.{Target}
 use Rattle.glue_shared.specs.declared.settings.Target.TheVariants as target
 use Rattle.glue_steps.specs.declared.needed.ReferencePart.{ReferencePart}
 use Rattle.glue_steps.specs.declared.needed.ReferencePart.TheVariants as part
-use Rattle.glue_steps.specs.Needed.{destroyer_item, part_item}
+use Rattle.glue_steps.specs.Needed.{destroyer_item, part_item, store_item}
 use Rattle.glue_steps.specs.Resolving.{item_order}
 use Rattle.helper_table.specs.declared.parts.EncoderForm.{EncoderForm}
 use Rattle.helper_table.specs.declared.parts.EncoderForm.TheVariants as encoder
@@ -75,7 +75,7 @@ helper_parts settings l m = record {
   encoder = encoder_of settings.encode_into;
   memories = memory_exports m 0 l.«module».memories;
   table = table_export m (reference_item settings l part.Table);
-  exn_store = None;
+  exn_store = export_at m (store_item l);
   externref_alloc = export_at m (reference_item settings l part.Alloc);
   externref_drop = export_at m (reference_item settings l part.Drop);
   externref_drop_slice = export_at m (reference_item settings l part.DropSlice);

@@ -9,7 +9,8 @@ ghost use Rattle.glue_steps.specs.Resolving as resolving;
 ghost use Rattle.glue_check.specs.Unbuilt as kinds;
 ghost use Rattle.glue_context.specs.DefinedItems as spec;
 
-use crate::function::{adapter_function, words_of};
+use crate::function::{adapter_function, usual_form, words_of};
+use crate::handing::{define_function, names_around, throws_of};
 use glue_binding::spell;
 use glue_check::memory_of;
 use glue_imports::{Basis, function_or_throw, root};
@@ -41,21 +42,6 @@ fn define_value(
         role: Role::Define(place.0),
         words: words.finish(),
     })
-}
-
-// The definition of an import by a function.
-fn define_function(
-    alloc: Global,
-    place: ImportId,
-    name: &Text,
-    function: Seq<Word>,
-) -> Result<Item, AllocError>
-    ensures item { IfOk result (λ item. item ≡ spec.define_item place.0 name.now function) }
-{
-    let mut value = Seq::new(alloc);
-    value.push(Word::Key(key::FUNCTION))?;
-    value.append(function)?;
-    define_value(alloc, place, name, value)
 }
 
 // ---- by a property of a module's name
@@ -189,6 +175,27 @@ fn memory_words(alloc: Global, memory: &Memory) -> Result<Seq<Word>, AllocError>
 
 // ---- each import
 
+// The definition of an import by the function of its adapter.
+fn define_by_function<N: Names>(
+    alloc: Global,
+    basis: &Basis<'_>,
+    indexed: &Indexed<'_>,
+    adapter: AdapterId,
+    place: ImportId,
+    import: &Import,
+) -> Result<Item, AllocError>
+    requires stands { resolving.entry_at indexed.now.«module».imports place.0 ≡ Some import.now }
+    requires told { is_some (resolving.adapter_steps basis.now.settings.now basis.now.names.now indexed.now adapter) ≡ true }
+    ensures item { IfOk result (λ item. spec.IsFunctionItem basis.now.settings.now basis.now.names.now indexed.now place.0 adapter item) }
+{
+    let throws = throws_of(indexed, adapter, import.kind);
+    let around = names_around(alloc, throws)?;
+    let none = Seq::new(alloc);
+    let function =
+        adapter_function::<N>(alloc, basis, indexed, adapter, &none, usual_form(), &around)?;
+    define_function(alloc, throws, place, &import.name, words_of(function))
+}
+
 // The definition of an import for which an adapter stands.
 fn define_by_adapter<N: Names>(
     alloc: Global,
@@ -211,9 +218,7 @@ fn define_by_adapter<N: Names>(
             define_value(alloc, place, &import.name, value)
         }
         None => {
-            let none = Seq::new(alloc);
-            let function = adapter_function::<N>(alloc, basis, indexed, adapter, &none)?;
-            define_function(alloc, place, &import.name, words_of(function))
+            define_by_function::<N>(alloc, basis, indexed, adapter, place, import)
         }
     }
 }

@@ -33,6 +33,7 @@ mod exported;
 mod foreign;
 mod frame;
 mod function;
+mod handing;
 mod imported;
 mod items;
 mod listed;

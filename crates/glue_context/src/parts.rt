@@ -3,7 +3,7 @@ ghost use Rattle.std.specs.Prelude.{◌≡◌, ◌<◌, ◌≤◌, ◌^◌, true
 ghost use Rattle.glue_context.specs.Parts as spec;
 
 use glue_shared::{EncodeInto, Lowered, NameMap, Settings, Target};
-use glue_steps::{ReferencePart, destroyer_item, part_item};
+use glue_steps::{ReferencePart, destroyer_item, part_item, store_item};
 use helper_table::{EncoderForm, HelperParts, TableExport};
 use std::alloc::{AllocError, Global};
 use values::{Duplicate, Seq, Text};
@@ -109,7 +109,7 @@ fn are_few(module: &Module) -> bool
 }
 
 /// What the texts of helpers depend on: the settings, and the names of the exports that give memories, the table of references and its
-/// functions, and the function that destroys closures. Want of memory is the only error; more than 4,294,967,296 memories or tables come to it
+/// functions, the function that takes what imports throw, and the one that destroys closures. Want of memory is the only error; more than 4,294,967,296 memories or tables come to it
 /// too.
 pub(crate) fn helper_parts(
     alloc: Global,
@@ -135,7 +135,7 @@ pub(crate) fn helper_parts(
         encoder: encoder_of(settings.encode_into),
         memories: memory_exports(alloc, names, module.memories())?,
         table: table_export(alloc, names, table)?,
-        exn_store: None,
+        exn_store: export_at(alloc, names, store_item(lowered))?,
         externref_alloc: export_at(alloc, names, allocate)?,
         externref_drop: export_at(alloc, names, free)?,
         externref_drop_slice: export_at(alloc, names, free_all)?,
