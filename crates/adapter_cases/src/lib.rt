@@ -1,5 +1,5 @@
 //! Tests of the conditions on adapters that `check` of `glue_check` answers: what instructions take and leave, how imports are called, what
-//! passes through memory, through a table of references and through room on the stack, texts of string enums, closures, and which parts of the module
+//! passes through memory, through a table of references and through room on the stack, texts of string enums, closures, caught throws, and which parts of the module
 //! each of these needs.
 //!
 //! Stands on `check_inputs` for modules, edits and answers, on `glue_lower` and `glue_shared` for what is lowered, and on `wasm_core` for
@@ -8,6 +8,8 @@
 
 #[cfg(test)]
 mod called;
+#[cfg(test)]
+mod caught;
 #[cfg(test)]
 mod checking;
 #[cfg(test)]

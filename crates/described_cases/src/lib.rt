@@ -7,6 +7,8 @@
 #![tactic(auto)]
 
 #[cfg(test)]
+mod caught;
+#[cfg(test)]
 mod closures;
 #[cfg(test)]
 mod compare;

@@ -16,9 +16,6 @@ use std::alloc::AllocError;
 /// A crate with no piece of JavaScript.
 const SNIPPET: Edit = (r#""version":1"#, r#""version":1,"snippets":{"a":[]}"#);
 
-/// Throws of the import are caught.
-const CAUGHT: Edit = (r#""version":1"#, r#""version":1,"catch":[1]"#);
-
 /// The import is described to come from the module of placeholders.
 const PLACEHOLDER: Edit = (
     r#"{"global":"console","fields":["log"]}"#,
@@ -41,8 +38,7 @@ const REINIT: Edit = (r#""version":1"#, r#""version":1,"uses_reinit":true"#);
 /// Two kinds of what isn't built, or two conditions, each next to the other in the order.
 const PAIRS: &[AskedCase] = &[
     (&[Asked::Web], (WITH_TABLE_IMPORT, &[], "NotBuilt target")),
-    (&[], (WITH_TABLE_IMPORT, &[CAUGHT], "NotBuilt imports")),
-    (&[], (ADD, &[CAUGHT, CLASS], "NotBuilt instructions")),
+    (&[], (WITH_TABLE_IMPORT, &[CLASS], "NotBuilt imports")),
     (&[Asked::Debug], (ADD, &[CLASS], "NotBuilt classes")),
     (&[Asked::Debug], (ADD, &[REINIT], "NotBuilt settings")),
     (&[], (ADD, &[REINIT, SNIPPET], "NotBuilt lifecycle")),

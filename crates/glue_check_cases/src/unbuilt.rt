@@ -64,6 +64,7 @@ const GROUPS: &[Group] = &[
             r#""parts":{"externref_alloc":0,"externref_drop":0,"externref_drop_slice":0}"#,
             r#""parts":{"externref_table":0}"#,
             r#""variadic":[2]"#,
+            r#""catch":[1],"parts":{"exn_store":0}"#,
             r#""static_slots":[null,"a"]"#,
         ],
     ),
@@ -72,12 +73,6 @@ const GROUPS: &[Group] = &[
         KEY,
         "BadReexport r",
         &[r#""reexports":[{"name":"r","js":{"global":"r"}}]"#],
-    ),
-    (
-        WITH_PARTS,
-        KEY,
-        "NotBuilt instructions",
-        &[r#""catch":[1]"#],
     ),
     // An adapter that is published is none that closures call.
     (
@@ -119,20 +114,16 @@ const GROUPS: &[Group] = &[
         &[
             r#""class":null,"receiver":"none","namespace":[],"comments":null"#,
             r#""variadic":false,"jsdoc":false,"async":false,"comments":"""#,
+            r#""variadic":true"#,
+            r#""jsdoc":true"#,
             r#""typescript":false,"debug":"some""#,
             r#""namespace":["some"]"#,
             r#""namespace":["default","a b",""]"#,
             r#""comments":"some""#,
         ],
     ),
-    (
-        ADD,
-        EXPORT_KEY,
-        "NotBuilt instructions",
-        &[r#""variadic":true"#, r#""jsdoc":true"#],
-    ),
     (ADD, EXPORT_KEY, "NotBuilt lifecycle", &[r#""async":true"#]),
-    (ADD, KIND, "NotBuilt instructions", &[r#""function_this""#]),
+    (ADD, KIND, "", &[r#""function_this""#]),
     (
         ADD,
         KIND,
