@@ -20,7 +20,7 @@ use Rattle.glue_check.specs.Missing.{missing_part}
 use Rattle.claimed_modules.specs.Modules.{module_clash}
 use Rattle.glue_names.specs.Naming.{bad_name, global_twice, import_clash, given_clash, wasm_clash, shim_clash, start_clash, name_clash, written_clash}
 use Rattle.glue_check.specs.TargetValues.{intrinsic_target}
-use Rattle.glue_check.specs.Unbuilt.{unbuilt_target, unbuilt_imports, unbuilt_instructions, unbuilt_classes, unbuilt_settings, unbuilt_lifecycle, unbuilt_files}
+use Rattle.glue_check.specs.Unbuilt.{unbuilt_target, unbuilt_imports, unbuilt_classes, unbuilt_settings, unbuilt_lifecycle, unbuilt_files}
 use Rattle.glue_check.specs.Verdict.{threads, package_json, unbuilt, verdict}
 
 -- no answer, or a fault of a description
@@ -59,9 +59,9 @@ first ▸ rest = (first, rest)
 unbuilt_kind : (files : FileFlags) (s : Settings) (l : Lowered) → IsOfCheck (unbuilt files s l)
 unfolding unbuilt
 unbuilt_kind files s l = first_some-kind
-    (unbuilt_target s ∷ unbuilt_imports s l ∷ unbuilt_instructions l ∷ unbuilt_classes l ∷ unbuilt_settings s ∷ unbuilt_lifecycle l ∷ unbuilt_files files l ∷ [])
+    (unbuilt_target s ∷ unbuilt_imports s l ∷ unbuilt_classes l ∷ unbuilt_settings s ∷ unbuilt_lifecycle l ∷ unbuilt_files files l ∷ [])
     (where_true-kind _ _ refl ▸ where_true-kind _ _ refl ▸ where_true-kind _ _ refl ▸ where_true-kind _ _ refl
-    ▸ where_true-kind _ _ refl ▸ where_true-kind _ _ refl ▸ where_true-kind _ _ refl ▸ tt)
+    ▸ where_true-kind _ _ refl ▸ where_true-kind _ _ refl ▸ tt)
 
 written_kind : (s : Settings) (l : Lowered) → IsOfCheck (written_clash s l)
 unfolding written_clash

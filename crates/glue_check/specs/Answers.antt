@@ -18,14 +18,13 @@ use Rattle.glue_check.specs.Missing.{missing_part}
 use Rattle.claimed_modules.specs.Modules.{module_clash}
 use Rattle.glue_names.specs.Naming.{bad_name, global_twice, name_clash}
 use Rattle.glue_check.specs.TargetValues.{intrinsic_target}
-use Rattle.glue_check.specs.Unbuilt.{unbuilt_target, unbuilt_imports, unbuilt_instructions, unbuilt_classes, unbuilt_settings, unbuilt_lifecycle, unbuilt_files}
+use Rattle.glue_check.specs.Unbuilt.{unbuilt_target, unbuilt_imports, unbuilt_classes, unbuilt_settings, unbuilt_lifecycle, unbuilt_files}
 use Rattle.glue_check.specs.Verdict.{threads, package_json}
 
 -- the answer of a condition
 unfoldable pub answer : FileFlags → Settings → Lowered → Condition → Option Fault
 answer files settings l conditions.UnbuiltTarget = unbuilt_target settings
 answer files settings l conditions.UnbuiltImports = unbuilt_imports settings l
-answer files settings l conditions.UnbuiltInstructions = unbuilt_instructions l
 answer files settings l conditions.UnbuiltClasses = unbuilt_classes l
 answer files settings l conditions.UnbuiltSettings = unbuilt_settings settings
 answer files settings l conditions.UnbuiltLifecycle = unbuilt_lifecycle l

@@ -94,21 +94,6 @@ unbuilt_imports settings l = where_true (
     list_any (is_other_own l.«module») (own_imports settings l.«module» l.wit l.aux) || list_any (is_unbuilt_entry settings) l.aux.imports
     ) (faults.NotBuilt (codes "imports"))
 
--- ---- functions
-
-abbrev pub takes_this : AuxExportKind → Bool
-takes_this export_kinds.FunctionThis = true
-takes_this other = false
-
--- a function that takes `this` or a rest parameter, or whose note tells its types
-abbrev pub is_special_export : AuxExport → Bool
-is_special_export e = takes_this e.kind || (e.variadic || e.jsdoc)
-
--- such exports
-abbrev pub unbuilt_instructions : Lowered → Option Fault
-unbuilt_instructions l =
-    where_true (list_any is_special_export l.aux.exports) (faults.NotBuilt (codes "instructions"))
-
 -- ---- classes
 
 abbrev pub is_member : AuxExport → Bool

@@ -23,7 +23,7 @@ use Rattle.glue_check.specs.Missing.{missing_part}
 use Rattle.claimed_modules.specs.Modules.{module_clash}
 use Rattle.glue_names.specs.Naming.{bad_name, global_twice, name_clash}
 use Rattle.glue_check.specs.TargetValues.{intrinsic_target}
-use Rattle.glue_check.specs.Unbuilt.{unbuilt_target, unbuilt_imports, unbuilt_instructions, unbuilt_classes, unbuilt_settings, unbuilt_lifecycle, unbuilt_files}
+use Rattle.glue_check.specs.Unbuilt.{unbuilt_target, unbuilt_imports, unbuilt_classes, unbuilt_settings, unbuilt_lifecycle, unbuilt_files}
 
 -- a memory that threads share
 abbrev pub is_shared : Option Memory → Bool
@@ -64,7 +64,6 @@ unfoldable pub unbuilt : FileFlags → Settings → Lowered → Option Fault
 unbuilt files settings l = first_some (
     unbuilt_target settings
     ∷ unbuilt_imports settings l
-    ∷ unbuilt_instructions l
     ∷ unbuilt_classes l
     ∷ unbuilt_settings settings
     ∷ unbuilt_lifecycle l

@@ -13,7 +13,7 @@ use crate::target_values::is_absent;
 use glue_faults::{Fault, not_built};
 use glue_imports::has_expression;
 use glue_published::stands_alone;
-use glue_shared::{AdapterId, AuxExport, AuxExportKind, AuxImport, Lowered, Settings, Target};
+use glue_shared::{AdapterId, AuxExport, AuxImport, Lowered, Settings, Target};
 use printed_adapters::{import_at, own_ids};
 use std::alloc::{AllocError, Global};
 use values::Text;
@@ -158,39 +158,6 @@ pub(crate) fn unbuilt_imports(
     let others = has_other_own(alloc, settings, lowered)?;
     let asked = others || has_unbuilt_entry(settings, lowered.aux.imports.as_slice());
     not_built(alloc, asked, "imports")
-}
-
-fn takes_this(kind: AuxExportKind) -> bool
-    ensures test { result ≡ spec.takes_this kind }
-{
-    matches!(kind, AuxExportKind::FunctionThis)
-}
-
-fn is_special_export(export: &AuxExport) -> bool
-    ensures test { result ≡ spec.is_special_export export.now }
-{
-    takes_this(export.kind) || export.variadic || export.jsdoc
-}
-
-// Whether a function takes `this` or a rest parameter, or its note tells its types.
-fn has_special_export(exports: &[AuxExport]) -> bool
-    ensures test { result ≡ list_any spec.is_special_export exports.now }
-{
-    exports.iter().any(|export| is_special_export(export))
-}
-
-/// That functions of this form aren't built. Want of memory is the only error.
-pub(crate) fn unbuilt_instructions(
-    alloc: Global,
-    lowered: &Lowered,
-) -> Result<Option<Fault>, AllocError>
-    ensures fault { IfOk result (λ fault. fault ≡ spec.unbuilt_instructions lowered.now) }
-{
-    not_built(
-        alloc,
-        has_special_export(lowered.aux.exports.as_slice()),
-        "instructions",
-    )
 }
 
 fn has_member(exports: &[AuxExport]) -> bool

@@ -12,8 +12,8 @@ use crate::links::link_not_embedded;
 use crate::missing::missing_part;
 use crate::target_values::intrinsic_target;
 use crate::unbuilt::{
-    unbuilt_classes, unbuilt_files, unbuilt_imports, unbuilt_instructions, unbuilt_lifecycle,
-    unbuilt_settings, unbuilt_target,
+    unbuilt_classes, unbuilt_files, unbuilt_imports, unbuilt_lifecycle, unbuilt_settings,
+    unbuilt_target,
 };
 use claimed_modules::module_clash;
 use glue_adapters::{bad_adapter, unbound_import, unsupported};
@@ -30,7 +30,6 @@ use wasm_core::{Memory, Module};
 enum Condition {
     UnbuiltTarget,
     UnbuiltImports,
-    UnbuiltInstructions,
     UnbuiltClasses,
     UnbuiltSettings,
     UnbuiltLifecycle,
@@ -54,10 +53,9 @@ enum Condition {
 }
 
 /// What isn't built yet, in its order.
-const UNBUILT: [Condition; 7] = [
+const UNBUILT: [Condition; 6] = [
     Condition::UnbuiltTarget,
     Condition::UnbuiltImports,
-    Condition::UnbuiltInstructions,
     Condition::UnbuiltClasses,
     Condition::UnbuiltSettings,
     Condition::UnbuiltLifecycle,
@@ -133,7 +131,6 @@ fn answer(
     match condition {
         Condition::UnbuiltTarget => unbuilt_target(alloc, settings),
         Condition::UnbuiltImports => unbuilt_imports(alloc, settings, lowered),
-        Condition::UnbuiltInstructions => unbuilt_instructions(alloc, lowered),
         Condition::UnbuiltClasses => unbuilt_classes(alloc, lowered),
         Condition::UnbuiltSettings => unbuilt_settings(alloc, settings),
         Condition::UnbuiltLifecycle => unbuilt_lifecycle(alloc, lowered),
