@@ -437,6 +437,65 @@ checks.closures = ({ give, share, deepen, destroyed, functions }) => {
     assert.equal(inner(4), 28);
     assert.equal(making()(1), 35);
 };
+// What imports throw is taken by the module, where so much of the table is in use first, while it is held, and after that.
+function checkCaught({ risked, widened, told, failed, thrown, count, state }, first, held, after) {
+    assert.deepEqual(state(), first);
+    globalThis.risk = (value) => value + 1;
+    assert.equal(risked(41), 42);
+    assert.equal(count(), 0);
+    // The module takes what is thrown, and goes on with 0.
+    globalThis.risk = throwing;
+    assert.equal(risked(41), 0);
+    assert.equal(count(), 1);
+    assert.deepEqual(state(), held);
+    assert.equal(thrown(), error);
+    assert.deepEqual(state(), after);
+    // Any value can be thrown.
+    for (const value of VALUES) {
+        globalThis.tell = () => {
+            throw value;
+        };
+        assert.equal(told(0), undefined);
+        assert.deepEqual(state(), held);
+        assert.ok(Object.is(thrown(), value));
+        assert.deepEqual(state(), after);
+    }
+    // An integer of 64 bits is given, and is 0 where one isn't.
+    globalThis.wide = (value) => BigInt(value) * 2n;
+    assert.equal(widened(21), 42n);
+    globalThis.wide = throwing;
+    assert.equal(widened(21), 0n);
+    assert.equal(thrown(), error);
+    // What an import throws that isn't listed comes out of the export.
+    const taken = count();
+    assert.equal(taken, VALUES.length + 2);
+    globalThis.fail = throwing;
+    assert.throws(() => failed(1), isError);
+    assert.equal(count(), taken);
+    assert.deepEqual(state(), after);
+}
+
+checks.caught = (glue, names) => {
+    // One slot more, which is the first free one when it is given back.
+    checkCaught(glue, [1028, 1028], [1029, 1029], [1029, 1028]);
+    // The function that takes what is thrown has an export behind those of the module.
+    assert.equal(names.at(-1), "__wbindgen_export");
+};
+
+checks.caughtReferences = (glue) => checkCaught(glue, [0], [1], [0]);
+
+checks.forms = ({ own, rest, both }) => {
+    // The numbers of parameters (ECMAScript 15.1.5): `this` is none, and a rest parameter doesn't count.
+    assert.deepEqual([own, rest, both].map((form) => form.length), [1, 1, 0]);
+    assert.equal(own.call(5, 7), 12);
+    globalThis.see = (first, others) => void calls.push([first, others]);
+    rest("a");
+    rest("a", "b", "c");
+    both.call("self");
+    both.call("self", 1, 2);
+    assert.deepEqual(calls.splice(0), [["a", []], ["a", ["b", "c"]], ["self", []], ["self", [1, 2]]]);
+};
+
 checks.enums = ({ same, place, text, odd, after, lists }) => {
     const colors = ["red", "green", "blue"];
     const odds = ['a "quote"', "a\nline", "\u2028", "", "\\"];

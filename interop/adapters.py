@@ -16,6 +16,9 @@
 - enums: texts of string enums, in and out, and those that an enum doesn't have.
 - closures: functions of closures of the module that JavaScript keeps: called, called from within themselves, called where an import
   throws, given back, and called after that; a closure that makes closures; and which closures' functions the glue file has.
+- caught, caughtReferences: values of every kind that imports throw and that the module takes, by the object table and by a table of
+  references, also where the import gives an integer of 64 bits; and an import whose throws aren't caught.
+- forms: functions that take `this`, a rest parameter, or both.
 
 The modules from that of strings on allocate memory by functions of their own, which count what is in use, fill what is freed with
 other bytes, and trap where something is freed twice. What is in use is compared before and after, also where an import
@@ -308,6 +311,34 @@ TAKEN = """
 PLACES = """
   (func (export "placed") (result i32) (global.get $places))"""
 
+# The first function takes what imports throw.
+CATCHING = """
+  (global $stored (mut i32) (i32.const 0))
+  (global $count (mut i32) (i32.const 0))
+  (func $store (param i32)
+    (global.set $stored (local.get 0))
+    (global.set $count (i32.add (global.get $count) (i32.const 1))))
+  (func (export "risked") (param i32) (result i32) (call $risk (local.get 0)))
+  (func (export "widened") (param i32) (result i64) (call $wide (local.get 0)))
+  (func (export "told") (param i32) (call $tell (local.get 0)))
+  (func (export "failed") (param i32) (call $fail (local.get 0)))
+  (func (export "stored") (result i32) (global.get $stored))
+  (func (export "count") (result i32) (global.get $count))"""
+
+RISKS = [
+    ("risk", "(param i32) (result i32)"),
+    ("wide", "(param i32) (result i64)"),
+    ("tell", "(param i32)"),
+    ("fail", "(param i32)"),
+]
+
+FORMS = module(
+    [("see", "(param i32 i32)")],
+    """
+  (func (export "add") (param i32 i32) (result i32) (i32.add (local.get 0) (local.get 1)))
+  (func (export "seen") (param i32 i32) (call $see (local.get 0) (local.get 1)))""",
+)
+
 REFERRED = module(HANDLING, ALLOCATOR, REFERENCES, PASSED, HANDLED, COUNTS, PLACES, EXPORTED, EXPORTED_REFERENCES)
 
 HIDDEN = module(HANDLING, ALLOCATOR, REFERENCES, PASSED, HANDLED, COUNTS, PLACES, TAKEN)
@@ -462,6 +493,51 @@ def closures():
     ]
     called_back = [[3, grow], [4, make], [5, spare]]
     return said | {"adapter_exports": called_back, "parts": {"destroy_closure": 10}}
+
+
+def caught(parts):
+    to_32, plain, take = step("Int32ToWasm"), ["WasmToInt32", False], step("TakeIndex")
+
+    def called_by(title):
+        return title, ["s32"], [], [get(0), plain], []
+
+    said = description(
+        [
+            ("risked", 0, ["s32"], ["s32"], [get(0), to_32, "call", plain]),
+            ("widened", 1, ["s32"], ["s64"], [get(0), to_32, "call", ["WasmToInt64", False]]),
+            ("told", 2, ["s32"], [], [get(0), to_32, "call"]),
+            ("failed", 3, ["s32"], [], [get(0), to_32, "call"]),
+            ("thrown", 4, [], ["externref"], ["call", take]),
+            ("count", 5, [], ["s32"], ["call", plain]),
+        ],
+        [
+            ("risk", ["s32"], ["s32"], [get(0), plain], [to_32]),
+            ("wide", ["s32"], ["s64"], [get(0), plain], [step("Int64ToWasm")]),
+            called_by("tell"),
+            called_by("fail"),
+        ],
+    )
+    # All adapters of imports but the last.
+    return said | {"catch": [100, 101, 102], "parts": parts}
+
+
+def forms():
+    to_32, lend, see = step("Int32ToWasm"), step("IndexFromBorrow"), step("GetIndex")
+    two, lent = ["externref", "externref"], [get(0), lend, get(1), lend, "call"]
+    said = description(
+        [
+            ("own", 0, ["s32", "s32"], ["s32"], [get(0), to_32, get(1), to_32, "call", ["WasmToInt32", False]]),
+            ("rest", 1, two, [], lent),
+            ("both", 1, two, [], lent),
+        ],
+        [("see", two, [], [get(0), see, get(1), see], [])],
+    )
+    own, rest, both = said["exports"]
+    for export in [own, both]:
+        export["kind"] = "function_this"
+    for export in [rest, both]:
+        export["variadic"] = True
+    return said
 
 
 # The functions that allocate, behind so many imports, and the memory.
@@ -679,6 +755,11 @@ IN_USE = """export const last = () => [wasm.length(), wasm.align()];
 export const state = () => [wasm.bytes(), wasm.blocks()];
 """
 
+# How long the object table is, and its first free place; how many places of the table of references are in use.
+SLOTS = "export const state = () => [heap.length, heap_next];\n"
+
+PLACED = "export const state = () => [wasm.placed()];\n"
+
 # The free places of the object table are a list: each holds the next one, and the last one the table's length.
 WITH_OBJECTS = """export const last = () => [wasm.length(), wasm.align()];
 export const state = () => {
@@ -700,6 +781,14 @@ CASES = {
     "objects": Case(OBJECTS, objects(), STATE),
     "enums": Case(ENUMS, enums(), LISTS),
     "closures": Case(CLOSURES, closures(), FUNCTIONS),
+    "caught": Case(module(RISKS, CATCHING), caught({"exn_store": 4}), SLOTS),
+    "caughtReferences": Case(
+        module(RISKS, ALLOCATOR, REFERENCES, CATCHING, PLACES),
+        caught({"exn_store": 11, "externref_table": 0, "externref_alloc": 8, "externref_drop": 9}),
+        PLACED,
+        has_references=True,
+    ),
+    "forms": Case(FORMS, forms()),
     "strings": Case(STRINGS, strings(), IN_USE),
     "vectors": Case(VECTORS, vectors(), IN_USE),
     "values": Case(VALUES, values(), WITH_OBJECTS),
