@@ -10,6 +10,10 @@ use Rattle.glue_tree.specs.Spelling.{comma_unless, is_none, block_words}
 use Rattle.glue_binding.specs.Spelling.{Plain, This, Local, word_if}
 use Rattle.glue_binding.specs.declared.form.Form.{Form}
 
+-- each parameter has a name, and none gathers others
+abbrev pub usual_form : Form
+usual_form = record { takes_this = false; has_rest = false }
+
 -- an item in front of others, where it stands
 abbrev pub first_if : {A : Type 0} → Bool → A → List A → List A
 first_if true x xs = x ∷ xs

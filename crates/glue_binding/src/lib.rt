@@ -26,6 +26,6 @@ mod seed;
 mod stack;
 
 pub use binding::bind;
-pub use form::Form;
+pub use form::{Form, usual_form};
 pub use import::spell;
 pub use seed::reserve_seed;

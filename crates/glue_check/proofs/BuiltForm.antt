@@ -6,8 +6,6 @@ use Rattle.std.proofs.lemmas.Slice.Eq.{bytes_eq-Decides}
 use Rattle.std.specs.Str.{bytes_eq}
 use Rattle.values.specs.Lists.{IsIn, IsAway}
 use Rattle.glue_shared.specs.declared.aux.AuxExport.{AuxExport}
-use Rattle.glue_shared.specs.declared.aux.AuxExportKind.{AuxExportKind}
-use Rattle.glue_shared.specs.declared.aux.AuxExportKind.TheVariants as export_kinds
 use Rattle.glue_shared.specs.declared.import.AuxImport.{AuxImport}
 use Rattle.glue_shared.specs.declared.description.Lowered.{Lowered}
 use Rattle.glue_shared.specs.declared.settings.Settings.{Settings}
@@ -132,27 +130,16 @@ imports_built f s l h =
 
 -- ---- exports
 
--- a function, in whatever namespace
+-- a function, in whatever namespace, that may take `this`, and no member of a class
 pub record IsBuiltExport (e : AuxExport) : Type 0 where
-  pub function : e.kind ≡ export_kinds.Function
-
--- neither a member nor a function that takes `this`
-function_is : (k : AuxExportKind) → not (stands_alone k) ≡ false → spec.takes_this k ≡ false → k ≡ export_kinds.Function
-function_is export_kinds.Function h t = refl
-function_is export_kinds.FunctionThis h t = absurd (true≢false t)
-function_is export_kinds.Constructor h t = absurd (true≢false h)
-function_is (export_kinds.Method m) h t = absurd (true≢false h)
+  pub alone : stands_alone e.kind ≡ true
 
 -- each export is such a function
 pub exports_built : (f : FileFlags) (s : Settings) (l : Lowered) → unbuilt f s l ≡ None → (e : AuxExport) → IsIn e l.aux.exports → IsBuiltExport e
 unfolding answer
 exports_built f s l h e i =
     let classes = neither (is_some_item l.aux.structs) (list_any spec.is_member l.aux.exports) (no_classes f s l h).0 in
-    let alone = list_any-none spec.is_member l.aux.exports e classes.1 i in
-    let kept = neither (is_some_item l.aux.imports_with_catch) (list_any spec.is_special_export l.aux.exports)
-    (where_true-none (is_some_item l.aux.imports_with_catch || list_any spec.is_special_export l.aux.exports) _ (none_unbuilt conditions.UnbuiltInstructions f s l (search rules) h)) in
-    let special = list_any-none spec.is_special_export l.aux.exports e kept.1 i in
-    let this = (neither (spec.takes_this e.kind) (e.variadic || e.jsdoc) special).0 in record { function = function_is e.kind alone this }
+    record { alone = not_false (stands_alone e.kind) (list_any-none spec.is_member l.aux.exports e classes.1 i) }
 
 -- no class is described, and no caught import
 pub record AreAbsent (l : Lowered) : Type 0 where

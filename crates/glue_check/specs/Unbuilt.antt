@@ -8,8 +8,6 @@ use Rattle.wasm_core.specs.declared.types.ImportKind.{ImportKind}
 use Rattle.wasm_core.specs.declared.types.ImportKind.TheVariants as import_kinds
 use Rattle.wasm_core.specs.declared.types.Memory.{Memory}
 use Rattle.glue_shared.specs.declared.aux.AuxExport.{AuxExport}
-use Rattle.glue_shared.specs.declared.aux.AuxExportKind.{AuxExportKind}
-use Rattle.glue_shared.specs.declared.aux.AuxExportKind.TheVariants as export_kinds
 use Rattle.glue_shared.specs.declared.import.AuxImport.{AuxImport}
 use Rattle.glue_shared.specs.declared.import.AuxImport.TheVariants as what
 use Rattle.glue_shared.specs.declared.description.Lowered.{Lowered}
@@ -96,13 +94,9 @@ unbuilt_imports settings l = where_true (
 
 -- ---- functions
 
-abbrev pub takes_this : AuxExportKind → Bool
-takes_this export_kinds.FunctionThis = true
-takes_this other = false
-
--- a function that takes `this` or a rest parameter, or whose note tells its types
+-- a function whose note tells its types
 abbrev pub is_special_export : AuxExport → Bool
-is_special_export e = takes_this e.kind || (e.variadic || e.jsdoc)
+is_special_export e = e.jsdoc
 
 -- caught throws, and such exports
 abbrev pub unbuilt_instructions : Lowered → Option Fault

@@ -13,7 +13,7 @@ use crate::target_values::is_absent;
 use glue_faults::{Fault, not_built};
 use glue_imports::has_expression;
 use glue_published::stands_alone;
-use glue_shared::{AdapterId, AuxExport, AuxExportKind, AuxImport, Lowered, Settings, Target};
+use glue_shared::{AdapterId, AuxExport, AuxImport, Lowered, Settings, Target};
 use printed_adapters::{import_at, own_ids};
 use std::alloc::{AllocError, Global};
 use values::Text;
@@ -160,19 +160,13 @@ pub(crate) fn unbuilt_imports(
     not_built(alloc, asked, "imports")
 }
 
-fn takes_this(kind: AuxExportKind) -> bool
-    ensures test { result ≡ spec.takes_this kind }
-{
-    matches!(kind, AuxExportKind::FunctionThis)
-}
-
 fn is_special_export(export: &AuxExport) -> bool
     ensures test { result ≡ spec.is_special_export export.now }
 {
-    takes_this(export.kind) || export.variadic || export.jsdoc
+    export.jsdoc
 }
 
-// Whether a function takes `this` or a rest parameter, or its note tells its types.
+// Whether the note of a function tells its types.
 fn has_special_export(exports: &[AuxExport]) -> bool
     ensures test { result ≡ list_any spec.is_special_export exports.now }
 {

@@ -119,6 +119,7 @@ const GROUPS: &[Group] = &[
         &[
             r#""class":null,"receiver":"none","namespace":[],"comments":null"#,
             r#""variadic":false,"jsdoc":false,"async":false,"comments":"""#,
+            r#""variadic":true"#,
             r#""typescript":false,"debug":"some""#,
             r#""namespace":["some"]"#,
             r#""namespace":["default","a b",""]"#,
@@ -129,10 +130,10 @@ const GROUPS: &[Group] = &[
         ADD,
         EXPORT_KEY,
         "NotBuilt instructions",
-        &[r#""variadic":true"#, r#""jsdoc":true"#],
+        &[r#""jsdoc":true"#],
     ),
     (ADD, EXPORT_KEY, "NotBuilt lifecycle", &[r#""async":true"#]),
-    (ADD, KIND, "NotBuilt instructions", &[r#""function_this""#]),
+    (ADD, KIND, "", &[r#""function_this""#]),
     (
         ADD,
         KIND,

@@ -29,7 +29,7 @@ use Rattle.glue_naming.specs.Naming.{declared_name}
 use Rattle.glue_context.specs.ClosureItems.{IsClosureItem}
 use Rattle.glue_context.specs.DefinedItems.{define_item, memory_words, part_words, value_item}
 use Rattle.glue_context.specs.ExportedItems.{declaration_words}
-use Rattle.glue_context.specs.Functions.{IsFunctionOf}
+use Rattle.glue_context.specs.Functions.{IsFunctionOf, form_of, usual_form}
 
 -- the imports that an item of a role defines: one, or none
 abbrev pub defined_by : Role → List ℕ
@@ -44,7 +44,7 @@ defined_places items = flat_map (λ (item : Item). defined_by item.role) items
 pub record IsDefinition (s : Settings) (m : NameMap) (l : Lowered) (written : Contents) (place adapter : ℕ) (item : Item) : Type 0 where
   pub pair : IsIn (record { 0 = place }, adapter) l.wit.implements
   pub function : JsFunction
-  pub of_adapter : IsFunctionOf s m l adapter [] function
+  pub of_adapter : IsFunctionOf s m l adapter usual_form [] [] function
   pub «import» : Import
   pub stands : entry_at written.imports place ≡ Some «import»
   pub words : item.words ≡ (define_item place «import».name function.words).words
@@ -84,7 +84,7 @@ pub record IsDeclaration (s : Settings) (m : NameMap) (l : Lowered) (adapter : �
   pub described : IsIn «export» l.aux.exports
   pub of : «export».adapter ≡ adapter
   pub function : JsFunction
-  pub of_adapter : IsFunctionOf s m l adapter «export».args function
+  pub of_adapter : IsFunctionOf s m l adapter (form_of «export») «export».args [] function
   pub exported : Bool
   pub words : item.words ≡ declaration_words exported «export».comments (declared_name m «export») function.words
 

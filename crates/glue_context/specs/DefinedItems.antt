@@ -25,7 +25,7 @@ use Rattle.glue_shared.specs.declared.settings.Settings.{Settings}
 use Rattle.glue_shared.specs.Names.{adapter_for, handed_part, own_imports}
 use Rattle.glue_steps.specs.Resolving.{entry_at, adapter_steps}
 use Rattle.glue_check.specs.Unbuilt.{is_plain_memory, memory_of}
-use Rattle.glue_context.specs.Functions.{IsFunctionOf}
+use Rattle.glue_context.specs.Functions.{IsFunctionOf, usual_form}
 
 -- `name: `, and what stands behind a definition
 abbrev pub value_front : List ℕ → List Word
@@ -106,7 +106,7 @@ pub record IsFunctionItem (s : Settings) (m : NameMap) (l : Lowered) (place adap
   pub «import» : Import
   pub stands : entry_at l.«module».imports place ≡ Some «import»
   pub function : JsFunction
-  pub of_adapter : IsFunctionOf s m l adapter [] function
+  pub of_adapter : IsFunctionOf s m l adapter usual_form [] [] function
   pub is : item ≡ define_item place «import».name function.words
 
 -- the item defines it by this property of a module's name

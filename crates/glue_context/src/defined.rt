@@ -10,7 +10,7 @@ ghost use Rattle.glue_check.specs.Unbuilt as kinds;
 ghost use Rattle.glue_context.specs.DefinedItems as spec;
 
 use crate::function::{adapter_function, words_of};
-use glue_binding::spell;
+use glue_binding::{spell, usual_form};
 use glue_check::memory_of;
 use glue_imports::{Basis, function_or_throw, root};
 use glue_scope::Names;
@@ -212,7 +212,8 @@ fn define_by_adapter<N: Names>(
         }
         None => {
             let none = Seq::new(alloc);
-            let function = adapter_function::<N>(alloc, basis, indexed, adapter, &none)?;
+            let function =
+                adapter_function::<N>(alloc, basis, indexed, adapter, usual_form(), &none, &[])?;
             define_function(alloc, place, &import.name, words_of(function))
         }
     }

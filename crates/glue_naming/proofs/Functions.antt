@@ -30,7 +30,7 @@ use Rattle.glue_naming.proofs.WantedNames.{function_there}
 
 -- such an export asks for a name
 asks : (e : AuxExport) → IsBuiltExport e → IsIn (function_wanted (qualified e)) (function_names e)
-asks e b = rw b.function (inl refl)
+asks e b = rw b.alone (inl refl)
 
 function_one : (a b : List ℕ) → Function a ≡ Function b → a ≡ b
 function_one a b e = cc
