@@ -10,7 +10,9 @@ use Rattle.glue_tree.specs.Term.{Export, Lines, NoLines}
 use Rattle.glue_tree.specs.Plainly.{terms_of}
 use Rattle.glue_tree.proofs.Fit.{fit, all_fit, line_fit, lines_fit}
 use Rattle.glue_steps.specs.declared.step.Step.{Step}
-use Rattle.glue_binding.specs.Spelling.{Plain, Missing, Local, Unsigned, NotZero, term_of, terms, write_call, address_term, load_call, store_call, closure_call, Piece, Ahead, Cleanup, pieces_of, nested, tree_of, temporaries}
+use Rattle.glue_binding.specs.Spelling.{Plain, Missing, This, Local, Unsigned, NotZero, term_of, terms, write_call, address_term, load_call, store_call, closure_call, Piece, Ahead, Cleanup, pieces_of, nested, tree_of, temporaries}
+use Rattle.glue_binding.specs.Form.{first_if, parameters_of}
+use Rattle.glue_binding.specs.declared.form.Form.{Form}
 use Rattle.glue_binding.proofs.Each.{Each}
 use Rattle.glue_binding.proofs.Standing.{IsNamed, step_fit, fitting, steps_each, run_stands, bound_stands}
 use Rattle.glue_binding.proofs.Rowwise.{IsRowwise, AllHave, pieces_have}
@@ -25,6 +27,7 @@ IsName name = is_ident name ≡ true
 
 plain_fit : (p : Plain) → IsNamed p → fit (term_of p) ≡ true
 plain_fit Missing h = refl
+plain_fit This h = refl
 plain_fit (Local name) h = h
 plain_fit (Unsigned p) h = and_true _ _ (plain_fit p h) refl
 plain_fit (NotZero p) h = and_true _ _ (plain_fit p h) refl
@@ -123,16 +126,23 @@ names_each [] h = tt
 names_each (name ∷ names) h = let parts = and_parts (is_ident name) (list_all is_ident names) h in
     (parts.0, names_each names parts.1)
 
-params_each : (names : List (List ℕ)) → list_all is_ident names ≡ true → Each IsNamed (map Local names)
-params_each [] h = tt
-params_each (name ∷ names) h = let parts = and_parts (is_ident name) (list_all is_ident names) h in
-    (parts.0, params_each names parts.1)
+locals_each : (names : List (List ℕ)) → list_all is_ident names ≡ true → Each IsNamed (map Local names)
+locals_each [] h = tt
+locals_each (name ∷ names) h = let parts = and_parts (is_ident name) (list_all is_ident names) h in
+    (parts.0, locals_each names parts.1)
+
+params_each : (form : Form) (names : List (List ℕ)) → list_all is_ident names ≡ true → Each IsNamed (parameters_of form names)
+params_each form names h = by form.takes_this
+  where
+    by : (takes_this : Bool) → Each IsNamed (first_if takes_this This (map Local names))
+    by true = (tt, locals_each names h)
+    by false = locals_each names h
 
 -- the tree of any steps with identifiers as their names is fit
-pub tree_fit : (steps : List Step) (params temps : List (List ℕ)) → list_all step_fit steps ≡ true
+pub tree_fit : (form : Form) (steps : List Step) (params temps : List (List ℕ)) → list_all step_fit steps ≡ true
     → length (temporaries steps) ≤ length temps → list_all is_ident params ≡ true → list_all is_ident temps ≡ true
-    → lines_fit (tree_of steps params temps) ≡ true
-tree_fit steps params temps f le p m =
-    nested_fit (pieces_of steps (map Local params) [] temps) NoLines
-    (pieces_have fits steps (map Local params) [] temps 0 (steps_each steps f) le (params_each params p) tt
+    → lines_fit (tree_of steps (parameters_of form params) temps) ≡ true
+tree_fit form steps params temps f le p m =
+    nested_fit (pieces_of steps (parameters_of form params) [] temps) NoLines
+    (pieces_have fits steps (parameters_of form params) [] temps 0 (steps_each steps f) le (params_each form params p) tt
     (names_each temps m)) refl

@@ -2,6 +2,7 @@ mod Coming
 mod Drawing
 mod Each
 pub mod Fits
+pub mod FormWords
 pub mod Free
 mod Functions
 pub mod Linked

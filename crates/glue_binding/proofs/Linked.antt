@@ -10,6 +10,7 @@ use Rattle.std.specs.Prelude.{Option, None, ◌&&◌}
 use Rattle.std.specs.FinSet as set
 use Rattle.std.specs.List.{list_all, filter_map}
 use Rattle.values.specs.Lists.{IsIn, AreApart}
+use Rattle.values.specs.TextSet.{with_texts}
 use Rattle.glue_words.specs.declared.word.Word.{Word}
 use Rattle.glue_words.specs.declared.word.Word.TheVariants as w
 use Rattle.glue_words.specs.Ident.{is_ident}
@@ -18,20 +19,25 @@ use Rattle.glue_words.specs.Names.{bound_name, bound_in, used_name, hosted_name,
 use Rattle.glue_words.specs.Linking.{AreAmong, KeepsLocals, Resolves, TakesExports, TakesKeys}
 use Rattle.glue_words.proofs.Belonging.{StandAlone}
 use Rattle.glue_words.proofs.Among.{among_left, among_right, among_both, among_trans, apart_by, apart_swap, apart_among, apart_joined, apart_split}
-use Rattle.glue_scope.proofs.Drawn.{length-drawn, drawn_new, drawn_distinct, drawn_idents, with_texts_there}
+use Rattle.glue_scope.proofs.Drawn.{length-drawn, drawn_new, drawn_distinct, drawn_idents, with_texts_there, with_texts_keeps}
 use Rattle.glue_tree.specs.Plainly.{plain_stmts}
 use Rattle.glue_tree.specs.Spelling.{function_words}
+use Rattle.glue_tree.specs.Term.{Lines}
 use Rattle.glue_tree.specs.declared.tree.JsFunction.{JsFunction}
 use Rattle.glue_tree.proofs.Fit.{is_inner, lines_fit}
-use Rattle.glue_tree.proofs.Functions.{IsFrame, item_words, item_alone, item_named, function_inner, bound_kind, used_kind, hosted_kind, wasm_kind, spliced_kind}
+use Rattle.glue_tree.proofs.Functions.{IsFrame, bound_kind, used_kind, hosted_kind, local_kind, local_bound_kind, wasm_kind, spliced_kind}
+use Rattle.glue_tree.proofs.Names.{IsKind}
 use Rattle.glue_steps.specs.declared.step.Step.{Step}
-use Rattle.glue_binding.specs.Spelling.{tree_of, temporaries}
+use Rattle.glue_binding.specs.Spelling.{Plain, tree_of, temporaries}
+use Rattle.glue_binding.specs.Form.{parameters_of, form_words}
+use Rattle.glue_binding.specs.declared.form.Form.{Form}
 use Rattle.glue_binding.specs.Outer.{outer_in, outer_list, seed_words, outer_names}
 use Rattle.glue_binding.specs.Binding.{outer_scope, IsBoundFunction, AreOwn}
 use Rattle.glue_binding.proofs.Outer.{IsOuter, outer_is_seed}
 use Rattle.glue_binding.proofs.Outside.{outside_of, outside_among, locals_among, function_declares}
 use Rattle.glue_binding.proofs.Standing.{step_fit}
 use Rattle.glue_binding.proofs.Fits.{tree_fit}
+use Rattle.glue_binding.proofs.FormWords.{form_found, form_alone, form_named, form_inner}
 
 -- ---- kinds of names from outside
 
@@ -74,11 +80,11 @@ hosted_listed (w.Refer name now ∷ words) = among_right (hosted_in words) (name
 hosted_listed (word ∷ words) = hosted_listed words
 
 -- names apart from those that are reserved are apart from those of the function's words
-apart_outer : (steps : List Step) (params temps names : List (List ℕ)) → AreApart names (outer_names steps)
-    → AreApart names (outer_in (function_words params (tree_of steps params temps)))
-apart_outer steps params temps names h =
+apart_outer : (steps : List Step) (printed : List (List ℕ)) (params : List Plain) (temps names : List (List ℕ)) → AreApart names (outer_names steps)
+    → AreApart names (outer_in (function_words printed (tree_of steps params temps)))
+apart_outer steps printed params temps names h =
     let seed = seed_words steps in
-    subst (AreApart names) (sym (outer_is_seed steps params temps))
+    subst (AreApart names) (sym (outer_is_seed steps printed params temps))
     (apart_swap (outer_in seed) names
     (apart_among (outer_in seed) (outer_list seed) names
     (among_both (used_in seed) (hosted_in seed) (outer_list seed) (used_listed seed) (hosted_listed seed))
@@ -142,23 +148,33 @@ among_all (x ∷ xs) ys h k = ap (λ (b : Bool). b && list_all is_computed xs) (
 -- ---- names that `bind` draws
 
 -- the names of a bound function are its own
-pub own_names : (steps : List Step) (wanted : List (List ℕ)) (f : JsFunction) (b : IsBoundFunction steps wanted f)
+pub own_names : (form : Form) (steps : List Step) (wanted around : List (List ℕ)) (f : JsFunction) (b : IsBoundFunction form steps wanted around f)
     → AreOwn steps (f.params ++ b.temps)
-own_names steps wanted f b =
-    let scope = outer_scope steps in
+own_names form steps wanted around f b =
+    let scope = outer_scope steps around in
+    let outer = with_texts set.empty (outer_names steps) in
     let all = wanted ++ temporaries steps in
     let names = f.params ++ b.temps in record {
       distinct = drawn_distinct scope all names b.drawn;
       idents = drawn_idents scope all names b.drawn;
       apart = apart_by names (outer_names steps) (λ x k i. drawn_new scope all names x b.drawn k
-          (with_texts_there set.empty (outer_names steps) x i));
+          (with_texts_keeps outer around x (with_texts_there set.empty (outer_names steps) x i)));
     }
 
+-- and they are apart from those that stand around it
+pub around_apart : (form : Form) (steps : List Step) (wanted around : List (List ℕ)) (f : JsFunction) (b : IsBoundFunction form steps wanted around f)
+    → AreApart (f.params ++ b.temps) around
+around_apart form steps wanted around f b =
+    let scope = outer_scope steps around in
+    let outer = with_texts set.empty (outer_names steps) in
+    let names = f.params ++ b.temps in
+    apart_by names around (λ x k i. drawn_new scope (wanted ++ temporaries steps) names x b.drawn k (with_texts_there outer around x i))
+
 -- as many temporaries as the steps want
-pub bound_count : (steps : List Step) (wanted : List (List ℕ)) (f : JsFunction) (b : IsBoundFunction steps wanted f)
+pub bound_count : (form : Form) (steps : List Step) (wanted around : List (List ℕ)) (f : JsFunction) (b : IsBoundFunction form steps wanted around f)
     → length (temporaries steps) ≡ length b.temps
-bound_count steps wanted f b =
-    let all : length (f.params ++ b.temps) ≡ length (wanted ++ temporaries steps) = length-drawn (outer_scope steps)
+bound_count form steps wanted around f b =
+    let all : length (f.params ++ b.temps) ≡ length (wanted ++ temporaries steps) = length-drawn (outer_scope steps around)
     (wanted ++ temporaries steps) (f.params ++ b.temps) b.drawn in
     let split = length-append f.params b.temps in
     let split' = length-append wanted (temporaries steps) in
@@ -168,108 +184,111 @@ bound_count steps wanted f b =
 -- ---- the theorem
 
 -- the function of any steps, with words before and behind it
-module _ (steps : List Step) (wanted : List (List ℕ)) (f : JsFunction) (b : IsBoundFunction steps wanted f)
+module _ (form : Form) (steps : List Step) (wanted around : List (List ℕ)) (f : JsFunction) (b : IsBoundFunction form steps wanted around f)
     (front back : List Word) where
+  -- the names that are drawn
+  abbrev own : List (List ℕ)
+  own = f.params ++ b.temps
+
+  -- the words of the function
+  abbrev inside : List Word
+  inside = form_words form f.params (plain_stmts f.tree)
+
+  -- the words of the item
+  abbrev whole : List Word
+  whole = front ++ (inside ++ back)
+
   enough : length (temporaries steps) ≤ length b.temps
-  enough = let count = bound_count steps wanted f b in omega (arith, count)
+  enough = let count = bound_count form steps wanted around f b in omega (arith, count)
 
-  -- what is said of the function of the table of steps is said of this one
-  by_tree : (P : List Word → Type 0) → P (function_words f.params (tree_of steps f.params b.temps))
-      → P (function_words f.params (plain_stmts f.tree))
-  by_tree P h = subst P (sym (ap (function_words f.params) b.tree)) h
+  -- the names in the words are those in the words of any function of the table of steps
+  same_names : (kind : Word → Option (List ℕ)) → IsKind kind
+      → filter_map kind inside ≡ filter_map kind (function_words f.params (tree_of steps (parameters_of form f.params) b.temps))
+  same_names kind is = form_found kind is form f.params (plain_stmts f.tree) ∙ ap (λ (body : Lines). filter_map kind (function_words f.params body)) b.tree
 
-  outside : (kind : Word → Option (List ℕ)) → IsOuter kind
-      → AreAmong (filter_map kind (function_words f.params (plain_stmts f.tree))) (filter_map kind (outside_of steps))
-  outside kind outer = by_tree (λ words. AreAmong (filter_map kind words) (filter_map kind (outside_of steps)))
-      (outside_among kind outer steps f.params b.temps enough)
+  outside : (kind : Word → Option (List ℕ)) → IsOuter kind → AreAmong (filter_map kind inside) (filter_map kind (outside_of steps))
+  outside kind outer = subst (λ (ns : List (List ℕ)). AreAmong ns (filter_map kind (outside_of steps))) (sym (same_names kind outer.is))
+      (outside_among kind outer form steps f.params b.temps enough)
 
-  hides : AreApart (f.params ++ b.temps) (outer_in (function_words f.params (plain_stmts f.tree)))
-  hides = by_tree (λ words. AreApart (f.params ++ b.temps) (outer_in words))
-      (apart_outer steps f.params b.temps (f.params ++ b.temps) (own_names steps wanted f b).apart)
+  hides : AreApart own (outer_in inside)
+  hides =
+      let tree = tree_of steps (parameters_of form f.params) b.temps in
+      subst (λ (ns : List (List ℕ)). AreApart own (ns ++ hosted_in inside)) (sym (same_names used_name used_kind))
+      (subst (λ (ns : List (List ℕ)). AreApart own (used_in (function_words f.params tree) ++ ns)) (sym (same_names hosted_name hosted_kind))
+      (apart_outer steps f.params (parameters_of form f.params) b.temps own (own_names form steps wanted around f b).apart))
 
   among : (kind : Word → Option (List ℕ)) → IsOuter kind → (ys : List (List ℕ)) → AreAmong (filter_map kind front) ys
-      → AreAmong (filter_map kind (outside_of steps)) ys → AreAmong (filter_map kind back) ys
-      → AreAmong (filter_map kind (item_words front back f.params (plain_stmts f.tree))) ys
+      → AreAmong (filter_map kind (outside_of steps)) ys → AreAmong (filter_map kind back) ys → AreAmong (filter_map kind whole) ys
   among kind outer ys h k l =
-      let words = function_words f.params (plain_stmts f.tree) in
-      among_item front words back kind ys h (among_trans (filter_map kind words) (filter_map kind (outside_of steps)) ys
+      among_item front inside back kind ys h (among_trans (filter_map kind inside) (filter_map kind (outside_of steps)) ys
       (outside kind outer) k) l
 
-  -- the words of the function are those of its tree
-  pub bound_words : front ++ (f.words ++ back) ≡ item_words front back f.params (plain_stmts f.tree)
-  bound_words = ap (λ (words : List Word). front ++ (words ++ back)) b.words
-
-  -- and declare no name of the module's scope, where the steps bring none along
-  pub bound_binds : bound_in (outside_of steps) ≡ [] → bound_in (function_words f.params (plain_stmts f.tree)) ≡ []
-  bound_binds none = none_among (bound_in (function_words f.params (plain_stmts f.tree))) (subst (AreAmong (bound_in (function_words f.params (plain_stmts f.tree)))) none (outside bound_name bound_outer))
+  -- the function declares no name of the module's scope, where the steps bring none along
+  pub bound_binds : bound_in (outside_of steps) ≡ [] → bound_in inside ≡ []
+  bound_binds none = none_among (bound_in inside) (subst (AreAmong (bound_in inside)) none (outside bound_name bound_outer))
 
   pub bound_resolved : (hosts declared : List (List ℕ)) → Resolves hosts declared front
-      → Resolves hosts declared (outside_of steps) → Resolves hosts declared back
-      → Resolves hosts declared (item_words front back f.params (plain_stmts f.tree))
+      → Resolves hosts declared (outside_of steps) → Resolves hosts declared back → Resolves hosts declared whole
   bound_resolved hosts declared h k l = record {
     bound = among used_name used_outer declared h.bound k.bound l.bound;
     known = among hosted_name hosted_outer hosts h.known k.known l.known;
   }
 
   pub bound_keyed : (keys : List (List ℕ)) → TakesKeys keys front → TakesKeys keys (outside_of steps)
-      → TakesKeys keys back → TakesKeys keys (item_words front back f.params (plain_stmts f.tree))
+      → TakesKeys keys back → TakesKeys keys whole
   bound_keyed keys h k l =
-      let words = function_words f.params (plain_stmts f.tree) in
-      let inner = among_all (spliced_in words) (spliced_in (outside_of steps))
+      let inner = among_all (spliced_in inside) (spliced_in (outside_of steps))
       (outside spliced_key spliced_outer) k.formed in
       record {
         known = among spliced_key spliced_outer keys h.known k.known l.known;
-        formed = ap (list_all is_computed) (joined_names front words back spliced_key)
-            ∙ all_joined (spliced_in front) (spliced_in words ++ spliced_in back) h.formed
-            (all_joined (spliced_in words) (spliced_in back) inner l.formed);
+        formed = ap (list_all is_computed) (joined_names front inside back spliced_key)
+            ∙ all_joined (spliced_in front) (spliced_in inside ++ spliced_in back) h.formed
+            (all_joined (spliced_in inside) (spliced_in back) inner l.formed);
       }
 
   module _ (fit : list_all step_fit steps ≡ true) where
-    declares : local_bound_in (function_words f.params (plain_stmts f.tree)) ≡ f.params ++ b.temps
-    declares = by_tree (λ words. local_bound_in words ≡ f.params ++ b.temps)
-        (function_declares steps f.params b.temps fit (bound_count steps wanted f b))
+    declares : local_bound_in inside ≡ own
+    declares = same_names local_bound_name local_bound_kind
+        ∙ function_declares steps f.params (parameters_of form f.params) b.temps fit (bound_count form steps wanted around f b)
 
-    uses : AreAmong (local_in (function_words f.params (plain_stmts f.tree))) (f.params ++ b.temps)
-    uses = by_tree (λ words. AreAmong (local_in words) (f.params ++ b.temps)) (locals_among steps f.params b.temps fit enough)
+    uses : AreAmong (local_in inside) own
+    uses = subst (λ (ns : List (List ℕ)). AreAmong ns own) (sym (same_names local_name local_kind))
+        (locals_among form steps f.params b.temps fit enough)
 
-    pub bound_local : StandsBeside (f.params ++ b.temps) front → StandsBeside (f.params ++ b.temps) back
-        → KeepsLocals (item_words front back f.params (plain_stmts f.tree))
+    pub bound_local : StandsBeside own front → StandsBeside own back → KeepsLocals whole
     bound_local h k =
-        let own = f.params ++ b.temps in
-        let words = function_words f.params (plain_stmts f.tree) in
-        let same = alone_names front words back local_bound_name h.undeclared k.undeclared ∙ declares in
+        let same = alone_names front inside back local_bound_name h.undeclared k.undeclared ∙ declares in
         let f-parts = apart_split own (used_in front) (hosted_in front) h.apart in
-        let i-parts = apart_split own (used_in words) (hosted_in words) hides in
+        let i-parts = apart_split own (used_in inside) (hosted_in inside) hides in
         let b-parts = apart_split own (used_in back) (hosted_in back) k.apart in
         record {
-          bound = subst (AreAmong (local_in (item_words front back f.params (plain_stmts f.tree)))) (sym same)
+          bound = subst (AreAmong (local_in whole)) (sym same)
               (subst (λ (ns : List (List ℕ)). AreAmong ns own)
-              (sym (alone_names front words back local_name h.unused k.unused)) uses);
-          apart = subst (λ (ns : List (List ℕ)). AreApart ns
-              (outer_in (item_words front back f.params (plain_stmts f.tree)))) (sym same)
-              (apart_joined own (used_in (front ++ (words ++ back))) (hosted_in (front ++ (words ++ back)))
-              (apart_item front words back used_name own f-parts.0 i-parts.0 b-parts.0)
-              (apart_item front words back hosted_name own f-parts.1 i-parts.1 b-parts.1));
+              (sym (alone_names front inside back local_name h.unused k.unused)) uses);
+          apart = subst (λ (ns : List (List ℕ)). AreApart ns (outer_in whole)) (sym same)
+              (apart_joined own (used_in whole) (hosted_in whole)
+              (apart_item front inside back used_name own f-parts.0 i-parts.0 b-parts.0)
+              (apart_item front inside back hosted_name own f-parts.1 i-parts.1 b-parts.1));
         }
 
     idents : (list_all is_ident f.params ≡ true) × (list_all is_ident b.temps ≡ true)
     idents = and_parts (list_all is_ident f.params) (list_all is_ident b.temps)
-        (sym (list_all-append is_ident f.params b.temps) ∙ (own_names steps wanted f b).idents)
+        (sym (list_all-append is_ident f.params b.temps) ∙ (own_names form steps wanted around f b).idents)
 
     body_fit : lines_fit (plain_stmts f.tree) ≡ true
-    body_fit = ap lines_fit b.tree ∙ tree_fit steps f.params b.temps fit enough idents.0 idents.1
+    body_fit = ap lines_fit b.tree ∙ tree_fit form steps f.params b.temps fit enough idents.0 idents.1
 
-    pub bound_alone : IsFrame front back → StandAlone (item_words front back f.params (plain_stmts f.tree))
-    bound_alone frame = item_alone frame f.params (plain_stmts f.tree) idents.0 body_fit
+    pub bound_alone : IsFrame front back → StandAlone whole
+    bound_alone frame = form_alone frame form f.params (plain_stmts f.tree) idents.0 body_fit
 
     -- no word of the function is `export`
-    pub bound_inner : IsFrame front back → list_all is_inner (function_words f.params (plain_stmts f.tree)) ≡ true
-    bound_inner frame = function_inner frame f.params (plain_stmts f.tree) idents.0 body_fit
+    pub bound_inner : IsFrame front back → list_all is_inner inside ≡ true
+    bound_inner frame = form_inner frame form f.params (plain_stmts f.tree) idents.0 body_fit
 
     pub bound_exported : IsFrame front back → (exports : List (List ℕ)) → AreAmong (wasm_in front) exports
         → AreAmong (wasm_in (outside_of steps)) exports → AreAmong (wasm_in back) exports
-        → TakesExports exports (item_words front back f.params (plain_stmts f.tree)) None
+        → TakesExports exports whole None
     bound_exported frame exports h k l = record {
       known = among wasm_name wasm_outer exports h k l;
-      named = item_named frame f.params (plain_stmts f.tree) idents.0 body_fit;
+      named = form_named frame form f.params (plain_stmts f.tree) idents.0 body_fit;
     }

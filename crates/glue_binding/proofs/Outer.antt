@@ -21,13 +21,14 @@ use Rattle.glue_steps.specs.Stack.{top, below, item_at, last_of, operands, witho
 use Rattle.glue_steps.specs.AdapterMeaning.{reading_method, writing_method, known}
 use Rattle.glue_steps.specs.declared.step.Step.{Step}
 use Rattle.glue_steps.specs.declared.step.Step.TheVariants.{Parameter, Unchanged, CallExport, CallImport, ToUnsigned, IsNotZero, ToUnsigned64, CallHelper, IndexFromBorrow, UnwrapResult, PassToMemory, DeferFree, CopyOut, ReturnPointer, LoadReturn, StoreReturn, MakeClosure, IndexOf, ItemAt}
-use Rattle.glue_binding.specs.Spelling.{Plain, Missing, Local, Unsigned, NotZero, term_of, terms, first, later, next_names, write_call, address_term, written_length, copy_call, view_method, load_call, store_call, closure_call, parts_words, import_line_words, Piece, Ahead, Cleanup, ending, import_row, row, pieces_of, nested, tree_of}
+use Rattle.glue_binding.specs.Spelling.{Plain, Missing, This, Local, Unsigned, NotZero, term_of, terms, first, later, next_names, write_call, address_term, written_length, copy_call, view_method, load_call, store_call, closure_call, parts_words, import_line_words, Piece, Ahead, Cleanup, ending, import_row, row, pieces_of, nested, tree_of}
 use Rattle.glue_binding.specs.Outer.{outer_in, seed_words}
 
 -- operands have no names of a kind that locals have none of
 pub plain_none : (kind : Word → Option (List ℕ)) → ((name : List ℕ) → kind (w.Local name) ≡ None) → (p : Plain)
     → filter_map kind (leaves (term_of p)) ≡ []
 plain_none kind h Missing = refl
+plain_none kind h This = refl
 plain_none kind h (Local name) = rw (h name) refl
 plain_none kind h (Unsigned p) = ap (filter_map kind) (append-nil (leaves (term_of p))) ∙ plain_none kind h p
 plain_none kind h (NotZero p) = ap (filter_map kind) (append-nil (leaves (term_of p))) ∙ plain_none kind h p
@@ -305,46 +306,32 @@ module _ (kind : Word → Option (List ℕ)) (outer : IsOuter kind) where
       (row_same s p t p' t' n n')
       (pieces_same steps after r.stack after' r'.stack r.names r'.names (row_many s p t p' t' n n' h))
 
-  tree_same : (steps : List Step) (params temps others more : List (List ℕ))
+  tree_same : (steps : List Step) (params others : List Plain) (temps more : List (List ℕ))
       → Alike (lines_leaves (tree_of steps params temps)) (lines_leaves (tree_of steps others more))
-  tree_same steps params temps others more =
-      nested_same (pieces_of steps (map Local params) [] temps)
-      (pieces_of steps (map Local others) [] more) NoLines NoLines
-      (pieces_same steps (map Local params) [] (map Local others) [] temps more tt) (equal [])
+  tree_same steps params others temps more =
+      nested_same (pieces_of steps params [] temps) (pieces_of steps others [] more) NoLines NoLines
+      (pieces_same steps params [] others [] temps more tt) (equal [])
 
   parameters_none : (names : List (List ℕ)) → found (map w.LocalBind names) ≡ []
   parameters_none [] = refl
   parameters_none (name ∷ names) = rw (outer.bound name) (parameters_none names)
 
-  pub function_same : (steps : List Step) (params temps others more : List (List ℕ))
-      → found (function_words params (tree_of steps params temps))
-      ≡ found (function_words others (tree_of steps others more))
-  function_same steps params temps others more =
-      let here : Has kind outer.is (function_words params (tree_of steps params temps))
-      (function_leaves params (tree_of steps params temps)) = function_names kind outer.is params
-      (tree_of steps params temps) in
-      let there : Has kind outer.is (function_words others (tree_of steps others more))
-      (function_leaves others (tree_of steps others more)) = function_names kind outer.is others
-      (tree_of steps others more) in
-      let heads : Alike (map w.LocalBind params) (map w.LocalBind others) = record {
-        same = parameters_none params
-            ∙ sym (parameters_none others);
-      } in
-      let all : Alike (function_leaves params (tree_of steps params temps))
-      (function_leaves others (tree_of steps others more)) = beside heads
-      (tree_same steps params temps others more) in
+  pub function_same : (steps : List Step) (names : List (List ℕ)) (params : List Plain) (temps : List (List ℕ))
+      → found (function_words names (tree_of steps params temps)) ≡ found (seed_words steps)
+  function_same steps names params temps =
+      let tree = tree_of steps params temps in
+      let bare = tree_of steps [] [] in
+      let here : Has kind outer.is (function_words names tree) (function_leaves names tree) = function_names kind outer.is names tree in
+      let there : Has kind outer.is (function_words [] bare) (function_leaves [] bare) = function_names kind outer.is [] bare in
+      let heads : Alike (map w.LocalBind names) [] = record { same = parameters_none names } in
+      let all : Alike (function_leaves names tree) (function_leaves [] bare) = beside heads (tree_same steps params [] temps []) in
       here.same ∙ all.same ∙ sym there.same
 
 -- the names from outside are those of the words that no names are drawn for, whatever names are drawn
-pub outer_is_seed : (steps : List Step) (params temps : List (List ℕ))
-    → outer_in (function_words params (tree_of steps params temps)) ≡ outer_in (seed_words steps)
-outer_is_seed steps params temps =
-    ap (λ (ns : List (List ℕ)). ns ++ hosted_in (function_words params (tree_of steps params temps)))
-    (function_same used_name (record { is = used_kind; bound = λ n. refl; local = λ n. refl }) steps params temps [] [])
+pub outer_is_seed : (steps : List Step) (names : List (List ℕ)) (params : List Plain) (temps : List (List ℕ))
+    → outer_in (function_words names (tree_of steps params temps)) ≡ outer_in (seed_words steps)
+outer_is_seed steps names params temps =
+    ap (λ (ns : List (List ℕ)). ns ++ hosted_in (function_words names (tree_of steps params temps)))
+    (function_same used_name (record { is = used_kind; bound = λ n. refl; local = λ n. refl }) steps names params temps)
     ∙ ap (λ (ns : List (List ℕ)). used_in (seed_words steps) ++ ns)
-    (function_same hosted_name (record {
-      is = hosted_kind;
-      bound = λ n. refl;
-      local =
-          λ n. refl;
-    }) steps params temps [] [])
+    (function_same hosted_name (record { is = hosted_kind; bound = λ n. refl; local = λ n. refl }) steps names params temps)

@@ -30,7 +30,9 @@ use Rattle.glue_steps.specs.Stack.{top, below, item_at, last_of, operands, witho
 use Rattle.glue_steps.specs.AdapterMeaning.{stack_mover, reading_method, writing_method}
 use Rattle.glue_steps.specs.declared.step.Step.{Step}
 use Rattle.glue_steps.specs.declared.step.Step.TheVariants.{Parameter, Unchanged, CallExport, CallImport, ToUnsigned, IsNotZero, ToUnsigned64, CallHelper, IndexFromBorrow, UnwrapResult, PassToMemory, DeferFree, CopyOut, ReturnPointer, LoadReturn, StoreReturn, MakeClosure, IndexOf, ItemAt}
-use Rattle.glue_binding.specs.Spelling.{Plain, Missing, Local, Unsigned, NotZero, term_of, terms, is_comparison, word_if, plain_words, guarded_words, argument_words, arguments_words, next_names, write_call, address_term, copy_call, load_call, store_call, closure_call, part_words, parts_words, start_words, import_line_words, Piece, Ahead, Cleanup, ending, import_row, pieces_of, nested, tree_of, result_of, counted, wanted_from, temporaries}
+use Rattle.glue_binding.specs.Spelling.{Plain, Missing, This, Local, Unsigned, NotZero, term_of, terms, is_comparison, word_if, plain_words, guarded_words, argument_words, arguments_words, next_names, write_call, address_term, copy_call, load_call, store_call, closure_call, part_words, parts_words, start_words, import_line_words, Piece, Ahead, Cleanup, ending, import_row, pieces_of, nested, tree_of, result_of, counted, wanted_from, temporaries}
+use Rattle.glue_binding.specs.Form.{first_if, parameters_of}
+use Rattle.glue_binding.specs.declared.form.Form.{Form}
 use Rattle.glue_binding.proofs.Each.{Each, each_by, each_there, each_item, each_below}
 use Rattle.glue_binding.proofs.Coming.{next_count, next_rest, first_enough, left_exact}
 use Rattle.glue_binding.proofs.Standing.{part_good, expression_fits, step_fit, fitting, fitting_good, steps_each, prelude_places, value_places}
@@ -100,12 +102,14 @@ module _ (kind : Word → Option (List ℕ)) (is : IsKind kind) where
     -- the local of an operand
     abbrev OfPlain : Plain → Type 0
     OfPlain Missing = Unit {0}
+    OfPlain This = Unit {0}
     OfPlain (Local name) = Holds (w.Local name ∷ [])
     OfPlain (Unsigned p) = OfPlain p
     OfPlain (NotZero p) = OfPlain p
 
     plain_holds : (p : Plain) → OfPlain p → Holds (leaves (term_of p))
     plain_holds Missing h = none
+    plain_holds This h = none
     plain_holds (Local name) h = h
     plain_holds (Unsigned p) h = merge (plain_holds p h) none
     plain_holds (NotZero p) h = merge (plain_holds p h) none
@@ -146,6 +150,7 @@ module _ (kind : Word → Option (List ℕ)) (is : IsKind kind) where
     -- operands of an import, in parentheses or not, and as arguments
     operand_holds : (p : Plain) → OfPlain p → Holds (plain_words p)
     operand_holds Missing h = record { among = rw (is.key 27) tt }
+    operand_holds This h = record { among = rw (is.key 35) tt }
     operand_holds (Local name) h = h
     operand_holds (Unsigned p) h =
         merge (mark_if (is_comparison p) 2) (merge (operand_holds p h) (merge (mark_if (is_comparison p) 3) (merge gap (merge (mark 38) (merge gap zero)))))
@@ -153,6 +158,7 @@ module _ (kind : Word → Option (List ℕ)) (is : IsKind kind) where
 
     guarded_holds : (p : Plain) → OfPlain p → Holds (guarded_words p)
     guarded_holds Missing h = operand_holds Missing h
+    guarded_holds This h = operand_holds This h
     guarded_holds (Local name) h = operand_holds (Local name) h
     guarded_holds (Unsigned p) h = parens_hold (operand_holds (Unsigned p) h)
     guarded_holds (NotZero p) h = parens_hold (operand_holds (NotZero p) h)
@@ -335,34 +341,41 @@ module _ (kind : Word → Option (List ℕ)) (is : IsKind kind) where
     params_hold [] h = none
     params_hold (name ∷ names) h = merge h.0.declared (params_hold names h.1)
 
-    params_plain : (names : List (List ℕ)) → Each OfName names → Each OfPlain (map Local names)
-    params_plain [] h = tt
-    params_plain (name ∷ names) h = (h.0.used, params_plain names h.1)
+    locals_plain : (names : List (List ℕ)) → Each OfName names → Each OfPlain (map Local names)
+    locals_plain [] h = tt
+    locals_plain (name ∷ names) h = (h.0.used, locals_plain names h.1)
+
+    params_plain : (form : Form) (names : List (List ℕ)) → Each OfName names → Each OfPlain (parameters_of form names)
+    params_plain form names h = by form.takes_this
+      where
+        by : (takes_this : Bool) → Each OfPlain (first_if takes_this This (map Local names))
+        by true = (tt, locals_plain names h)
+        by false = locals_plain names h
 
     steps_hold : (steps : List Step) → Holds (outside_of steps) → Each Known steps → Each (λ s. Holds (outside_words s) × Known s) steps
     steps_hold [] h k = tt
     steps_hold (s ∷ steps) h k = let parts = split (outside_words s) (outside_of steps) h in
         ((parts.0, k.0), steps_hold steps parts.1 k.1)
 
-    function_holds : (steps : List Step) (params temps : List (List ℕ)) → length (temporaries steps) ≤ length temps
+    function_holds : (form : Form) (steps : List Step) (params temps : List (List ℕ)) → length (temporaries steps) ≤ length temps
         → Holds (outside_of steps) → Each Known steps → Each OfName params → Each OfName temps
-        → AreAmong (filter_map kind (function_words params (tree_of steps params temps))) ys
-    function_holds steps params temps le f k p m =
-        let tree = tree_of steps params temps in
+        → AreAmong (filter_map kind (function_words params (tree_of steps (parameters_of form params) temps))) ys
+    function_holds form steps params temps le f k p m =
+        let tree = tree_of steps (parameters_of form params) temps in
         let has : Has kind is (function_words params tree)
         (function_leaves params tree) = function_names kind is params tree in
         let leaves_hold : Holds (lines_leaves tree) =
-        nested_holds (pieces_of steps (map Local params) [] temps) NoLines
-        (pieces_have held steps (map Local params) [] temps 0 (steps_hold steps f k) le
-        (params_plain params p) tt m) none in
+        nested_holds (pieces_of steps (parameters_of form params) [] temps) NoLines
+        (pieces_have held steps (parameters_of form params) [] temps 0 (steps_hold steps f k) le
+        (params_plain form params p) tt m) none in
         let all : Holds (function_leaves params tree) = merge (params_hold params p) leaves_hold in
         subst (λ (ns : List (List ℕ)). AreAmong ns ys) (sym has.same) all.among
 
 -- names of a kind from outside are among those that the steps bring along
-pub outside_among : (kind : Word → Option (List ℕ)) → IsOuter kind → (steps : List Step) (params temps : List (List ℕ))
+pub outside_among : (kind : Word → Option (List ℕ)) → IsOuter kind → (form : Form) (steps : List Step) (params temps : List (List ℕ))
     → length (temporaries steps) ≤ length temps → AreAmong
-    (filter_map kind (function_words params (tree_of steps params temps))) (filter_map kind (outside_of steps))
-outside_among kind outer steps params temps le =
+    (filter_map kind (function_words params (tree_of steps (parameters_of form params) temps))) (filter_map kind (outside_of steps))
+outside_among kind outer form steps params temps le =
     let ys = filter_map kind (outside_of steps) in
     let name : (x : List ℕ) → OfName kind outer.is ys x =
     λ x. record {
@@ -372,7 +385,7 @@ outside_among kind outer steps params temps le =
             (outer.local x) tt;
       };
     } in
-    function_holds kind outer.is ys steps params temps le (record { among = among_itself ys })
+    function_holds kind outer.is ys form steps params temps le (record { among = among_itself ys })
     (each_by (Known kind outer.is ys) steps (λ s at. inl name))
     (each_by (OfName kind outer.is ys) params (λ x at. name x))
     (each_by (OfName kind outer.is ys) temps (λ x at. name x))
@@ -406,13 +419,13 @@ steps_local (s ∷ steps) =
     ∙ steps_local steps
 
 -- the locals that are used are parameters and temporaries
-pub locals_among : (steps : List Step) (params temps : List (List ℕ)) → list_all step_fit steps ≡ true → length (temporaries steps) ≤ length temps
-    → AreAmong (local_in (function_words params (tree_of steps params temps))) (params ++ temps)
-locals_among steps params temps fit le =
+pub locals_among : (form : Form) (steps : List Step) (params temps : List (List ℕ)) → list_all step_fit steps ≡ true → length (temporaries steps) ≤ length temps
+    → AreAmong (local_in (function_words params (tree_of steps (parameters_of form params) temps))) (params ++ temps)
+locals_among form steps params temps fit le =
     let ys = params ++ temps in
     let name : (x : List ℕ) → IsIn x ys → OfName local_name local_kind ys x =
     λ x at. record { declared = record { among = tt }; used = record { among = (at, tt) } } in
-    function_holds local_name local_kind ys steps params temps le
+    function_holds local_name local_kind ys form steps params temps le
     (record { among = subst (λ (ns : List (List ℕ)). AreAmong ns ys) (sym (steps_local steps)) tt })
     (fits_known steps (steps_each steps fit))
     (each_by (OfName local_name local_kind ys) params (λ x at. name x (in_left x params temps at)))
@@ -638,14 +651,14 @@ params_declare [] = refl
 params_declare (name ∷ names) = ap (λ (ns : List (List ℕ)). name ∷ ns) (params_declare names)
 
 -- the function declares its parameters and temporaries
-pub function_declares : (steps : List Step) (params temps : List (List ℕ)) → list_all step_fit steps ≡ true → length (temporaries steps) ≡ length temps
-    → local_bound_in (function_words params (tree_of steps params temps)) ≡ params ++ temps
-function_declares steps params temps fit e =
+pub function_declares : (steps : List Step) (names : List (List ℕ)) (params : List Plain) (temps : List (List ℕ)) → list_all step_fit steps ≡ true
+    → length (temporaries steps) ≡ length temps → local_bound_in (function_words names (tree_of steps params temps)) ≡ names ++ temps
+function_declares steps names params temps fit e =
     let tree = tree_of steps params temps in
-    let has : Has local_bound_name local_bound_kind (function_words params tree)
-    (function_leaves params tree) = function_names local_bound_name local_bound_kind params tree in
+    let has : Has local_bound_name local_bound_kind (function_words names tree)
+    (function_leaves names tree) = function_names local_bound_name local_bound_kind names tree in
     has.same
-    ∙ two_declared (map w.LocalBind params) (lines_leaves tree)
-    ∙ ap (λ (ns : List (List ℕ)). ns ++ local_bound_in (lines_leaves tree)) (params_declare params)
-    ∙ ap (λ (ns : List (List ℕ)). params ++ ns) (nested_declared (pieces_of steps (map Local params) [] temps)
-    ∙ pieces_declare steps (map Local params) [] temps 0 (steps_each steps fit) e)
+    ∙ two_declared (map w.LocalBind names) (lines_leaves tree)
+    ∙ ap (λ (ns : List (List ℕ)). ns ++ local_bound_in (lines_leaves tree)) (params_declare names)
+    ∙ ap (λ (ns : List (List ℕ)). names ++ ns) (nested_declared (pieces_of steps params [] temps)
+    ∙ pieces_declare steps params [] temps 0 (steps_each steps fit) e)

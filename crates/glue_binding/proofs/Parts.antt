@@ -17,7 +17,7 @@ use Rattle.glue_steps.specs.Stack.{below, item_at}
 use Rattle.glue_imports.specs.declared.part.Part.{Part}
 use Rattle.glue_imports.specs.declared.part.Part.TheVariants as part
 use Rattle.glue_imports.specs.declared.part.Expression.{Expression}
-use Rattle.glue_binding.specs.Spelling.{Plain, Missing, Local, Unsigned, NotZero, path_words, shift_words, unequal_words, is_comparison, word_if, plain_words, guarded_words, argument_words, arguments_words, chained_words, part_words, parts_words}
+use Rattle.glue_binding.specs.Spelling.{Plain, Missing, This, Local, Unsigned, NotZero, path_words, shift_words, unequal_words, is_comparison, word_if, plain_words, guarded_words, argument_words, arguments_words, chained_words, part_words, parts_words}
 use Rattle.glue_binding.proofs.Paths.{path_tells, property_tells, chained_tells}
 
 -- the words that a part brings along, whatever the locals and the operands are
@@ -75,6 +75,7 @@ module _ (kind : Word → Option (List ℕ)) (is : IsKind kind) (local : (name :
 
   operand_none : (p : Plain) → found (plain_words p) ≡ []
   operand_none Missing = rw (is.key 27) refl
+  operand_none This = rw (is.key 35) refl
   operand_none (Local name) = rw (local name) refl
   operand_none (Unsigned p) =
       let opened = word_if (is_comparison p) (w.Punct 2) in
@@ -88,6 +89,7 @@ module _ (kind : Word → Option (List ℕ)) (is : IsKind kind) (local : (name :
 
   guarded_none : (p : Plain) → found (guarded_words p) ≡ []
   guarded_none Missing = operand_none Missing
+  guarded_none This = operand_none This
   guarded_none (Local name) = operand_none (Local name)
   guarded_none (Unsigned p) = parens_none (plain_words (Unsigned p)) (operand_none (Unsigned p))
   guarded_none (NotZero p) = parens_none (plain_words (NotZero p)) (operand_none (NotZero p))

@@ -16,7 +16,9 @@ use Rattle.glue_steps.specs.Stack.{top, below, item_at, last_of, operands, witho
 use Rattle.glue_steps.specs.AdapterMeaning.{Left, gives_back, throws_if, unsigned_64, exports_of, writes, unless_absent, address_of, frees, copies, takes_room, gives_room_back, loads, stores, makes, index_of, item_of, known, helpers_of, act, cleans, after_act, newest, means, seen, adapter_meaning}
 use Rattle.glue_steps.specs.declared.step.Step.{Step}
 use Rattle.glue_steps.specs.declared.step.Step.TheVariants.{Parameter, Unchanged, CallExport, CallImport, ToUnsigned, IsNotZero, ToUnsigned64, CallHelper, IndexFromBorrow, UnwrapResult, PassToMemory, DeferFree, CopyOut, ReturnPointer, LoadReturn, StoreReturn, MakeClosure, IndexOf, ItemAt}
-use Rattle.glue_binding.specs.Spelling.{Plain, Missing, Local, Unsigned, NotZero, term_of, plain_value, terms, helper_call, unsigned_64_call, next_names, gives_back_line, write_call, address_term, free_line, copy_call, mover_call, load_call, store_call, closure_call, index_call, item_term, import_row, pieces_of, cleaned_by, nested, tree_of, result_of, wanted_from, counted, temporaries}
+use Rattle.glue_binding.specs.Spelling.{Plain, Missing, This, Local, Unsigned, NotZero, term_of, plain_value, terms, helper_call, unsigned_64_call, next_names, gives_back_line, write_call, address_term, free_line, copy_call, mover_call, load_call, store_call, closure_call, index_call, item_term, import_row, pieces_of, cleaned_by, nested, tree_of, result_of, wanted_from, counted, temporaries}
+use Rattle.glue_binding.specs.Form.{parameters_of, value_names, first_if}
+use Rattle.glue_binding.specs.declared.form.Form.{Form}
 use Rattle.glue_binding.specs.Binding.{KnowsHelpers}
 use Rattle.glue_imports.specs.declared.part.Expression.{Expression}
 use Rattle.glue_binding.proofs.Each.{Each, each_both, each_item, each_top, each_below, each_without}
@@ -117,9 +119,10 @@ miss x y v env h = ap (λ b. if b then v else value_in env y)
 
 -- ---- names
 
--- an operand doesn't speak of a name
+-- an operand doesn't speak of a name; `this` speaks of its own
 abbrev Avoids : List ℕ → Plain → Type 0
 Avoids x Missing = Unit {0}
+Avoids x This = x ≡ codes "this" → ⊥
 Avoids x (Local y) = x ≡ y → ⊥
 Avoids x (Unsigned p) = Avoids x p
 Avoids x (NotZero p) = Avoids x p
@@ -194,6 +197,7 @@ fresh_left (suc k) (x ∷ names) params stack f = fresh_left k names params stac
 keep_one : (p : Plain) (x : List ℕ) (v : Value) (env : Locals) → Avoids x p
     → plain_value ((x, v) ∷ env) p ≡ plain_value env p
 keep_one Missing x v env h = refl
+keep_one This x v env h = miss x (codes "this") v env h
 keep_one (Local y) x v env h = miss x y v env h
 keep_one (Unsigned p) x v env h = ap unsigned (keep_one p x v env h)
 keep_one (NotZero p) x v env h = ap is_not_zero (keep_one p x v env h)
@@ -263,6 +267,7 @@ module _ (thing_of : List ℕ → Thing) where
   value_is : (p : Plain) (env : Locals) (trace : List Entry) (answers : List Answer)
       → value_of thing_of (term_of p) env trace answers ≡ Went (plain_value env p) trace answers
   value_is Missing env trace answers = refl
+  value_is This env trace answers = refl
   value_is (Local x) env trace answers = refl
   value_is (Unsigned p) env trace answers = rw (value_is p env trace answers) refl
   value_is (NotZero p) env trace answers = rw (value_is p env trace answers) refl
@@ -662,17 +667,36 @@ start_is (x ∷ params) (v ∷ args) d =
     pushed (map Local params) x v (locals_of params args) (avoids_locals x params d.0)
     ∙ ap (λ vs. v ∷ vs) (start_is params args d.1)
 
-pub whole : (steps : List Step) (params temps : List (List ℕ)) → AreDistinct params → AreDistinct temps
-    → ((x : List ℕ) → IsIn x temps → IsAway x params) → length (temporaries steps) ≤ length temps
+-- of a form too: the value of `this` is that of the name that no local has
+form_start : (form : Form) (params : List (List ℕ)) (args : List Value) → AreDistinct (value_names form params)
+    → map (plain_value (locals_of (value_names form params) args)) (parameters_of form params) ≡ seen (length (value_names form params)) args
+form_start form params args = by form.takes_this
+  where
+    by : (takes_this : Bool) → AreDistinct (first_if takes_this (codes "this") params)
+        → map (plain_value (locals_of (first_if takes_this (codes "this") params) args)) (first_if takes_this This (map Local params))
+        ≡ seen (length (first_if takes_this (codes "this") params)) args
+    by true d = start_is (codes "this" ∷ params) args d
+    by false d = start_is params args d
+
+avoids_parameters : (form : Form) (x : List ℕ) (params : List (List ℕ)) → IsAway x (value_names form params)
+    → Each (Avoids x) (parameters_of form params)
+avoids_parameters form x params = by form.takes_this
+  where
+    by : (takes_this : Bool) → IsAway x (first_if takes_this (codes "this") params) → Each (Avoids x) (first_if takes_this This (map Local params))
+    by true h = (λ e. h (inl e), avoids_locals x params (λ k. h (inr k)))
+    by false h = avoids_locals x params h
+
+pub whole : (form : Form) (steps : List Step) (params temps : List (List ℕ)) → AreDistinct (value_names form params) → AreDistinct temps
+    → ((x : List ℕ) → IsIn x temps → IsAway x (value_names form params)) → length (temporaries steps) ≤ length temps
     → (thing_of : List ℕ → Thing) → KnowsHelpers steps thing_of → (args : List Value) (answers : List Answer)
-    → tree_meaning thing_of (tree_of steps params temps) (locals_of params args) answers
-    ≡ adapter_meaning steps (length params) args answers
-whole steps params temps dp dt apart le thing_of knows args answers =
-    same thing_of steps (map Local params) [] temps (locals_of params args) 0 knows
+    → tree_meaning thing_of (tree_of steps (parameters_of form params) temps) (locals_of (value_names form params) args) answers
+    ≡ adapter_meaning steps (length (value_names form params)) args answers
+whole form steps params temps dp dt apart le thing_of knows args answers =
+    same thing_of steps (parameters_of form params) [] temps (locals_of (value_names form params) args) 0 knows
     (record {
       distinct = dt;
-      from_params = λ x k. avoids_locals x params (apart x k);
+      from_params = λ x k. avoids_parameters form x params (apart x k);
       from_stack =
           λ x k. tt;
     }) le [] answers
-    ∙ ap (λ vs. means steps vs [] [] [] answers) (start_is params args dp)
+    ∙ ap (λ vs. means steps vs [] [] [] answers) (form_start form params args dp)

@@ -49,28 +49,16 @@ appended f xs i x start lt is = flat_map_more f start (take i xs) x
 
 -- ---- operands
 
-pub param_found : (params : List (List ℕ)) (n : ℕ) → n < length params
-    → Local (get_or params n []) ≡ item_at Missing (map Local params) n
-param_found [] n h = absurd (omega arith)
-param_found (x ∷ params) zero h = refl
-param_found (x ∷ params) (suc n) h = param_found params n (omega arith)
+-- the last one
+last_behind : {A : Type 0} (default x : A) (xs : List A) → item_at default (x ∷ xs) (length xs) ≡ last_of x xs
+last_behind default x [] = refl
+last_behind default x (y ∷ xs) = last_behind default y xs
 
-pub param_missing : (params : List (List ℕ)) (n : ℕ) → length params ≤ n
-    → Missing ≡ item_at Missing (map Local params) n
-param_missing [] n h = refl
-param_missing (x ∷ params) zero h = absurd (omega arith)
-param_missing (x ∷ params) (suc n) h = param_missing params n (omega arith)
-
--- the last parameter
-last_behind : (x : List ℕ) (params : List (List ℕ)) → item_at Missing (map Local (x ∷ params)) (length params) ≡ last_of (Local x) (map Local params)
-last_behind x [] = refl
-last_behind x (y ∷ params) = last_behind y params
-
-pub last_found : (params : List (List ℕ)) → item_at Missing (map Local params) (length params - 1) ≡ last_of Missing (map Local params)
+pub last_found : (known : List Operand) → item_at Missing (map plain_operand known) (length known - 1) ≡ last_of Missing (map plain_operand known)
 last_found [] = refl
-last_found (x ∷ params) =
-    let e : length (x ∷ params) - 1 ≡ length params = omega arith in
-    ap (item_at Missing (map Local (x ∷ params))) e ∙ last_behind x params
+last_found (x ∷ known) =
+    let e : length (x ∷ known) - 1 ≡ length (map plain_operand known) = let same = length-map known plain_operand in omega (arith, same) in
+    ap (item_at Missing (map plain_operand (x ∷ known))) e ∙ last_behind Missing (plain_operand x) (map plain_operand known)
 
 -- the name at a place, and past the end
 pub name_found : (names : List (List ℕ)) (n : ℕ) → n < length names → get_or names n [] ≡ item_at [] names n

@@ -29,7 +29,7 @@ use Rattle.glue_imports.specs.declared.part.Part.TheVariants as part
 use Rattle.glue_imports.specs.declared.part.Expression.{Expression}
 use Rattle.glue_steps.specs.declared.step.Step.{Step}
 use Rattle.glue_steps.specs.declared.step.Step.TheVariants.{CallImport, CallHelper, UnwrapResult, PassToMemory, CopyOut, LoadReturn, StoreReturn, MakeClosure, IndexOf, ItemAt}
-use Rattle.glue_binding.specs.Spelling.{Plain, Missing, Local, Unsigned, NotZero, path_words, shift_words, unequal_words, is_comparison, word_if, plain_words, guarded_words, argument_words, arguments_words, without_dot, chained_words, part_words, parts_words, import_line_words}
+use Rattle.glue_binding.specs.Spelling.{Plain, Missing, This, Local, Unsigned, NotZero, path_words, shift_words, unequal_words, is_comparison, word_if, plain_words, guarded_words, argument_words, arguments_words, without_dot, chained_words, part_words, parts_words, import_line_words}
 use Rattle.glue_binding.proofs.Each.{Each, each_there, each_item, each_below}
 use Rattle.glue_binding.proofs.Parts.{bound_places}
 use Rattle.glue_binding.proofs.Paths.{MayFollow, StandsBetween, path_stands, property_stands, property_tells}
@@ -251,6 +251,14 @@ local_before : (name : List ℕ) (next : Option Word) → spaced (w.Local name) 
 local_before name None = refl
 local_before name (Some next) = refl
 
+this_before : (next : Option Word) → spaced (w.Key 35) next ≡ spaced (w.Key 27) next
+this_before None = refl
+this_before (Some next) = refl
+
+this_behind : (word : Word) → spaced word (Some (w.Key 35)) ≡ spaced word (Some (w.Key 27))
+this_behind (w.Punct place) = refl
+this_behind other = refl
+
 local_behind : (word : Word) (name : List ℕ) → spaced word (Some (w.Local name)) ≡ spaced word (Some (w.Local []))
 local_behind (w.Punct place) name = refl
 local_behind other name = refl
@@ -305,6 +313,7 @@ record Stands (firsts lasts words : List Word) : Type 0 where
 -- the local of an operand is an identifier
 abbrev pub IsNamed : Plain → Type 0
 IsNamed Missing = Unit {0}
+IsNamed This = Unit {0}
 IsNamed (Local name) = is_ident name ≡ true
 IsNamed (Unsigned p) = IsNamed p
 IsNamed (NotZero p) = IsNamed p
@@ -369,6 +378,11 @@ operand_stands Missing h = record {
   front = λ word rest next f. key_front word f;
   back = λ next b. and_true _ _ (and_parts (spaced (w.Key 27) next) _ b).0 refl;
 }
+operand_stands This h = record {
+  good = refl;
+  front = λ word rest next f. this_behind word ∙ key_front word f;
+  back = λ next b. and_true _ _ (this_before next ∙ (and_parts (spaced (w.Key 27) next) _ b).0) refl;
+}
 operand_stands (Local name) h = record {
   good = ap (λ (b : Bool). (((b && true) && true) && true) && true) h;
   front = λ word rest next f. local_front word name f;
@@ -415,6 +429,11 @@ guarded_stands Missing h = record {
   good = refl;
   front = λ word rest next f. (and_parts (spaced word (Some (w.Key 27))) _ f).0;
   back = λ next b. and_true _ _ (and_parts (spaced (w.Key 27) next) _ b).0 refl;
+}
+guarded_stands This h = record {
+  good = refl;
+  front = λ word rest next f. this_behind word ∙ (and_parts (spaced word (Some (w.Key 27))) _ f).0;
+  back = λ next b. and_true _ _ (this_before next ∙ (and_parts (spaced (w.Key 27) next) _ b).0) refl;
 }
 guarded_stands (Local name) h = record {
   good = (operand_stands (Local name) h).good;
@@ -790,6 +809,7 @@ mark_apart false place = refl
 -- an operand is no access of an export
 operand_apart : (p : Plain) → begins_apart (plain_words p) ≡ true
 operand_apart Missing = refl
+operand_apart This = refl
 operand_apart (Local name) = refl
 operand_apart (Unsigned p) =
     let closed = word_if (is_comparison p) (w.Punct 3) in
@@ -799,6 +819,7 @@ operand_apart (NotZero p) = both_apart (plain_words p) unequal_words (operand_ap
 
 guarded_apart : (p : Plain) → begins_apart (guarded_words p) ≡ true
 guarded_apart Missing = refl
+guarded_apart This = refl
 guarded_apart (Local name) = refl
 guarded_apart (Unsigned p) = refl
 guarded_apart (NotZero p) = refl

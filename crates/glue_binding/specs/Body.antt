@@ -15,6 +15,7 @@ use Rattle.glue_steps.specs.declared.step.Step.{Step}
 -- one layer of an operand, where the layers under it are done
 abbrev pub operand_step : Operand-F s.Plain → s.Plain
 operand_step Operand-F.Missing = s.Missing
+operand_step Operand-F.This = s.This
 operand_step (Operand-F.Local name) = s.Local name
 operand_step (Operand-F.Unsigned inner) = s.Unsigned inner
 operand_step (Operand-F.NotZero inner) = s.NotZero inner
@@ -45,8 +46,8 @@ unfoldable pub behind : List Stmt → Lines
 behind stmts = plain_stmts (reverse stmts)
 
 -- the row of a step, for the operands and the names to come of this body
-abbrev pub row_of : Step → (params : List (List ℕ)) → Body → s.Row
-row_of step params body = s.row step (map s.Local params) (stack_of body.stack) (newest_first body.coming)
+abbrev pub row_of : Step → (params : List s.Plain) → Body → s.Row
+row_of step params body = s.row step params (stack_of body.stack) (newest_first body.coming)
 
 -- what a row makes of a body
 pub record IsAfter (r : s.Row) (old new : Body) : Type 0 where

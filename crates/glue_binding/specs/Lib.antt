@@ -1,4 +1,5 @@
 pub mod Spelling
+pub mod Form
 pub mod Outer
 pub mod Body
 pub mod Binding

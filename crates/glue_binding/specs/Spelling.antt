@@ -29,23 +29,26 @@ use Rattle.glue_steps.specs.declared.step.Step.TheVariants.{Parameter, Unchanged
 
 -- ---- operands
 
--- an operand: a text that takes no step when it is evaluated; where an operand is lacking it is `null`
+-- an operand: a text that takes no step when it is evaluated; where an operand is lacking it is `null`, and `This` is what a function is called on
 pub data Plain : Type 0 where
   Missing : Plain
+  This : Plain
   Local : (name : List ℕ) → Plain
   Unsigned : Plain → Plain
   NotZero : Plain → Plain
 
--- an operand as an expression: `null`, a local, `x >>> 0`, `x !== 0`
+-- an operand as an expression: `null`, `this`, a local, `x >>> 0`, `x !== 0`
 abbrev pub term_of : Plain → Term
 term_of Missing = Const constant.Null
+term_of This = Const constant.This
 term_of (Local name) = Var name
 term_of (Unsigned p) = Two binary.ShiftUnsigned (term_of p) (Lit (pos 0))
 term_of (NotZero p) = Two binary.StrictUnequal (term_of p) (Lit (pos 0))
 
--- the value of an operand
+-- the value of an operand; that of `this` is given under this name, which no local has
 abbrev pub plain_value : Locals → Plain → Value
 plain_value locals Missing = Null
+plain_value locals This = value_in locals (codes "this")
 plain_value locals (Local name) = value_in locals name
 plain_value locals (Unsigned p) = unsigned (plain_value locals p)
 plain_value locals (NotZero p) = is_not_zero (plain_value locals p)
@@ -121,9 +124,10 @@ abbrev pub word_if : Bool → Word → List Word
 word_if true word = word ∷ []
 word_if false word = []
 
--- the words of an operand: `null`, a local, `x >>> 0`, `x !== 0`
+-- the words of an operand: `null`, `this`, a local, `x >>> 0`, `x !== 0`
 abbrev pub plain_words : Plain → List Word
 plain_words Missing = w.Key key.NULL ∷ []
+plain_words This = w.Key key.THIS ∷ []
 plain_words (Local name) = w.Local name ∷ []
 plain_words (Unsigned p) =
     word_if (is_comparison p) (w.Punct punct.OPEN_PAREN) ++ (plain_words p ++ (word_if (is_comparison p) (w.Punct punct.CLOSE_PAREN) ++ shift_words))
@@ -367,9 +371,9 @@ nested [] rest = rest
 nested (Ahead line ∷ pieces) rest = AndLine line (nested pieces rest)
 nested (Cleanup line ∷ pieces) rest = cleaned_by line (nested pieces rest)
 
--- the body of an adapter's function with these parameters and temporaries
-abbrev pub tree_of : List Step → (params temps : List (List ℕ)) → Lines
-tree_of steps params temps = nested (pieces_of steps (map Local params) [] temps) NoLines
+-- the body of an adapter's function whose parameters are spelled as these operands, with these temporaries
+abbrev pub tree_of : List Step → (params : List Plain) → (temps : List (List ℕ)) → Lines
+tree_of steps params temps = nested (pieces_of steps params [] temps) NoLines
 
 -- ---- temporaries
 

@@ -13,8 +13,8 @@ use glue_words::{Word, key, punct};
 use std::alloc::{AllocError, Global};
 use values::{Duplicate, Seq, Text};
 
-// A space.
-fn push_space(alloc: Global, words: &mut Seq<Word>) -> Result<(), AllocError>
+/// Appends a space.
+pub fn push_space(alloc: Global, words: &mut Seq<Word>) -> Result<(), AllocError>
     ensures words { OnOk result (words.new ≡ words.old ++ space ∷ []) }
 {
     words.push(Word::Gap(Text::from_str(alloc, " ")?))?;
@@ -50,8 +50,8 @@ fn is_comparison(operand: &Operand) -> bool
     matches!(operand, Operand::NotZero(_))
 }
 
-// A mark of punctuation, where it stands.
-fn push_if(stands: bool, place: u8, words: &mut Seq<Word>) -> Result<(), AllocError>
+/// Appends a mark of punctuation, where it stands.
+pub fn push_if(stands: bool, place: u8, words: &mut Seq<Word>) -> Result<(), AllocError>
     ensures words { OnOk result (words.new ≡ words.old ++ s.word_if stands (w.Punct place)) }
 {
     if stands {
@@ -67,6 +67,10 @@ pub fn push_whole(alloc: Global, operand: &Operand, words: &mut Seq<Word>) -> Re
     match operand {
         Operand::Missing => {
             words.push(Word::Key(key::NULL))?;
+            Ok(())
+        }
+        Operand::This => {
+            words.push(Word::Key(key::THIS))?;
             Ok(())
         }
         Operand::Local(name) => {
@@ -132,8 +136,8 @@ fn push_argument(
     }
 }
 
-// `, ` before each argument but the first.
-fn push_comma_unless(alloc: Global, is_first: bool, words: &mut Seq<Word>) -> Result<(), AllocError>
+/// Appends `, `, which stands before each argument but the first.
+pub fn push_comma_unless(alloc: Global, is_first: bool, words: &mut Seq<Word>) -> Result<(), AllocError>
     ensures words { OnOk result (words.new ≡ words.old ++ comma_unless is_first) }
 {
     if !is_first {
@@ -143,8 +147,8 @@ fn push_comma_unless(alloc: Global, is_first: bool, words: &mut Seq<Word>) -> Re
     Ok(())
 }
 
-// Whether the argument at a place is the last one and is spread.
-fn is_spread(spread: bool, place: usize, count: usize) -> bool
+/// Whether the argument at a place is the last one and is spread.
+pub fn is_spread(spread: bool, place: usize, count: usize) -> bool
     requires within { place < count }
     ensures test { result ≡ (spread && place + 1 == count) }
 {

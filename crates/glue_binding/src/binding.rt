@@ -1,17 +1,21 @@
-//! From steps to a function.
+//! From steps to a function of a form.
 ghost use Rattle.std.specs.Prelude.{◌≡◌, [], IfOk};
 ghost use Rattle.glue_binding.specs.Binding.{IsBoundFunction};
 
 use crate::body::body_of;
 use crate::draw::{draw, temporaries_of};
-use crate::seed::reserve_seed;
+use crate::form::Form;
+use crate::parameters::{form_words_of, parameters_of};
+use crate::seed::{reserve_names, reserve_seed};
 use glue_scope::Names;
 use glue_steps::Step;
-use glue_tree::{JsFunction, function_words_of};
+use glue_tree::JsFunction;
 use std::alloc::{AllocError, Global};
 use values::{Seq, Text};
 
-/// The JavaScript function of an adapter's steps, with parameters that are drawn for the wanted names.
+/// The JavaScript function of an adapter's steps and of a form, with parameters that are drawn for the wanted names: one for each that is
+/// printed, so that none is wanted for `this`. Its parameters and temporaries are called otherwise than the names that its words use from outside,
+/// and than those that stand around it in the same item.
 ///
 /// Where a step names a parameter that isn't there, or finds no operand, `null` stands for it, in the text as in the
 /// meaning; the steps of a checked adapter never come there. The only error is want of memory. Documentation and
@@ -20,16 +24,20 @@ pub fn bind<N: Names>(
     alloc: Global,
     steps: &[Step],
     wanted: &[Text],
+    form: Form,
+    around: &[Text],
 ) -> Result<JsFunction, AllocError>
-    ensures function { IfOk result (λ f. IsBoundFunction steps.now wanted.now f) }
+    ensures function { IfOk result (λ f. IsBoundFunction form steps.now wanted.now around.now f) }
 {
     let mut scope = N::new(alloc);
     reserve_seed(alloc, &mut scope, steps)?;
+    reserve_names(&mut scope, around)?;
     let params = draw(alloc, &mut scope, wanted)?;
     let others = temporaries_of(alloc, steps)?;
     let temps = draw(alloc, &mut scope, others.as_slice())?;
-    let tree = body_of(alloc, steps, &params, temps)?;
-    let words = function_words_of(alloc, params.as_slice(), tree.as_slice())?;
+    let known = parameters_of(alloc, form, params.as_slice())?;
+    let tree = body_of(alloc, steps, known, temps)?;
+    let words = form_words_of(alloc, form, params.as_slice(), tree.as_slice())?;
     Ok(JsFunction {
         params,
         tree,

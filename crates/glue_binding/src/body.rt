@@ -13,7 +13,7 @@ use crate::lists::{index_of, item_at};
 use crate::memory::{copy_out, defer_free, pass_to_memory};
 use crate::numbers::{is_not_zero, to_unsigned, to_unsigned_64};
 use crate::objects::{borrow_index, call_helper, unwrap_result};
-use crate::operand::{Operand, to_expr};
+use crate::operand::{Operand, copy_operand, to_expr};
 use crate::piece::{Piece, join};
 use crate::room::{load_return, store_return, take_room};
 use crate::stack::{next_name, pop, push};
@@ -33,14 +33,14 @@ pub struct Body {
     pub pieces: Seq<Piece>,
 }
 
-/// The statements of the steps, with parameters and temporaries of these names.
+/// The statements of the steps, with parameters that are spelled as these operands, and temporaries of these names.
 pub fn body_of(
     alloc: Global,
     steps: &[Step],
-    params: &Seq<Text>,
+    params: Seq<Operand>,
     temps: Seq<Text>,
 ) -> Result<Seq<Stmt>, AllocError>
-    ensures tree { IfOk result (λ tree. plain_stmts tree ≡ s.tree_of steps.now params.now temps) }
+    ensures tree { IfOk result (λ tree. plain_stmts tree ≡ s.tree_of steps.now (map plain_operand params) temps) }
 {
     let pieces = pieces_of(alloc, steps, params, temps)?;
     join(alloc, pieces)
@@ -50,26 +50,26 @@ pub fn body_of(
 fn pieces_of(
     alloc: Global,
     steps: &[Step],
-    params: &Seq<Text>,
+    params: Seq<Operand>,
     temps: Seq<Text>,
 ) -> Result<Seq<Piece>, AllocError>
     ensures pieces { IfOk result (λ pieces. plain_pieces pieces
-        ≡ s.pieces_of steps.now (map s.Local params.now) [] temps) }
+        ≡ s.pieces_of steps.now (map plain_operand params) [] temps) }
 {
     let mut body = Body::new(alloc, temps);
-    let mut names = params.copy(alloc)?;
+    let mut known = params;
     for step in steps {
-        body.add(alloc, step, &mut names)?;
+        body.add(alloc, step, &mut known)?;
     }
     body.finish(alloc)
 }
 
 /// The parameter at a place, or the operand that stands for a lacking one.
-pub fn param(alloc: Global, params: &[Text], place: usize) -> Result<Operand, AllocError>
-    ensures operand { IfOk result (λ o. plain_operand o ≡ item_at s.Missing (map s.Local params.now) place) }
+pub fn param(alloc: Global, params: &[Operand], place: usize) -> Result<Operand, AllocError>
+    ensures operand { IfOk result (λ o. plain_operand o ≡ item_at s.Missing (map plain_operand params.now) place) }
 {
     match params.get(place) {
-        Some(name) => Ok(Operand::Local(name.copy(alloc)?)),
+        Some(operand) => copy_operand(alloc, operand),
         None => Ok(Operand::Missing),
     }
 }
@@ -140,16 +140,21 @@ impl Body {
         self.ahead(Stmt::Let(name, value))
     }
 
-    // The row of a step. The names are those of the parameters, and behind them that of room, from the step on that takes it.
-    fn add(&mut self, alloc: Global, step: &Step, names: &mut Seq<Text>) -> Result<(), AllocError>
-        ensures after { OnOk result (IsAfter (row_of step.now names.old self.old) self.old self.new) }
-        ensures known { OnOk result (map s.Local names.new ≡ known s.Missing step.now (map s.Local names.old) (row_of step.now names.old self.old).stack) }
+    // The row of a step. What it knows beside the stack are the parameters, and behind them room, from the step on that takes it.
+    fn add(
+        &mut self,
+        alloc: Global,
+        step: &Step,
+        before: &mut Seq<Operand>,
+    ) -> Result<(), AllocError>
+        ensures after { OnOk result (IsAfter (row_of step.now (map plain_operand before.old) self.old) self.old self.new) }
+        ensures known { OnOk result (map plain_operand before.new ≡ known s.Missing step.now (map plain_operand before.old) (row_of step.now (map plain_operand before.old) self.old).stack) }
     {
         match step {
             Step::Parameter(place) => {
                 push(
                     &mut self.stack,
-                    param(alloc, names.as_slice(), *place as usize)?,
+                    param(alloc, before.as_slice(), *place as usize)?,
                 )
             }
             Step::Unchanged => {
@@ -180,17 +185,17 @@ impl Body {
             } => pass_to_memory(alloc, self, helper, exports.as_slice(), *optional),
             Step::DeferFree { free, align } => defer_free(alloc, self, free, *align),
             Step::CopyOut { helper } => copy_out(alloc, self, helper),
-            Step::ReturnPointer { size } => take_room(alloc, self, *size, names),
+            Step::ReturnPointer { size } => take_room(alloc, self, *size, before),
             Step::LoadReturn {
                 view,
                 offset,
                 is_wide,
-            } => load_return(alloc, self, view, *offset, *is_wide, names.as_slice()),
+            } => load_return(alloc, self, view, *offset, *is_wide, before.as_slice()),
             Step::StoreReturn {
                 view,
                 offset,
                 is_wide,
-            } => store_return(alloc, self, view, *offset, *is_wide, names.as_slice()),
+            } => store_return(alloc, self, view, *offset, *is_wide, before.as_slice()),
             Step::MakeClosure { helper, function } => make_closure(alloc, self, helper, function),
             Step::IndexOf { list } => index_of(alloc, self, list),
             Step::ItemAt { list } => item_at(alloc, self, list),

@@ -3,7 +3,7 @@ ghost use Rattle.std.specs.Prelude.{◌≡◌, ◌++◌, ◌∷◌, [], IfOk, On
 ghost use Rattle.glue_tree.specs.Plainly.{plain_expr, plain_exprs};
 ghost use Rattle.glue_tree.specs.Term as t;
 ghost use Rattle.glue_binding.specs.Body.{plain_operand};
-ghost use Rattle.glue_binding.specs.Spelling.{term_of, terms};
+ghost use Rattle.glue_binding.specs.Spelling.{Local, term_of, terms};
 
 use glue_tree::{BinaryOperator, Constant, Expr};
 use std::alloc::{AllocError, Global};
@@ -14,6 +14,8 @@ use values::{Boxed, Duplicate, Seq, Text};
 pub enum Operand {
     /// Stands for an operand that is lacking.
     Missing,
+    /// What the function is called on.
+    This,
     /// A parameter or a temporary.
     Local(Text),
     /// An operand as an unsigned number of 32 bits.
@@ -37,6 +39,7 @@ pub fn to_expr(alloc: Global, operand: &Operand) -> Result<Expr, AllocError>
 {
     match operand {
         Operand::Missing => Ok(Expr::Constant(Constant::Null)),
+        Operand::This => Ok(Expr::Constant(Constant::This)),
         Operand::Local(name) => Ok(Expr::Local(name.copy(alloc)?)),
         Operand::Unsigned(inner) => {
             let e = to_expr(alloc, inner.get())?;
@@ -47,6 +50,33 @@ pub fn to_expr(alloc: Global, operand: &Operand) -> Result<Expr, AllocError>
             with_zero(alloc, BinaryOperator::StrictUnequal, e)
         }
     }
+}
+
+/// An operand that is spelled alike.
+pub fn copy_operand(alloc: Global, operand: &Operand) -> Result<Operand, AllocError>
+    ensures { IfOk result (λ o. plain_operand o ≡ plain_operand operand.now) }
+{
+    match operand {
+        Operand::Missing => Ok(Operand::Missing),
+        Operand::This => Ok(Operand::This),
+        Operand::Local(name) => Ok(Operand::Local(name.copy(alloc)?)),
+        Operand::Unsigned(inner) => {
+            let inner = copy_operand(alloc, inner.get())?;
+            Ok(Operand::Unsigned(Boxed::new(alloc, inner)?))
+        }
+        Operand::NotZero(inner) => {
+            let inner = copy_operand(alloc, inner.get())?;
+            Ok(Operand::NotZero(Boxed::new(alloc, inner)?))
+        }
+    }
+}
+
+/// Appends a local.
+pub fn push_local(name: Text, operands: &mut Seq<Operand>) -> Result<(), AllocError>
+    ensures operands { OnOk result (map plain_operand operands.new ≡ map plain_operand operands.old ++ Local name ∷ []) }
+{
+    operands.push(Operand::Local(name))?;
+    Ok(())
 }
 
 // Appends the expression of an operand.

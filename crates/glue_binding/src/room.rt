@@ -10,7 +10,7 @@ ghost use Rattle.glue_steps.specs.declared.step.Step.TheVariants.{ReturnPointer,
 
 use crate::body::{Body, param};
 use crate::objects::helper;
-use crate::operand::{Operand, to_expr};
+use crate::operand::{Operand, push_local, to_expr};
 use crate::stack::pop;
 use glue_tree::{BinaryOperator, Constant, Expr, Stmt};
 use std::alloc::{AllocError, Global};
@@ -118,27 +118,27 @@ fn store_call(
     Ok(Expr::Call(f, args))
 }
 
-// The local of the last of these names, or the operand that stands for a lacking one.
+// The last of operands, or the one that stands for a lacking one.
 #[tactic(auto, using(crate::proofs::Stacks::last_found))]
-fn last_local(alloc: Global, names: &[Text]) -> Result<Operand, AllocError>
-    ensures operand { IfOk result (λ o. plain_operand o ≡ last_of s.Missing (map s.Local names.now)) }
+fn last_operand(alloc: Global, known: &[Operand]) -> Result<Operand, AllocError>
+    ensures operand { IfOk result (λ o. plain_operand o ≡ last_of s.Missing (map plain_operand known.now)) }
 {
-    param(alloc, names, names.len().saturating_sub(1))
+    param(alloc, known, known.len().saturating_sub(1))
 }
 
-/// The row of room that is taken; its name is one more of those that later steps know.
+/// The row of room that is taken; it is one more of the operands that later steps know.
 pub fn take_room(
     alloc: Global,
     body: &mut Body,
     size: u32,
-    known: &mut Seq<Text>,
+    known: &mut Seq<Operand>,
 ) -> Result<(), AllocError>
     ensures after { OnOk result (IsAfter (row_of (ReturnPointer size) [] body.old) body.old body.new) }
-    ensures known { OnOk result (map s.Local known.new ≡ map s.Local known.old ++ s.Local (s.first (newest_first body.old.coming)) ∷ []) }
+    ensures known { OnOk result (map plain_operand known.new ≡ map plain_operand known.old ++ s.Local (s.first (newest_first body.old.coming)) ∷ []) }
 {
     let taken = room_taken(alloc, size)?;
     let name = body.temporary(alloc)?;
-    known.push(name.copy(alloc)?)?;
+    push_local(name.copy(alloc)?, known)?;
     body.ahead(bound_line(name, taken))?;
     body.cleanup(room_back(alloc, size)?)?;
     Ok(())
@@ -151,11 +151,11 @@ pub fn load_return(
     view: &Text,
     offset: u32,
     is_wide: bool,
-    known: &[Text],
+    known: &[Operand],
 ) -> Result<(), AllocError>
-    ensures after { OnOk result (IsAfter (row_of (LoadReturn view.now offset is_wide) known.now body.old) body.old body.new) }
+    ensures after { OnOk result (IsAfter (row_of (LoadReturn view.now offset is_wide) (map plain_operand known.now) body.old) body.old body.new) }
 {
-    let address = last_local(alloc, known)?;
+    let address = last_operand(alloc, known)?;
     let loaded = load_call(alloc, view, offset, is_wide, &address)?;
     body.bind_value(alloc, loaded)?;
     Ok(())
@@ -168,9 +168,9 @@ pub fn store_return(
     view: &Text,
     offset: u32,
     is_wide: bool,
-    known: &[Text],
+    known: &[Operand],
 ) -> Result<(), AllocError>
-    ensures after { OnOk result (IsAfter (row_of (StoreReturn view.now offset is_wide) known.now body.old) body.old body.new) }
+    ensures after { OnOk result (IsAfter (row_of (StoreReturn view.now offset is_wide) (map plain_operand known.now) body.old) body.old body.new) }
 {
     let address = param(alloc, known, 0)?;
     let stored = pop(&mut body.stack);

@@ -9,7 +9,7 @@ use glue_steps::Step;
 use glue_tree::function_words_of;
 use glue_words::Word;
 use std::alloc::{AllocError, Global};
-use values::Seq;
+use values::{Seq, Text};
 
 // Binds the name from outside that a word uses.
 fn reserve_word<N: Names>(scope: &mut N, word: &Word) -> Result<(), AllocError>
@@ -38,6 +38,16 @@ fn reserve_words<N: Names>(scope: &mut N, words: &[Word]) -> Result<(), AllocErr
     Ok(())
 }
 
+/// Binds names that stand around a function.
+pub fn reserve_names<N: Names>(scope: &mut N, names: &[Text]) -> Result<(), AllocError>
+    ensures bound { OnOk result (N.bound scope.new ≡ with_texts (N.bound scope.old) names.now) }
+{
+    for name in names {
+        scope.reserve(name.as_str())?;
+    }
+    Ok(())
+}
+
 /// Binds the names from outside that the function of the steps uses, whatever its parameters and temporaries are
 /// called: they are read off its words, spelled with no names drawn. The only error is want of memory.
 pub fn reserve_seed<N: Names>(
@@ -47,7 +57,7 @@ pub fn reserve_seed<N: Names>(
 ) -> Result<(), AllocError>
     ensures bound { OnOk result (N.bound scope.new ≡ with_texts (N.bound scope.old) (outer_names steps.now)) }
 {
-    let body = body_of(alloc, steps, &Seq::new(alloc), Seq::new(alloc))?;
+    let body = body_of(alloc, steps, Seq::new(alloc), Seq::new(alloc))?;
     let words = function_words_of(alloc, &[], body.as_slice())?;
     reserve_words(scope, words.as_slice())
 }

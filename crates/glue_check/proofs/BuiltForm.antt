@@ -130,7 +130,7 @@ imports_built f s l h =
 
 -- ---- exports
 
--- a function, in whatever namespace
+-- a function, in whatever namespace, that may take `this`, and no member of a class
 pub record IsBuiltExport (e : AuxExport) : Type 0 where
   pub alone : stands_alone e.kind ≡ true
 

@@ -25,7 +25,7 @@ pub use Rattle.glue_context.specs.Foreign.{foreign_lines, foreign_modules, modul
 pub use Rattle.glue_context.specs.ExportedItems.{declaration_back, declaration_front, declaration_words, declare_item}
 pub use Rattle.glue_context.specs.ImportedItems.{line_form, vendor_items}
 pub use Rattle.glue_context.specs.DefinedItems.{IsDefineItem, is_definable}
-pub use Rattle.glue_context.specs.Functions.{IsFunctionOf, default_names}
+pub use Rattle.glue_context.specs.Functions.{Form, IsFunctionOf, default_names}
 pub use Rattle.glue_context.specs.Items.{AreFunctionItems, AreTreeItems, IsArranged, IsGlue, all_items, frame_by, frame_of, front_items, joined_groups, is_bindable}
 pub use Rattle.glue_context.specs.Linked.{IsLinked, IsPrescribed}
 pub use Rattle.glue_context.specs.Rewritten.{edits_of, move_of, rewritten}

@@ -1,5 +1,5 @@
 -- What the check of a description gives of the functions of adapters: they belong into the file, and what the items of exports declare and publish.
-use Rattle.glue_context.proofs.Common.{◌≡◌, ℕ, List, [], ◌∷◌, ◌++◌, Bool, true, false, true≢false, Some, refl, ◌∙◌, subst, arith, rules, AllByRecursion, codes, list_all, list_any, filter_map-append, AreAmong, IsIn, in_left, in_right, Item, bound_name, bound_in, used_in, hosted_in, wasm_in, spliced_in, is_export_key, Context, Belongs, IsFrame, is_exported, Step, AuxExport, AuxImport, Settings, NameMap, Lowered, host_names, export_names, js_import, names_of, declared_name, IsFunctionOf, declare_item, declaration_front, declaration_back, IsThere, IsDescribed, HasSteps, HOSTS, map, AreFunctionItems, declaration_words, inl, inr}
+use Rattle.glue_context.proofs.Common.{◌≡◌, ℕ, List, [], ◌∷◌, ◌++◌, Bool, true, false, true≢false, Some, refl, ◌∙◌, subst, arith, rules, AllByRecursion, codes, list_all, list_any, filter_map-append, AreAmong, IsIn, in_left, in_right, Item, bound_name, bound_in, used_in, hosted_in, wasm_in, spliced_in, is_export_key, Context, Belongs, IsFrame, is_exported, Step, AuxExport, AuxImport, Settings, NameMap, Lowered, host_names, export_names, js_import, names_of, declared_name, Form, IsFunctionOf, declare_item, declaration_front, declaration_back, IsThere, IsDescribed, HasSteps, HOSTS, map, AreFunctionItems, declaration_words, inl, inr}
 use Rattle.std.proofs.Common.{append_assoc, ap, sym}
 use Rattle.std.specs.Prelude.{filter, ◌&&◌, not}
 use Rattle.std.proofs.lemmas.{List.Folds.list_any-append, List.Folds.list_all-append}
@@ -353,12 +353,14 @@ pub inner_words : (words : List Word) → list_all is_inner words ≡ true → l
 inner_words [] h = refl
 inner_words (word ∷ words) h = let rest = inner_words words in grind arith
 
-pub function_binds : {s : Settings} {m : NameMap} {l : Lowered} {id : ℕ} {names : List (List ℕ)} {f : _} (d : IsFunctionOf s m l id names f) (back : List Word)
+pub function_binds : {s : Settings} {m : NameMap} {l : Lowered} {id : ℕ} {form : Form} {names around : List (List ℕ)} {f : _}
+    (d : IsFunctionOf s m l id form names around f) (back : List Word)
     → bound_in (f.words ++ back) ≡ bound_in back
-function_binds {f = f} d back = filter_map-append bound_name f.words back
-    ∙ rw (d.bound.words, bound_binds d.steps _ f d.bound [] [] (binds_none d.steps)) refl
+function_binds {form = form} {around = around} {f = f} d back = filter_map-append bound_name f.words back
+    ∙ rw (d.bound.words, bound_binds form d.steps _ around f d.bound [] [] (binds_none d.steps)) refl
 
-module _ {s : Settings} {m : NameMap} {l : Lowered} {id : ℕ} {names : List (List ℕ)} {f : _} (d : IsFunctionOf s m l id names f) (well : AreWell s l m)
+module _ {s : Settings} {m : NameMap} {l : Lowered} {id : ℕ} {form : Form} {names around : List (List ℕ)} {f : _}
+    (d : IsFunctionOf s m l id form names around f) (well : AreWell s l m)
     (h : HasSteps s l id) where
   there : AllByRecursion (IsThere s l m) d.steps
   there = let given = h m in rw d.told at given
@@ -366,7 +368,7 @@ module _ {s : Settings} {m : NameMap} {l : Lowered} {id : ℕ} {names : List (Li
   module _ (front back : List Word) (frame : IsFrame front back) where
     -- no word of the function is `export`
     pub function_inner : list_any is_export_key f.words ≡ false
-    function_inner = inner_words f.words (rw d.bound.words (bound_inner d.steps _ f d.bound front back (are_fit s l m well d.steps there) frame))
+    function_inner = inner_words f.words (rw d.bound.words (bound_inner form d.steps _ around f d.bound front back (are_fit s l m well d.steps there) frame))
 
     -- the item belongs into a file that has the names of what stands around the function
     pub function_fits : (declared : List (List ℕ)) → HasBasis s l m declared → HasNames (names_with s l declared) front × HasNames (names_with s l declared) back
@@ -376,11 +378,11 @@ module _ {s : Settings} {m : NameMap} {l : Lowered} {id : ℕ} {names : List (Li
         let i = has_names s l m declared basis d.steps there in
         let fit = are_fit s l m well d.steps there in
         rw d.bound.words (record {
-          resolved = bound_resolved d.steps _ f d.bound front back c.hosts c.declared (search h') (search i) (search k);
-          local = bound_local d.steps _ f d.bound front back fit m' n;
-          exported = bound_exported d.steps _ f d.bound front back fit frame c.exports h'.2 i.2 k.2;
-          described = bound_keyed d.steps _ f d.bound front back c.keys (search h') (search i) (search k);
-          alone = bound_alone d.steps _ f d.bound front back fit frame;
+          resolved = bound_resolved form d.steps _ around f d.bound front back c.hosts c.declared (search h') (search i) (search k);
+          local = bound_local form d.steps _ around f d.bound front back fit m' n;
+          exported = bound_exported form d.steps _ around f d.bound front back fit frame c.exports h'.2 i.2 k.2;
+          described = bound_keyed form d.steps _ around f d.bound front back c.keys (search h') (search i) (search k);
+          alone = bound_alone form d.steps _ around f d.bound front back fit frame;
         })
 
 -- ---- exports

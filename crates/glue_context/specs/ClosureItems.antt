@@ -13,7 +13,7 @@ use Rattle.glue_shared.specs.declared.settings.Settings.{Settings}
 use Rattle.glue_steps.specs.Resolving.{adapter_steps, callback_name}
 use Rattle.printed_adapters.specs.Printed.{used_closures}
 use Rattle.glue_context.specs.ExportedItems.{declaration_back, declaration_front}
-use Rattle.glue_context.specs.Functions.{IsFunctionOf}
+use Rattle.glue_context.specs.Functions.{IsFunctionOf, usual_form}
 
 -- `function name(..) {..}`, which nothing publishes
 abbrev pub closure_item : List ℕ → List Word → Item
@@ -24,7 +24,7 @@ pub record IsClosureItem (s : Settings) (m : NameMap) (l : Lowered) (id : ℕ) (
   pub name : List ℕ
   pub named : callback_name l id ≡ Some name
   pub function : JsFunction
-  pub of_adapter : IsFunctionOf s m l id [] function
+  pub of_adapter : IsFunctionOf s m l id usual_form [] [] function
   pub is : item ≡ closure_item name function.words
 
 -- one for each adapter of which a function of an adapter makes closures, in the order of the adapters' ids

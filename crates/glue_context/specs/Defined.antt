@@ -29,7 +29,7 @@ use Rattle.glue_naming.specs.Naming.{declared_name}
 use Rattle.glue_context.specs.ClosureItems.{IsClosureItem}
 use Rattle.glue_context.specs.DefinedItems.{memory_words, part_words, value_item}
 use Rattle.glue_context.specs.ExportedItems.{declaration_words}
-use Rattle.glue_context.specs.Functions.{IsFunctionOf, usual_form}
+use Rattle.glue_context.specs.Functions.{IsFunctionOf, form_of, usual_form}
 use Rattle.glue_context.specs.Handing.{define_item, names_around, throws_of}
 
 -- the imports that an item of a role defines: one, or none
@@ -47,7 +47,7 @@ pub record IsDefinition (s : Settings) (m : NameMap) (l : Lowered) (written : Co
   pub described : Import
   pub there : entry_at l.«module».imports place ≡ Some described
   pub function : JsFunction
-  pub of_adapter : IsFunctionOf s m l adapter [] usual_form (names_around (throws_of l adapter described.kind)) function
+  pub of_adapter : IsFunctionOf s m l adapter usual_form [] (names_around (throws_of l adapter described.kind)) function
   pub «import» : Import
   pub stands : entry_at written.imports place ≡ Some «import»
   pub words : item.words ≡ (define_item (throws_of l adapter described.kind) place «import».name function.words).words
@@ -87,7 +87,7 @@ pub record IsDeclaration (s : Settings) (m : NameMap) (l : Lowered) (adapter : �
   pub described : IsIn «export» l.aux.exports
   pub of : «export».adapter ≡ adapter
   pub function : JsFunction
-  pub of_adapter : IsFunctionOf s m l adapter «export».args function
+  pub of_adapter : IsFunctionOf s m l adapter (form_of «export») «export».args [] function
   pub exported : Bool
   pub words : item.words ≡ declaration_words exported «export».comments (declared_name m «export») function.words
 

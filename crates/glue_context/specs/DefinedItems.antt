@@ -97,7 +97,7 @@ pub record IsFunctionItem (s : Settings) (m : NameMap) (l : Lowered) (place adap
   pub «import» : Import
   pub stands : entry_at l.«module».imports place ≡ Some «import»
   pub function : JsFunction
-  pub of_adapter : IsFunctionOf s m l adapter [] usual_form (names_around (throws_of l adapter «import».kind)) function
+  pub of_adapter : IsFunctionOf s m l adapter usual_form [] (names_around (throws_of l adapter «import».kind)) function
   pub is : item ≡ define_item (throws_of l adapter «import».kind) place «import».name function.words
 
 -- the item defines it by this property of a module's name

@@ -27,7 +27,7 @@ use Rattle.glue_context.specs.DefinedItems.{IsDefineItem, takes_memory}
 use Rattle.glue_context.specs.Edits.{has_start}
 use Rattle.glue_context.specs.ExportedItems.{declare_item}
 use Rattle.glue_context.specs.Foreign.{foreign_modules, foreign_lines, has_strings}
-use Rattle.glue_context.specs.Functions.{IsFunctionOf}
+use Rattle.glue_context.specs.Functions.{IsFunctionOf, form_of}
 use Rattle.glue_context.specs.ImportedItems.{line_form, vendor_items}
 use Rattle.glue_context.specs.ListedItems.{AreLists}
 use Rattle.glue_context.specs.Parts.{are_few, helper_parts}
@@ -35,7 +35,7 @@ use Rattle.glue_context.specs.Parts.{are_few, helper_parts}
 -- a function is declared under the name that it was given
 pub record AreFunctionItems (s : Settings) (m : NameMap) (l : Lowered) (e : AuxExport) (items : FunctionItems) : Type 0 where
   pub function : JsFunction
-  pub of_adapter : IsFunctionOf s m l e.adapter e.args function
+  pub of_adapter : IsFunctionOf s m l e.adapter (form_of e) e.args [] function
   pub are : items ≡ (declared_name m e, declare_item e.comments e.adapter (declared_name m e) function.words ∷ [])
 
 -- an export's adapter has steps

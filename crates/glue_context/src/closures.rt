@@ -5,6 +5,7 @@ ghost use Rattle.printed_adapters.specs.Printed as printed;
 ghost use Rattle.glue_context.specs.ClosureItems as spec;
 
 use crate::function::{adapter_function, words_of};
+use glue_binding::usual_form;
 use glue_imports::Basis;
 use glue_scope::Names;
 use glue_shared::AdapterId;
@@ -41,7 +42,7 @@ fn closure_item<N: Names>(
     ensures item { IfOk result (λ item. spec.IsClosureItem basis.now.settings.now basis.now.names.now indexed.now id item) }
 {
     let none = Seq::new(alloc);
-    let function = adapter_function::<N>(alloc, basis, indexed, id, &none)?;
+    let function = adapter_function::<N>(alloc, basis, indexed, id, usual_form(), &none, &[])?;
     match callback_name(indexed, id) {
         Some(name) => declare_closure(alloc, name, words_of(function)),
         None => unreachable!(),

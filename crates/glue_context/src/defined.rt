@@ -9,9 +9,9 @@ ghost use Rattle.glue_steps.specs.Resolving as resolving;
 ghost use Rattle.glue_check.specs.Unbuilt as kinds;
 ghost use Rattle.glue_context.specs.DefinedItems as spec;
 
-use crate::function::{adapter_function, usual_form, words_of};
+use crate::function::{adapter_function, words_of};
 use crate::handing::{define_function, names_around, throws_of};
-use glue_binding::spell;
+use glue_binding::{spell, usual_form};
 use glue_check::memory_of;
 use glue_imports::{Basis, function_or_throw, root};
 use glue_scope::Names;
@@ -191,8 +191,15 @@ fn define_by_function<N: Names>(
     let throws = throws_of(indexed, adapter, import.kind);
     let around = names_around(alloc, throws)?;
     let none = Seq::new(alloc);
-    let function =
-        adapter_function::<N>(alloc, basis, indexed, adapter, &none, usual_form(), &around)?;
+    let function = adapter_function::<N>(
+        alloc,
+        basis,
+        indexed,
+        adapter,
+        usual_form(),
+        &none,
+        around.as_slice(),
+    )?;
     define_function(alloc, throws, place, &import.name, words_of(function))
 }
 

@@ -8,7 +8,7 @@ ghost use Rattle.glue_naming.specs.Naming as naming;
 ghost use Rattle.glue_context.specs.ExportedItems as words;
 ghost use Rattle.glue_context.specs.Items as spec;
 
-use crate::function::{adapter_function, words_of};
+use crate::function::{adapter_function, form_of, words_of};
 use glue_exports::push_comments;
 use glue_imports::Basis;
 use glue_naming::function_name;
@@ -69,7 +69,15 @@ fn function_items<N: Names>(
     requires named { naming.is_named basis.now.names.now export.now ≡ true }
     ensures items { IfOk result (λ items. spec.AreFunctionItems basis.now.settings.now basis.now.names.now indexed.now export.now items) }
 {
-    let function = adapter_function::<N>(alloc, basis, indexed, export.adapter, &export.args)?;
+    let function = adapter_function::<N>(
+        alloc,
+        basis,
+        indexed,
+        export.adapter,
+        form_of(export),
+        &export.args,
+        &[],
+    )?;
     let name = declared_name(alloc, basis.names, export)?;
     let item = declare_function(alloc, export, name, words_of(function))?;
     let items = Seq::from_vec(vec![in alloc; item]?);

@@ -4,10 +4,10 @@ ghost use Rattle.std.specs.Fmt.{decimal};
 ghost use Rattle.glue_steps.specs.Resolving as resolving;
 ghost use Rattle.glue_context.specs.Functions as spec;
 
-use glue_binding::bind;
+use glue_binding::{Form, bind};
 use glue_imports::Basis;
 use glue_scope::Names;
-use glue_shared::{AdapterId, Lowered};
+use glue_shared::{AdapterId, AuxExport, AuxExportKind, Lowered};
 use glue_steps::{Indexed, Step, adapter_steps};
 use glue_tree::JsFunction;
 use glue_words::Word;
@@ -37,6 +37,36 @@ fn wanted_names(alloc: Global, names: &Seq<Text>, count: usize) -> Result<Seq<Te
     }
 }
 
+// Those of the parameters that are printed: all but the first, where `this` stands in its place.
+fn without_this(takes_this: bool, wanted: &[Text]) -> &[Text]
+    ensures names { result.now ≡ spec.without_this takes_this wanted.now }
+{
+    if !takes_this {
+        return wanted;
+    }
+    match wanted {
+        [_, others @ ..] => others,
+        [] => wanted,
+    }
+}
+
+// Whether a function takes `this`.
+fn is_this(kind: AuxExportKind) -> bool
+    ensures test { result ≡ spec.is_this kind }
+{
+    matches!(kind, AuxExportKind::FunctionThis)
+}
+
+/// The form of the function of an export.
+pub(crate) fn form_of(export: &AuxExport) -> Form
+    ensures form { result ≡ spec.form_of export.now }
+{
+    Form {
+        takes_this: is_this(export.kind),
+        has_rest: export.variadic,
+    }
+}
+
 // How many arguments an adapter has.
 fn argument_count(lowered: &Lowered, id: AdapterId) -> usize
     ensures count { result ≡ spec.argument_count lowered.now id }
@@ -63,20 +93,24 @@ fn known_steps(
     }
 }
 
-/// The function of an adapter that is known to have steps, with parameters of these names. Want of memory is the only error.
+/// The function of a form of an adapter that is known to have steps, with parameters of these names, where others stand around it in the same item.
+/// Want of memory is the only error.
 pub(crate) fn adapter_function<N: Names>(
     alloc: Global,
     basis: &Basis<'_>,
     indexed: &Indexed<'_>,
     id: AdapterId,
+    form: Form,
     names: &Seq<Text>,
+    around: &[Text],
 ) -> Result<JsFunction, AllocError>
     requires told { is_some (resolving.adapter_steps basis.now.settings.now basis.now.names.now indexed.now id) ≡ true }
-    ensures function { IfOk result (λ function. spec.IsFunctionOf basis.now.settings.now basis.now.names.now indexed.now id names.now function) }
+    ensures function { IfOk result (λ function. spec.IsFunctionOf basis.now.settings.now basis.now.names.now indexed.now id form names.now around.now function) }
 {
     let steps = known_steps(alloc, basis, indexed, id)?;
     let wanted = wanted_names(alloc, names, argument_count(indexed.lowered(), id))?;
-    let function = bind::<N>(alloc, steps.as_slice(), wanted.as_slice())?;
+    let own = without_this(form.takes_this, wanted.as_slice());
+    let function = bind::<N>(alloc, steps.as_slice(), own, form, around)?;
     Ok(function)
 }
 

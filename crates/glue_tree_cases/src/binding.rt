@@ -1,5 +1,5 @@
 use crate::compare::assert_told;
-use glue_binding::bind;
+use glue_binding::{Form, bind, usual_form};
 use glue_imports::{Expression, Part};
 use glue_inputs::{printed, texts};
 use glue_scope::IdentScope;
@@ -38,11 +38,24 @@ fn passing(
     push_call(&mut steps, call, has_result).and(Ok(steps))
 }
 
+/// The function of these steps and this form, whose printed parameters want these names, where others stand around it.
+fn formed(
+    alloc: Global,
+    steps: &[Step],
+    wanted: &[&str],
+    form: Form,
+    around: &[&str],
+) -> Result<String, AllocError> {
+    let wanted = texts(alloc, wanted)?;
+    let around = texts(alloc, around)?;
+    let function =
+        bind::<IdentScope>(alloc, steps, wanted.as_slice(), form, around.as_slice())?;
+    printed(alloc, function.words)
+}
+
 /// The function of these steps, whose parameters want these names.
 fn bound(alloc: Global, steps: &[Step], wanted: &[&str]) -> Result<String, AllocError> {
-    let wanted = texts(alloc, wanted)?;
-    let function = bind::<IdentScope>(alloc, steps, wanted.as_slice())?;
-    printed(alloc, function.words)
+    formed(alloc, steps, wanted, usual_form(), &[])
 }
 
 /// The function that passes so many parameters on to an export.
@@ -345,4 +358,117 @@ fn numbers_truths_and_helpers(rt: HostRuntime) -> Result<(), AllocError> {
     )?;
     let compared = compared(rt.alloc());
     assert_told(&rt, compared, "(x) {\nreturn (x !== 0) >>> 0 !== 0;\n}")
+}
+
+const WITH_THIS: Form = Form {
+    takes_this: true,
+    has_rest: false,
+};
+
+const WITH_REST: Form = Form {
+    takes_this: false,
+    has_rest: true,
+};
+
+const WITH_BOTH: Form = Form {
+    takes_this: true,
+    has_rest: true,
+};
+
+/// The function of a form that passes so many parameters on to an export, where names stand around it.
+fn export_formed(
+    alloc: Global,
+    form: Form,
+    params: u32,
+    wanted: &[&str],
+    around: &[&str],
+) -> Result<String, AllocError> {
+    let call = asking(alloc, "f", params as usize)?;
+    let steps = passing(alloc, params, call, true)?;
+    formed(alloc, &steps, wanted, form, around)
+}
+
+/// A form, how many parameters the steps have, the names that the printed ones want, those around the function, and its text.
+struct FormCase {
+    form: Form,
+    params: u32,
+    wanted: &'static [&'static str],
+    around: &'static [&'static str],
+    text: &'static str,
+}
+
+const FORMS: &[FormCase] = &[
+    FormCase {
+        form: WITH_THIS,
+        params: 2,
+        wanted: &["arg1"],
+        around: &[],
+        text: "(arg1) {\nconst ret = wasm.f(this, arg1);\nreturn ret;\n}",
+    },
+    FormCase {
+        form: WITH_REST,
+        params: 2,
+        wanted: &["a", "others"],
+        around: &[],
+        text: "(a, ...others) {\nconst ret = wasm.f(a, others);\nreturn ret;\n}",
+    },
+    FormCase {
+        form: WITH_REST,
+        params: 1,
+        wanted: &["all"],
+        around: &[],
+        text: "(...all) {\nconst ret = wasm.f(all);\nreturn ret;\n}",
+    },
+    FormCase {
+        form: WITH_BOTH,
+        params: 3,
+        wanted: &["a", "b"],
+        around: &[],
+        text: "(a, ...b) {\nconst ret = wasm.f(this, a, b);\nreturn ret;\n}",
+    },
+    // `this` is the only parameter, and none is printed
+    FormCase {
+        form: WITH_BOTH,
+        params: 1,
+        wanted: &[],
+        around: &[],
+        text: "() {\nconst ret = wasm.f(this);\nreturn ret;\n}",
+    },
+    FormCase {
+        form: WITH_THIS,
+        params: 3,
+        wanted: &["ret", "handleError"],
+        around: &["handleError", "ret"],
+        text: "(ret2, handleError2) {\nconst ret3 = wasm.f(this, ret2, handleError2);\nreturn ret3;\n}",
+    },
+];
+
+#[test]
+fn forms(rt: HostRuntime) -> Result<(), AllocError> {
+    for case in FORMS {
+        let text = export_formed(rt.alloc(), case.form, case.params, case.wanted, case.around);
+        assert_told(&rt, text, case.text)?;
+    }
+    Ok(())
+}
+
+/// What a function is called on is lent, and read as an unsigned number.
+fn this_lent(alloc: Global) -> Result<String, AllocError> {
+    let mut steps = Vec::new(alloc);
+    steps.push(Step::Parameter(0))?;
+    steps.push(Step::IndexFromBorrow)?;
+    steps.push(Step::Parameter(0))?;
+    steps.push(Step::ToUnsigned)?;
+    steps.push(asking(alloc, "f", 2)?)?;
+    formed(alloc, &steps, &[], WITH_THIS, &[])
+}
+
+#[test]
+fn this_is_an_operand(rt: HostRuntime) -> Result<(), AllocError> {
+    let lent = this_lent(rt.alloc());
+    assert_told(
+        &rt,
+        lent,
+        "() {\nconst v0 = addBorrowedObject(this);\ntry {\nconst ret = wasm.f(v0, this >>> 0);\nreturn ret;\n} finally {\nheap[stack_pointer++] = undefined;\n}\n}",
+    )
 }

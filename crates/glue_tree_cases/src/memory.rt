@@ -1,7 +1,7 @@
 //! Functions of steps that pass strings, vectors and results through memory, or texts through lists, or make closures: steps, the names that
 //! the parameters want, and the text.
 use crate::compare::assert_told;
-use glue_binding::bind;
+use glue_binding::{bind, usual_form};
 use glue_inputs::{printed, texts};
 use glue_scope::IdentScope;
 use glue_steps::Step;
@@ -132,7 +132,7 @@ fn told(alloc: Global, rows: &[Row], wanted: &[&str]) -> Result<String, AllocErr
         steps.push(step(alloc, *row)?)?;
     }
     let wanted = texts(alloc, wanted)?;
-    let function = bind::<IdentScope>(alloc, &steps, wanted.as_slice())?;
+    let function = bind::<IdentScope>(alloc, &steps, wanted.as_slice(), usual_form(), &[])?;
     printed(alloc, function.words)
 }
 

@@ -2,7 +2,7 @@
 use crate::compare::assert_told;
 use crate::evaluator::evaluated;
 use crate::run::{Answer, Value};
-use glue_binding::bind;
+use glue_binding::{bind, usual_form};
 use glue_inputs::texts;
 use glue_scope::IdentScope;
 use glue_steps::Step;
@@ -122,7 +122,7 @@ fn trace_of(alloc: Global, vector: &Vector) -> Result<String, AllocError> {
         made.push(step(alloc, *row)?)?;
     }
     let wanted = texts(alloc, &["a", "b"])?;
-    let function = bind::<IdentScope>(alloc, &made, wanted.as_slice())?;
+    let function = bind::<IdentScope>(alloc, &made, wanted.as_slice(), usual_form(), &[])?;
     evaluated(
         alloc,
         function.params.as_slice(),

@@ -2,7 +2,7 @@ use crate::hostile::HOSTILE;
 use crate::texts::{
     Case, DRAWN, HELPED, INTRINSICS, ITEMS, OPERATIONS, Operation, PRELUDES, PROPERTIES, VALUES,
 };
-use glue_binding::bind;
+use glue_binding::{bind, usual_form};
 use glue_imports::Basis;
 use glue_inputs::{CONFIG, printed, settings, texts, with_custom};
 use glue_lower::{JsonLowering, LowerFault, Lowering};
@@ -180,7 +180,7 @@ fn function(alloc: Global, case: &Case) -> Result<String, LowerFault> {
     let names = ["arg0", "arg1", "arg2"];
     let count = case.2.len().min(names.len());
     let wanted = texts(alloc, names.split_at(count).0)?;
-    let function = bind::<IdentScope>(alloc, steps.as_slice(), wanted.as_slice())?;
+    let function = bind::<IdentScope>(alloc, steps.as_slice(), wanted.as_slice(), usual_form(), &[])?;
     Ok(printed(alloc, function.words)?)
 }
 

@@ -1,19 +1,17 @@
-use Rattle.std.proofs.Common.{◌∙◌, arith, [], ap}
-use Rattle.glue_binding.specs.Spelling.{Local}
-use Rattle.glue_binding.proofs.Plain.{missing_plain, local_plain}
-use Rattle.glue_binding.proofs.Stacks.{param_found, param_missing}
+use Rattle.std.proofs.Common.{◌∙◌, arith, ap}
+use Rattle.glue_binding.specs.Body.{plain_operand}
+use Rattle.glue_binding.specs.declared.operand.Operand.TheVariants.{Missing}
+use Rattle.glue_binding.proofs.Plain.{missing_plain}
+use Rattle.glue_binding.proofs.Written.{operand_found, operand_missing}
 use Rattle.glue_binding.proofs.body.param.Goals as goal
 
-pub returns-in_ok-copy-in-Some : goal.returns-in_ok-copy-in-Some
-returns-in_ok-copy-in-Some c =
+pub returns-in-Some : goal.returns-in-Some
+returns-in-Some c =
     let h = c.in-Some.ensures.lookup in
-    record {
-      operand = local_plain _ ∙ ap Local (c.in_ok-copy-in-Some.ensures.equal ∙ h.3.1 [])
-          ∙ param_found c.args.params.now c.args.place h.3.0;
-    }
+    let found = ap plain_operand (h.3.1 Missing) ∙ operand_found c.args.params.now c.args.place h.3.0 in
+    record { operand = rw found at c.copy_operand.ensures }
 
 pub returns-in-None : goal.returns-in-None
 returns-in-None c = record {
-  operand = missing_plain ∙ param_missing c.args.params.now c.args.place
-      (grind (arith, c.in-None.ensures.lookup));
+  operand = missing_plain ∙ operand_missing c.args.params.now c.args.place (grind (arith, c.in-None.ensures.lookup));
 }
