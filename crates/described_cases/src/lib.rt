@@ -23,6 +23,8 @@ mod memories;
 #[cfg(test)]
 mod names;
 #[cfg(test)]
+mod noted;
+#[cfg(test)]
 mod omitted;
 #[cfg(test)]
 mod parts;

@@ -152,7 +152,7 @@ exports_built f s l h e i =
     let kept = neither (is_some_item l.aux.imports_with_catch) (list_any spec.is_special_export l.aux.exports)
     (where_true-none (is_some_item l.aux.imports_with_catch || list_any spec.is_special_export l.aux.exports) _ (none_unbuilt conditions.UnbuiltInstructions f s l (search rules) h)) in
     let special = list_any-none spec.is_special_export l.aux.exports e kept.1 i in
-    let this = (neither (spec.takes_this e.kind) (e.variadic || e.jsdoc) special).0 in record { function = function_is e.kind alone this }
+    let this = (neither (spec.takes_this e.kind) e.variadic special).0 in record { function = function_is e.kind alone this }
 
 -- no class is described, and no caught import
 pub record AreAbsent (l : Lowered) : Type 0 where

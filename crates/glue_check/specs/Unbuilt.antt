@@ -100,9 +100,9 @@ abbrev pub takes_this : AuxExportKind → Bool
 takes_this export_kinds.FunctionThis = true
 takes_this other = false
 
--- a function that takes `this` or a rest parameter, or whose note tells its types
+-- a function that takes `this` or a rest parameter
 abbrev pub is_special_export : AuxExport → Bool
-is_special_export e = takes_this e.kind || (e.variadic || e.jsdoc)
+is_special_export e = takes_this e.kind || e.variadic
 
 -- caught throws, and such exports
 abbrev pub unbuilt_instructions : Lowered → Option Fault

@@ -169,10 +169,10 @@ fn takes_this(kind: AuxExportKind) -> bool
 fn is_special_export(export: &AuxExport) -> bool
     ensures test { result ≡ spec.is_special_export export.now }
 {
-    takes_this(export.kind) || export.variadic || export.jsdoc
+    takes_this(export.kind) || export.variadic
 }
 
-// Whether a function takes `this` or a rest parameter, or its note tells its types.
+// Whether a function takes `this` or a rest parameter.
 fn has_special_export(exports: &[AuxExport]) -> bool
     ensures test { result ≡ list_any spec.is_special_export exports.now }
 {
