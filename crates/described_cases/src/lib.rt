@@ -25,6 +25,8 @@ mod memories;
 #[cfg(test)]
 mod names;
 #[cfg(test)]
+mod noted;
+#[cfg(test)]
 mod omitted;
 #[cfg(test)]
 mod parts;

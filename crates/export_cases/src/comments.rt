@@ -26,6 +26,11 @@ export function f() {..}
 export function g() {..}
 "#,
     ),
+    // No note of a function that has neither a comment nor types to tell.
+    (
+        r#""exports":[{"adapter":0,"kind":"function","name":"f","comments":null,"jsdoc":true}]"#,
+        "export function f() {..}\n",
+    ),
     // `export` and a clause stand behind the note; an enum's numbers are its last line, and a variant has a note of its own.
     (
         r#""exports":[{"adapter":0,"kind":"function","name":"default","comments":"f */"}],

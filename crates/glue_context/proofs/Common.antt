@@ -22,7 +22,7 @@ pub use Rattle.glue_context.specs.ClosureItems.{AreClosures, IsClosureItem, clos
 pub use Rattle.glue_context.specs.Defined.{IsDefined, defined_by, defined_places}
 pub use Rattle.glue_context.specs.Edits.{AreFit, with_added, with_moved}
 pub use Rattle.glue_context.specs.Foreign.{foreign_lines, foreign_modules, module_at, modules_from}
-pub use Rattle.glue_context.specs.ExportedItems.{declaration_back, declaration_front, declaration_words, declare_item}
+pub use Rattle.glue_context.specs.ExportedItems.{declaration_back, declaration_front, declaration_words, declare_item, note_lines}
 pub use Rattle.glue_context.specs.ImportedItems.{line_form, vendor_items}
 pub use Rattle.glue_context.specs.DefinedItems.{IsDefineItem, is_definable}
 pub use Rattle.glue_context.specs.Functions.{Form, IsFunctionOf, default_names}

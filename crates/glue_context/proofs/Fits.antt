@@ -1,5 +1,5 @@
 -- What the check of a description gives of the functions of adapters: they belong into the file, and what the items of exports declare and publish.
-use Rattle.glue_context.proofs.Common.{◌≡◌, ℕ, List, [], ◌∷◌, ◌++◌, Bool, true, false, true≢false, Some, refl, ◌∙◌, subst, arith, rules, AllByRecursion, codes, list_all, list_any, filter_map-append, AreAmong, IsIn, in_left, in_right, Item, bound_name, bound_in, used_in, hosted_in, wasm_in, spliced_in, is_export_key, Context, Belongs, IsFrame, is_exported, Step, AuxExport, AuxImport, Settings, NameMap, Lowered, host_names, export_names, js_import, names_of, declared_name, Form, IsFunctionOf, declare_item, declaration_front, declaration_back, IsThere, IsDescribed, HasSteps, HOSTS, map, AreFunctionItems, declaration_words, inl, inr}
+use Rattle.glue_context.proofs.Common.{◌≡◌, ℕ, List, [], ◌∷◌, ◌++◌, Bool, true, false, true≢false, Some, refl, ◌∙◌, subst, arith, rules, AllByRecursion, codes, list_all, list_any, filter_map-append, AreAmong, IsIn, in_left, in_right, Item, bound_name, bound_in, used_in, hosted_in, wasm_in, spliced_in, is_export_key, Context, Belongs, IsFrame, is_exported, Step, AuxExport, AuxImport, Settings, NameMap, Lowered, host_names, export_names, js_import, names_of, declared_name, Form, IsFunctionOf, declare_item, declaration_front, declaration_back, IsThere, IsDescribed, HasSteps, HOSTS, map, AreFunctionItems, declaration_words, note_lines, inl, inr}
 use Rattle.std.proofs.Common.{append_assoc, ap, sym}
 use Rattle.std.specs.Prelude.{filter, ◌&&◌, not}
 use Rattle.std.proofs.lemmas.{List.Folds.list_any-append, List.Folds.list_all-append}
@@ -14,7 +14,6 @@ use Rattle.std.proofs.lemmas.Bool.{and_from}
 use Rattle.glue_words.proofs.Among.{apart_none, among_both, among_by, among_in, among_left, among_trans}
 use Rattle.glue_tree.proofs.Fit.{is_inner}
 use Rattle.glue_targets.specs.RoleWords.{export_first}
-use Rattle.glue_exports.specs.Notes.{lines_of}
 use Rattle.glue_exports.specs.Printed.{exported_item}
 use Rattle.glue_exports.proofs.Linkage.{export_belongs, noted_belong, noted_binds, noted_exported, noted_unexported}
 use Rattle.glue_public.specs.Described.{FunctionItems}
@@ -398,26 +397,30 @@ module _ (s : Settings) (m : NameMap) (l : Lowered) (e : AuxExport) (items : Fun
   abbrev bare : List Word
   bare = declaration_front name ++ (d.function.words ++ declaration_back)
 
+  -- the lines of the note
+  abbrev lines : List (List ℕ)
+  lines = note_lines s m l e d.function.params
+
   -- the declaration
   abbrev pub declared : Item
-  declared = declare_item e.comments e.adapter name d.function.words
+  declared = declare_item lines e.adapter name d.function.words
 
   bare_binds : bound_in bare ≡ name ∷ []
   bare_binds = rw (function_binds d.of_adapter declaration_back) refl
 
   -- it binds the name
   pub declared_binds : bound_in declared.words ≡ name ∷ []
-  declared_binds = noted_binds (lines_of e.comments) bare ∙ bare_binds
+  declared_binds = noted_binds lines bare ∙ bare_binds
 
   -- with `export` it is the same behind the keyword
-  pub declared_exported : (exported_item declared).words ≡ declaration_words true e.comments name d.function.words
-  declared_exported = noted_exported (lines_of e.comments) key.FUNCTION (space ∷ w.Bind name ∷ (d.function.words ++ declaration_back))
+  pub declared_exported : (exported_item declared).words ≡ declaration_words true lines name d.function.words
+  declared_exported = noted_exported lines key.FUNCTION (space ∷ w.Bind name ∷ (d.function.words ++ declaration_back))
 
   module _ (well : AreWell s l m) (ident : is_ident name ≡ true) (h : HasSteps s l e.adapter) where
     -- it isn't exported by itself
     pub declared_hidden : is_exported declared ≡ false
     declared_hidden =
-        noted_unexported (lines_of e.comments) bare
+        noted_unexported lines bare
         (list_any-append is_export_key d.function.words declaration_back
         ∙ rw (function_inner d.of_adapter well h (declaration_front name) declaration_back (declaration_frame name ident)) refl)
 
@@ -436,9 +439,9 @@ module _ (s : Settings) (m : NameMap) (l : Lowered) (e : AuxExport) (items : Fun
 
     -- it belongs into a file that has what functions use, exported or not
     pub declared_belongs : (declared : List (List ℕ)) → HasBasis s l m declared → (exported : Bool)
-        → Belongs (names_with s l declared) (declaration_words exported e.comments name d.function.words)
+        → Belongs (names_with s l declared) (declaration_words exported lines name d.function.words)
     declared_belongs declared basis exported =
-        noted_belong (names_with s l declared) (lines_of e.comments) (export_first exported ++ bare) (by exported)
+        noted_belong (names_with s l declared) lines (export_first exported ++ bare) (by exported)
       where
         alone : Belongs (names_with s l declared) bare
         alone = function_fits d.of_adapter well h (declaration_front name) declaration_back (declaration_frame name ident) declared basis

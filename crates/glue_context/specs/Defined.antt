@@ -28,7 +28,7 @@ use Rattle.taken_items.specs.Asked.{asked_items}
 use Rattle.glue_naming.specs.Naming.{declared_name}
 use Rattle.glue_context.specs.ClosureItems.{IsClosureItem}
 use Rattle.glue_context.specs.DefinedItems.{memory_words, part_words, value_item}
-use Rattle.glue_context.specs.ExportedItems.{declaration_words}
+use Rattle.glue_context.specs.ExportedItems.{declaration_words, note_lines}
 use Rattle.glue_context.specs.Functions.{IsFunctionOf, form_of, usual_form}
 use Rattle.glue_context.specs.Handing.{define_item, names_around, throws_of}
 
@@ -81,7 +81,7 @@ abbrev pub HoldsDefinition : Settings → NameMap → Lowered → Contents → �
 HoldsDefinition s m l written place item (Some adapter) = HoldsAdapter s m l written place adapter item (handed_part s l.wit l.aux adapter)
 HoldsDefinition s m l written place item None = IsMemoryDefinition l written place item
 
--- the item declares the function of an exported adapter, under the name that it was given, exported or not
+-- the item declares the function of an exported adapter, under the name that it was given, behind its note, exported or not
 pub record IsDeclaration (s : Settings) (m : NameMap) (l : Lowered) (adapter : ℕ) (item : Item) : Type 0 where
   pub «export» : AuxExport
   pub described : IsIn «export» l.aux.exports
@@ -89,7 +89,7 @@ pub record IsDeclaration (s : Settings) (m : NameMap) (l : Lowered) (adapter : �
   pub function : JsFunction
   pub of_adapter : IsFunctionOf s m l adapter (form_of «export») «export».args [] function
   pub exported : Bool
-  pub words : item.words ≡ declaration_words exported «export».comments (declared_name m «export») function.words
+  pub words : item.words ≡ declaration_words exported (note_lines s m l «export» function.params) (declared_name m «export») function.words
 
 -- a definition is that of its import, and the declaration of an adapter that of its function
 abbrev pub HoldsFunction : Settings → NameMap → Lowered → Contents → Role → Item → Type 0

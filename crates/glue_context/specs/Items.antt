@@ -25,18 +25,18 @@ use Rattle.glue_context.specs.declared.frame.FrameParts.{FrameParts}
 use Rattle.glue_context.specs.ClosureItems.{AreClosures}
 use Rattle.glue_context.specs.DefinedItems.{IsDefineItem, takes_memory}
 use Rattle.glue_context.specs.Edits.{has_start}
-use Rattle.glue_context.specs.ExportedItems.{declare_item}
+use Rattle.glue_context.specs.ExportedItems.{declare_item, note_lines}
 use Rattle.glue_context.specs.Foreign.{foreign_modules, foreign_lines, has_strings}
 use Rattle.glue_context.specs.Functions.{IsFunctionOf, form_of}
 use Rattle.glue_context.specs.ImportedItems.{line_form, vendor_items}
 use Rattle.glue_context.specs.ListedItems.{AreLists}
 use Rattle.glue_context.specs.Parts.{are_few, helper_parts}
 
--- a function is declared under the name that it was given
+-- a function is declared under the name that it was given, behind its note
 pub record AreFunctionItems (s : Settings) (m : NameMap) (l : Lowered) (e : AuxExport) (items : FunctionItems) : Type 0 where
   pub function : JsFunction
   pub of_adapter : IsFunctionOf s m l e.adapter (form_of e) e.args [] function
-  pub are : items ≡ (declared_name m e, declare_item e.comments e.adapter (declared_name m e) function.words ∷ [])
+  pub are : items ≡ (declared_name m e, declare_item (note_lines s m l e function.params) e.adapter (declared_name m e) function.words ∷ [])
 
 -- an export's adapter has steps
 abbrev pub is_bindable : Settings → NameMap → Lowered → AuxExport → Bool

@@ -1,5 +1,5 @@
-//! What a description publishes: the declaration of each function, behind the note of its comment, and the items of the export tree that it
-//! stands in, with enums and re-exports.
+//! What a description publishes: the declaration of each function, behind its note, and the items of the export tree that it stands in, with
+//! enums and re-exports.
 ghost use Rattle.std.specs.Prelude.{◌≡◌, [], IfOk, map, None, true};
 ghost use Rattle.std.specs.List.{AllZip, list_all};
 ghost use Rattle.glue_published.specs.Clash.{thing_clash};
@@ -9,35 +9,37 @@ ghost use Rattle.glue_context.specs.ExportedItems as words;
 ghost use Rattle.glue_context.specs.Items as spec;
 
 use crate::function::{adapter_function, form_of, words_of};
-use glue_exports::push_comments;
+use crate::noted::note_lines;
+use glue_exports::push_note_of;
 use glue_imports::Basis;
 use glue_naming::function_name;
 use glue_public::{lone_functions, unclashed_items};
 use glue_scope::Names;
-use glue_shared::{AuxExport, NameMap};
+use glue_shared::{AdapterId, AuxExport, NameMap};
 use glue_steps::Indexed;
 use glue_words::{Item, Role, Thing, Word, WordBuilder, key};
 use std::alloc::{AllocError, Global};
 use values::{Duplicate, Seq, Text};
 
-// The declaration of a function.
+// The declaration of the function of an adapter, behind the note of these lines.
 fn declare_function(
     alloc: Global,
-    export: &AuxExport,
+    lines: &[Text],
+    adapter: AdapterId,
     name: &Text,
     function: Seq<Word>,
 ) -> Result<Item, AllocError>
-    ensures item { IfOk result (λ item. item ≡ words.declare_item export.now.comments export.now.adapter name.now function) }
+    ensures item { IfOk result (λ item. item ≡ words.declare_item lines.now adapter name.now function) }
 {
     let mut words = WordBuilder::new(alloc);
-    push_comments(alloc, &mut words, &export.comments)?;
+    push_note_of(&mut words, lines)?;
     words.key(key::FUNCTION)?;
     words.space()?;
     words.push(Word::Bind(name.copy(alloc)?))?;
     words.append(function)?;
     words.line_feed()?;
     Ok(Item {
-        role: Role::Declare(Thing::Adapter(export.adapter.0)),
+        role: Role::Declare(Thing::Adapter(adapter.0)),
         words: words.finish(),
     })
 }
@@ -79,7 +81,10 @@ fn function_items<N: Names>(
         &[],
     )?;
     let name = declared_name(alloc, basis.names, export)?;
-    let item = declare_function(alloc, export, name, words_of(function))?;
+    let params = function.params.as_slice();
+    let lines = note_lines(alloc, basis, indexed.lowered(), export, params)?;
+    let function = words_of(function);
+    let item = declare_function(alloc, lines.as_slice(), export.adapter, name, function)?;
     let items = Seq::from_vec(vec![in alloc; item]?);
     Ok((name.copy(alloc)?, items))
 }

@@ -5,6 +5,7 @@
 //! - `tree_items` answers the items of a tree, root by root, in the paths' order: declarations, the objects of namespaces, and
 //!   what publishes each definition at its path.
 //! - `enum_definition` answers what is published for an enum; `qualified_name` the name that stands for a path.
+//! - `lines_of` answers the lines of a comment, and `push_note_of` adds the note of lines to the words before an item.
 //! - `fronts` and `add_paths` are for sets of the paths that others run through.
 //!
 //! Promised, for every input: a definition is put into a tree exactly where it can stand there (clauses `ok` and `cause` of
@@ -41,7 +42,7 @@ mod tree;
 
 pub use definition::ExportDefinition;
 pub use enums::enum_definition;
-pub use notes::push_comments;
+pub use notes::{lines_of, push_note_of};
 pub use paths::{MAX_SEGMENTS, add_paths, fronts};
 pub use printed::tree_items;
 pub use qualified::qualified_name;

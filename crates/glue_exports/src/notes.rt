@@ -28,8 +28,8 @@ pub(crate) fn comment_lines(alloc: Global, comment: &str) -> Result<Seq<Text>, A
     Ok(lines)
 }
 
-/// The same of a comment that may be missing.
-pub(crate) fn lines_of(alloc: Global, comment: &Option<Text>) -> Result<Seq<Text>, AllocError>
+/// The lines of a comment that may be missing, as a note has them: without the space that each begins with. Want of memory is the only error.
+pub fn lines_of(alloc: Global, comment: &Option<Text>) -> Result<Seq<Text>, AllocError>
     ensures lines { IfOk result (λ lines. lines ≡ spec.lines_of comment.now) }
 {
     match comment {
@@ -60,6 +60,16 @@ pub(crate) fn push_note(words: &mut WordBuilder, texts: &[Text]) -> Result<(), A
     words.line_feed()
 }
 
+/// Adds the note of these lines, none where there are none. Want of memory is the only error.
+pub fn push_note_of(words: &mut WordBuilder, texts: &[Text]) -> Result<(), AllocError>
+    ensures words { OnOk result (words.new ≡ words.old ++ spec.note_of texts.now) }
+{
+    match texts {
+        [] => Ok(()),
+        texts => push_note(words, texts),
+    }
+}
+
 /// Adds the note of a comment, none where it has no lines. Want of memory is the only error.
 pub(crate) fn push_comment(
     alloc: Global,
@@ -69,22 +79,5 @@ pub(crate) fn push_comment(
     ensures words { OnOk result (words.new ≡ words.old ++ spec.note_of (spec.comment_lines comment.now)) }
 {
     let texts = comment_lines(alloc, comment)?;
-    match texts.as_slice() {
-        [] => Ok(()),
-        texts => push_note(words, texts),
-    }
-}
-
-/// Adds the note of a comment that may be missing, none where it has no lines. Want of memory is the only error.
-pub fn push_comments(
-    alloc: Global,
-    words: &mut WordBuilder,
-    comment: &Option<Text>,
-) -> Result<(), AllocError>
-    ensures words { OnOk result (words.new ≡ words.old ++ spec.note_of (spec.lines_of comment.now)) }
-{
-    match comment {
-        None => Ok(()),
-        Some(text) => push_comment(alloc, words, text.as_str()),
-    }
+    push_note_of(words, texts.as_slice())
 }
