@@ -1,5 +1,5 @@
 -- What the check of a description gives of the functions of adapters: they belong into the file, and what the items of exports declare and publish.
-use Rattle.glue_context.proofs.Common.{◌≡◌, ℕ, List, [], ◌∷◌, ◌++◌, Bool, true, false, true≢false, Some, refl, ◌∙◌, subst, arith, rules, AllByRecursion, codes, list_all, list_any, filter_map-append, AreAmong, IsIn, in_left, in_right, Item, bound_name, bound_in, used_in, hosted_in, wasm_in, spliced_in, is_export_key, Context, Belongs, IsFrame, is_exported, Step, AuxExport, AuxImport, Settings, NameMap, Lowered, host_names, export_names, js_import, names_of, declared_name, Form, IsFunctionOf, declare_item, declaration_front, declaration_back, IsThere, IsDescribed, HasSteps, HOSTS, map, AreFunctionItems, declaration_words, note_lines, inl, inr}
+use Rattle.glue_context.proofs.Common.{◌≡◌, ℕ, List, [], ◌∷◌, ◌++◌, Bool, true, false, true≢false, Some, refl, ◌∙◌, subst, arith, rules, AllByRecursion, codes, list_all, list_any, filter_map-append, AreAmong, AreApart, IsIn, in_left, in_right, Item, bound_name, bound_in, used_in, hosted_in, wasm_in, spliced_in, is_export_key, Context, Belongs, IsFrame, is_exported, Step, AuxExport, AuxImport, Settings, NameMap, Lowered, host_names, export_names, js_import, names_of, declared_name, Form, IsFunctionOf, declare_item, declaration_front, declaration_back, IsThere, IsDescribed, HasSteps, HOSTS, map, AreFunctionItems, declaration_words, note_lines, inl, inr}
 use Rattle.std.proofs.Common.{append_assoc, ap, sym}
 use Rattle.std.specs.Prelude.{filter, ◌&&◌, not}
 use Rattle.std.proofs.lemmas.{List.Folds.list_any-append, List.Folds.list_all-append}
@@ -39,7 +39,7 @@ use Rattle.glue_shared.specs.declared.import.JsImportName.{JsImportName}
 use Rattle.glue_imports.specs.declared.part.Part.{Part}
 use Rattle.glue_imports.specs.declared.part.Part.TheVariants as part
 use Rattle.glue_imports.specs.declared.part.Expression.{Expression}
-use Rattle.glue_binding.proofs.Linked.{StandsBeside, bound_local, bound_resolved, bound_keyed, bound_alone, bound_exported, bound_inner, bound_binds}
+use Rattle.glue_binding.proofs.Linked.{around_apart, StandsBeside, bound_local, bound_resolved, bound_keyed, bound_alone, bound_exported, bound_inner, bound_binds}
 use Rattle.helper_table.specs.Laws.{any_in}
 use Rattle.helper_table.specs.declared.parts.HelperParts.{HelperParts}
 use Rattle.helper_table.proofs.Held.{base_names, free_names}
@@ -357,6 +357,11 @@ pub function_binds : {s : Settings} {m : NameMap} {l : Lowered} {id : ℕ} {form
     → bound_in (f.words ++ back) ≡ bound_in back
 function_binds {form = form} {around = around} {f = f} d back = filter_map-append bound_name f.words back
     ∙ rw (d.bound.words, bound_binds form d.steps _ around f d.bound [] [] (binds_none d.steps)) refl
+
+-- the function's own names are apart from those that stand around it
+pub function_apart : {s : Settings} {m : NameMap} {l : Lowered} {id : ℕ} {form : Form} {names around : List (List ℕ)} {f : _}
+    (d : IsFunctionOf s m l id form names around f) → AreApart (f.params ++ d.bound.temps) around
+function_apart {form = form} {around = around} {f = f} d = around_apart form d.steps _ around f d.bound
 
 module _ {s : Settings} {m : NameMap} {l : Lowered} {id : ℕ} {form : Form} {names around : List (List ℕ)} {f : _}
     (d : IsFunctionOf s m l id form names around f) (well : AreWell s l m)
