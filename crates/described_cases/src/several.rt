@@ -57,6 +57,40 @@ fn several_functions_stand_by_name(rt: HostRuntime) -> Result<(), Fail> {
     assert_file(&rt, rt.alloc(), &SEVERAL_BY_NAME)
 }
 
+// `this` in place of the first parameter, whose name isn't printed while the others keep theirs, and a last one that gathers the further arguments.
+const SEVERAL_FORMS: Case = Case {
+    edits: &[
+        (
+            r#""kind":"function","name":"zeta""#,
+            r#""kind":"function_this","name":"zeta""#,
+        ),
+        (
+            r#""kind":"function","name":"alpha""#,
+            r#""kind":"function_this","name":"alpha","variadic":true"#,
+        ),
+        (r#""name":"Alpha""#, r#""name":"Alpha","variadic":true"#),
+    ],
+    before: r#"export function Alpha(a, ...b) {
+    const ret = wasm.sum(a, b);
+    return ret;
+}
+export function alpha(...arg1) {
+    const ret = wasm.product(this, arg1);
+    return ret;
+}
+export function zeta(b) {
+    const ret = wasm.sum(this, b);
+    return ret;
+}
+"#,
+    ..SEVERAL_BY_NAME
+};
+
+#[test]
+fn functions_take_this_and_a_rest_parameter(rt: HostRuntime) -> Result<(), Fail> {
+    assert_file(&rt, rt.alloc(), &SEVERAL_FORMS)
+}
+
 // Edits of the description: two exports have one name; one import has two adapters.
 const REFUSED: &[(Edit, &str)] = &[
     (

@@ -120,22 +120,21 @@ after_space : (gathers : Bool) (name : List ℕ) (words : List Word) → spaced 
 after_space true name words = refl
 after_space false name words = refl
 
-mutual
-  further_stand : (gathers : Bool) (names : List (List ℕ)) → list_all is_ident names ≡ true → StandInside (printed_parameters false gathers names)
-  further_stand gathers [] h = record { good = refl; each = refl }
-  further_stand gathers (name ∷ names) h =
-      let all = first_stand gathers name names h in
-      let words = printed_parameters false gathers names in record {
-        good = and_true _ _ refl (and_true _ _ refl all.good);
-        each = and_true _ _ refl (and_true _ _ (after_space (gathers && is_none names) name words) all.each);
-      }
+-- a parameter and further ones
+one_more : (gathers : Bool) (name : List ℕ) (names : List (List ℕ)) → is_ident name ≡ true → StandInside (printed_parameters false gathers names)
+    → StandInside (printed_parameter (gathers && is_none names) name ++ printed_parameters false gathers names)
+one_more gathers name names i rest =
+    one_stands (gathers && is_none names) name i (printed_parameters false gathers names) (behind_one gathers name names) rest
 
-  first_stand : (gathers : Bool) (name : List ℕ) (names : List (List ℕ)) → list_all is_ident (name ∷ names) ≡ true
-      → StandInside (printed_parameter (gathers && is_none names) name ++ printed_parameters false gathers names)
-  first_stand gathers name names h =
-      let parts = and_parts (is_ident name) (list_all is_ident names) h in
-      one_stands (gathers && is_none names) name parts.0 (printed_parameters false gathers names) (behind_one gathers name names)
-      (further_stand gathers names parts.1)
+further_stand : (gathers : Bool) (names : List (List ℕ)) → list_all is_ident names ≡ true → StandInside (printed_parameters false gathers names)
+further_stand gathers [] h = record { good = refl; each = refl }
+further_stand gathers (name ∷ names) h =
+    let parts = and_parts (is_ident name) (list_all is_ident names) h in
+    let all = one_more gathers name names parts.0 (further_stand gathers names parts.1) in
+    let words = printed_parameters false gathers names in record {
+      good = and_true _ _ refl (and_true _ _ refl all.good);
+      each = and_true _ _ refl (and_true _ _ (after_space (gathers && is_none names) name words) all.each);
+    }
 
 -- `(` before a parameter
 paren_before : (gathers : Bool) (name : List ℕ) (words : List Word) → spaced open_paren (first_word (printed_parameter gathers name ++ words) (Some close_paren)) ≡ true
@@ -150,7 +149,8 @@ paren_paren = refl
 opened_stand : (gathers : Bool) (names : List (List ℕ)) → list_all is_ident names ≡ true → StandInside (open_paren ∷ printed_parameters true gathers names)
 opened_stand gathers [] h = record { good = refl; each = and_true _ _ paren_paren refl }
 opened_stand gathers (name ∷ names) h =
-    let all = first_stand gathers name names h in
+    let parts = and_parts (is_ident name) (list_all is_ident names) h in
+    let all = one_more gathers name names parts.0 (further_stand gathers names parts.1) in
     let words = printed_parameters false gathers names in record {
       good = and_true _ _ refl all.good;
       each = and_true _ _ (paren_before (gathers && is_none names) name words) all.each;

@@ -36,7 +36,10 @@ fn is_wide(ty: Option<&FuncType>) -> bool
 {
     match ty {
         None => false,
-        Some(ty) => ty.results.len() == 1 && ty.results.iter().all(|result| is_i64(*result)),
+        Some(ty) => {
+            let results = ty.results.as_slice();
+            results.len() == 1 && results.iter().all(|given| is_i64(*given))
+        }
     }
 }
 

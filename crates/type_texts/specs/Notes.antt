@@ -19,14 +19,14 @@ param_lines buffers m types names =
     map (λ (p : AdapterType × List ℕ). param_line (type_text buffers m p.0) p.1) (zip types names)
 
 -- what stands behind the first of these
-abbrev pub behind_first : {A : Type 0} → List A → List A
+abbrev pub behind_first : List AdapterType → List AdapterType
 behind_first [] = []
-behind_first (x ∷ xs) = xs
+behind_first (type ∷ types) = types
 
--- the parameters of a signature: where `this` is passed it is the first, which the signature leaves out
-abbrev pub signature_part : {A : Type 0} → AuxExportKind → List A → List A
-signature_part kinds.FunctionThis items = behind_first items
-signature_part kind items = items
+-- the types of the parameters of a signature, of all that are passed: that of `this` is the first, which the signature leaves out
+abbrev pub signature_types : AuxExportKind → List AdapterType → List AdapterType
+signature_types kinds.FunctionThis types = behind_first types
+signature_types kind types = types
 
 -- the text of what a function answers, which is `void` where it answers nothing
 abbrev pub answer_text : (buffers : Bool) → NameMap → (results : List AdapterType) → List ℕ
@@ -51,8 +51,8 @@ abbrev pub returns_lines : AuxExportKind → (answer : List ℕ) → List (List 
 returns_lines kinds.Constructor answer = []
 returns_lines kind answer = told_answer answer
 
--- the lines of the types of an export's adapter, where the parameters have these names
+-- the lines of the types of an export's adapter, where the parameters of the signature have these names
 abbrev pub signature_lines : (buffers : Bool) → NameMap → AuxExport → Adapter → (params : List (List ℕ)) → List (List ℕ)
 signature_lines buffers m e a params =
-    param_lines buffers m (signature_part e.kind a.args) (signature_part e.kind params)
+    param_lines buffers m (signature_types e.kind a.args) params
     ++ returns_lines e.kind (promised e.asyncness (answer_text buffers m a.results))

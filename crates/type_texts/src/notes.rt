@@ -44,22 +44,22 @@ fn param_lines(
 }
 
 // What stands behind the first of these.
-fn behind_first<T>(items: &[T]) -> &[T]
-    ensures items { result.now ≡ spec.behind_first items.now }
+fn behind_first(types: &[AdapterType]) -> &[AdapterType]
+    ensures types { result.now ≡ spec.behind_first types.now }
 {
-    match items.split_first() {
+    match types.split_first() {
         Some((_, others)) => others,
-        None => items,
+        None => types,
     }
 }
 
-// The parameters of a signature, which leaves out `this`.
-fn signature_part<T>(kind: AuxExportKind, items: &[T]) -> &[T]
-    ensures items { result.now ≡ spec.signature_part kind items.now }
+// The types of the parameters of a signature, which leaves out `this`.
+fn signature_types(kind: AuxExportKind, types: &[AdapterType]) -> &[AdapterType]
+    ensures types { result.now ≡ spec.signature_types kind types.now }
 {
     match kind {
-        AuxExportKind::FunctionThis => behind_first(items),
-        _ => items,
+        AuxExportKind::FunctionThis => behind_first(types),
+        _ => types,
     }
 }
 
@@ -126,8 +126,8 @@ fn returns_lines(alloc: Global, kind: AuxExportKind, answer: &Text) -> Result<Se
     }
 }
 
-/// The lines that tell the types of an export's adapter, whose parameters have these names: `@param {T} p` for each parameter of its
-/// signature, and `@returns {R}` where it answers something. The signature of a function that takes `this` leaves out the first parameter,
+/// The lines that tell the types of an export's adapter, the parameters of whose signature have these names: `@param {T} p` for each of them,
+/// and `@returns {R}` where it answers something. The signature of a function that takes `this` leaves out the first parameter,
 /// that of a constructor has no answer, and an async function answers a promise. Want of memory is the only error.
 pub fn signature_lines(
     alloc: Global,
@@ -139,14 +139,8 @@ pub fn signature_lines(
 ) -> Result<Seq<Text>, AllocError>
     ensures lines { IfOk result (λ lines. lines ≡ spec.signature_lines buffers names.now export.now adapter.now params.now) }
 {
-    let types = signature_part(export.kind, adapter.args.as_slice());
-    let mut lines = param_lines(
-        alloc,
-        buffers,
-        names,
-        types,
-        signature_part(export.kind, params),
-    )?;
+    let types = signature_types(export.kind, adapter.args.as_slice());
+    let mut lines = param_lines(alloc, buffers, names, types, params)?;
     let answer = answer_text(alloc, buffers, names, adapter.results.as_slice())?;
     let answer = promised(alloc, export.asyncness, answer)?;
     lines.append(returns_lines(alloc, export.kind, &answer)?)?;

@@ -71,7 +71,7 @@ const SIGNATURES: [(AuxExportKind, bool, &[&str], &[&str], &[&str]); 8] = [
         false,
         &["externref", "bool"],
         &["Value"],
-        &["@param {boolean} b", "@returns {any[]}"],
+        &["@param {boolean} a", "@returns {any[]}"],
     ),
     (AuxExportKind::FunctionThis, false, &[], &[], &[]),
     (

@@ -5,4 +5,4 @@ use Rattle.glue_binding.specs.Form.{first_if}
 use Rattle.glue_binding.proofs.parameters.parameters_of.Given as goal
 
 abbrev pub invariant-loop-name : goal.invariant-loop-name
-invariant-loop-name l = map plain_operand l.operands ≡ first_if l.form.takes_this This [] ++ map Local (take l.name-index l.names)
+invariant-loop-name l = map plain_operand l.operands ≡ first_if l.fn.form.takes_this This [] ++ map Local (take l.name-index l.names)
