@@ -15,21 +15,21 @@ use glue_imports::Basis;
 use glue_naming::function_name;
 use glue_public::{lone_functions, unclashed_items};
 use glue_scope::Names;
-use glue_shared::{AdapterId, AuxExport, NameMap};
+use glue_shared::{AuxExport, NameMap};
 use glue_steps::Indexed;
 use glue_words::{Item, Role, Thing, Word, WordBuilder, key};
 use std::alloc::{AllocError, Global};
 use values::{Duplicate, Seq, Text};
 
-// The declaration of the function of an adapter, behind the note of these lines.
+// The declaration of a function, behind the note of these lines.
 fn declare_function(
     alloc: Global,
+    export: &AuxExport,
     lines: &[Text],
-    adapter: AdapterId,
     name: &Text,
     function: Seq<Word>,
 ) -> Result<Item, AllocError>
-    ensures item { IfOk result (λ item. item ≡ words.declare_item lines.now adapter name.now function) }
+    ensures item { IfOk result (λ item. item ≡ words.declare_item lines.now export.now.adapter name.now function) }
 {
     let mut words = WordBuilder::new(alloc);
     push_note_of(&mut words, lines)?;
@@ -39,7 +39,7 @@ fn declare_function(
     words.append(function)?;
     words.line_feed()?;
     Ok(Item {
-        role: Role::Declare(Thing::Adapter(adapter.0)),
+        role: Role::Declare(Thing::Adapter(export.adapter.0)),
         words: words.finish(),
     })
 }
@@ -83,8 +83,7 @@ fn function_items<N: Names>(
     let name = declared_name(alloc, basis.names, export)?;
     let params = function.params.as_slice();
     let lines = note_lines(alloc, basis, indexed.lowered(), export, params)?;
-    let function = words_of(function);
-    let item = declare_function(alloc, lines.as_slice(), export.adapter, name, function)?;
+    let item = declare_function(alloc, export, lines.as_slice(), name, words_of(function))?;
     let items = Seq::from_vec(vec![in alloc; item]?);
     Ok((name.copy(alloc)?, items))
 }
