@@ -504,7 +504,7 @@ module _ (s : Settings) (l : Lowered) (m : NameMap) (known : m.wasm ≡ item_map
           let t = table_given handing printed q refl in (
             handle_error_by_table t.1.0.place store,
             ap (λ (o : Option TableExport). error_handled true o parts.exn_store) t.1.1.1.1
-            ∙ ap (λ (o : Option (List ℕ)). error_handled true (Some t.1.0) o) given,
+                ∙ ap (λ (o : Option (List ℕ)). error_handled true (Some t.1.0) o) given,
             binds_of (handle_error_by_table t.1.0.place store) _ (by_table_holds store t.1.0.place).binds (inl refl),
           )
 

@@ -224,9 +224,7 @@ fn define_by_adapter<N: Names>(
             let value = part_words(alloc, basis.names, js)?;
             define_value(alloc, place, &import.name, value)
         }
-        None => {
-            define_by_function::<N>(alloc, basis, indexed, adapter, place, import)
-        }
+        None => { define_by_function::<N>(alloc, basis, indexed, adapter, place, import) }
     }
 }
 

@@ -5,9 +5,9 @@ ghost use Rattle.std.specs.List.{list_all};
 ghost use Rattle.std.specs.Option.{option_copied};
 ghost use Rattle.glue_context.specs.Handing as spec;
 
+use glue_shared::AdapterId;
 use glue_steps::{Indexed, function_type};
 use glue_words::{Item, Role, Word, WordBuilder, key, punct};
-use glue_shared::AdapterId;
 use printed_adapters::is_caught;
 use std::alloc::{AllocError, Global};
 use values::{Duplicate, Seq, Text};

@@ -23,8 +23,8 @@ mod step;
 pub use callbacks::Callbacks;
 pub use indexed::Indexed;
 pub use needed::{
-    REFERENCE_PARTS, ReferencePart, destroyer_item, goes_by, makes_closure, needed_items, part_item,
-    store_item,
+    REFERENCE_PARTS, ReferencePart, destroyer_item, goes_by, makes_closure, needed_items,
+    part_item, store_item,
 };
 pub use resolving::{adapter_steps, callback_name, function_type};
 pub use room::{has_stack, is_room, makes_room};

@@ -73,9 +73,5 @@ pub fn catches(alloc: Global, settings: &Settings, lowered: &Lowered) -> Result<
 {
     let own = own_places(alloc, settings, lowered)?;
     let indexed = Indexed::new(alloc, lowered)?;
-    Ok(is_any_caught(
-        &own,
-        &indexed,
-        lowered.wit.implements.as_slice(),
-    ))
+    Ok(is_any_caught(&own, &indexed, lowered.wit.implements.as_slice()))
 }
