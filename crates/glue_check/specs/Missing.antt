@@ -1,4 +1,5 @@
--- Parts that instructions and imports need, and what catches what imports throw, and that the module or its description lacks.
+-- Parts that the module or its description lacks: those that instructions need, that imports need, and that are needed to hand on what imports
+-- throw.
 use Rattle.std.specs.Prelude.{ℕ, Bool, true, false, not, ◌&&◌, ◌||◌, is_some, List, [], ◌∷◌, codes, Option, Some, None, option_map, if◌then◌else◌}
 use Rattle.std.specs.List.{list_any}
 use Rattle.std.specs.Option.{option_or}
@@ -134,7 +135,7 @@ adapter_lacks settings l entry = code_lacks settings l (code_of entry.1.kind)
 
 -- ---- what is caught
 
--- the first in that order that handing on lacks what an import throws: the function that takes it, or a part that the value goes by
+-- the first in that order that is lacking to hand on what an import throws: the function that takes it, or a part that the value goes by
 abbrev pub handing_lacks : Settings → Lowered → Option (List ℕ)
 handing_lacks settings l = option_or (lacked_unless (is_some (store_item l)) (codes "exn_store")) (code_lacks settings l (handing ∷ []))
 

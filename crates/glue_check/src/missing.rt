@@ -1,4 +1,5 @@
-//! Parts that instructions and imports need, and what catches what imports throw, and that the module or its description lacks.
+//! Parts that the module or its description lacks: those that instructions need, that imports need, and that are needed to hand on what imports
+//! throw.
 ghost use Rattle.std.specs.Prelude.{◌≡◌, is_some, IfOk};
 ghost use Rattle.std.specs.List.{list_any};
 ghost use Rattle.std.specs.Option.{option_copied, option_or};
@@ -365,7 +366,7 @@ fn first_of_adapters(
     Ok(None)
 }
 
-// The first part that handing on lacks what an import throws.
+// The first part that is lacking to hand on what an import throws.
 fn handing_lacks(
     alloc: Global,
     settings: &Settings,

@@ -18,7 +18,8 @@ use wasm_core::{FuncType, ImportId, ImportKind, Module, ValType};
 pub(crate) enum Throws {
     /// The module gets it as it is.
     Left,
-    /// It is caught and handed to the module, and the import answers nothing, or `0n` where its result has 64 bits (`wide`).
+    /// It is caught and handed to the module. For a call that threw the import then answers nothing, or `0n` where its result has 64 bits
+    /// (`wide`).
     Handed { wide: bool },
 }
 

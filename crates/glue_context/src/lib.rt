@@ -8,10 +8,11 @@
 //! items are those of the definition `IsGlue`, and want of memory is the only error, where the check has found steps for each adapter and a
 //! name for the function of each closure (`proofs/Facts.antt`), and the function of each export was given a name (`named` of `draw_names` in
 //! `glue_naming`). The proofs show the theorem `sound` (`proofs/Made.antt`): the items that a built description asks for are linked with the
-//! module that is written (`specs/Linked.antt`), define each own import once by its adapter's function, and declare the function of each
-//! closure that is made (`specs/Defined.antt`), and publish exactly the described tree. `edits_of` tells what is changed in the collected
+//! module that is written (`specs/Linked.antt`), define each own import once by its adapter's function, which `handleError` calls
+//! where what the import throws is caught (`specs/Handing.antt`), and declare the function of each closure that is made
+//! (`specs/Defined.antt`), and publish exactly the described tree. `edits_of` tells what is changed in the collected
 //! module, as one value: own imports move to the glue file's module, an import for which an adapter stands and which is no own one becomes
-//! the described name that the adapter calls, what adapters ask for is exported where it isn't, the shim is added and exported, and a start
+//! the described name that the adapter calls, what adapters ask for, or what throws are handed on by, is exported where it isn't, the shim is added and exported, and a start
 //! function becomes an export, which loading calls. The shim is a function that adds its argument to the global that holds the stack pointer
 //! of the module, and answers the sum: an adapter's function that takes room for results calls it, and where none does there is no shim
 //! (`shim_global` of `specs/Rewritten.antt`). `apply_edits` changes exactly that (`edited` of `specs/Edits.antt`); the module that is written
