@@ -1,4 +1,4 @@
--- The loop that draws names from a scope.
+-- The loops that draw names from a scope, and bind names in it.
 use Rattle.std.proofs.Common.{◌≡◌, ℕ, ◌+◌, ◌<◌, List, [], ◌∷◌, ◌++◌, length, take, get_or, sym, ap, ◌∙◌, subst}
 use Rattle.std.specs.FinSet as set
 use Rattle.glue_words.specs.Ident.{to_ident}
@@ -26,3 +26,11 @@ pub bound_next : (b now next : TextSet) (names names' : List (List ℕ)) (name n
 bound_next b now next names names' name name' e f n p =
     f ∙ ap (λ (s : TextSet). set.insert s name) e ∙ sym (with_texts-append b names (name ∷ []))
     ∙ ap (with_texts b) (sym (p ∙ ap (λ m. names ++ m ∷ []) n))
+
+-- one name more is bound
+pub reserved_next : (b now next : TextSet) (names : List (List ℕ)) (i : ℕ) (x text : List ℕ) → i < length names → x ≡ get_or names i x → text ≡ x
+    → now ≡ with_texts b (take i names) → next ≡ set.insert now text → next ≡ with_texts b (take (i + 1) names)
+reserved_next b now next names i x text lt is same e f =
+    f ∙ ap (λ (s : TextSet). set.insert s text) e ∙ ap (λ (t : List ℕ). set.insert (with_texts b (take i names)) t) same
+    ∙ sym (with_texts-append b (take i names) (x ∷ []))
+    ∙ ap (with_texts b) (sym (take_next names i x lt is))
