@@ -137,7 +137,11 @@ fn push_argument(
 }
 
 /// Appends `, `, which stands before each argument but the first.
-pub fn push_comma_unless(alloc: Global, is_first: bool, words: &mut Seq<Word>) -> Result<(), AllocError>
+pub fn push_comma_unless(
+    alloc: Global,
+    is_first: bool,
+    words: &mut Seq<Word>,
+) -> Result<(), AllocError>
     ensures words { OnOk result (words.new ≡ words.old ++ comma_unless is_first) }
 {
     if !is_first {

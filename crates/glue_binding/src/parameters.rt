@@ -29,11 +29,7 @@ fn first_operands(alloc: Global, form: Form) -> Result<Seq<Operand>, AllocError>
 }
 
 /// What the parameters of a form are spelled as, those that are printed with these names.
-pub fn parameters_of(
-    alloc: Global,
-    form: Form,
-    names: &[Text],
-) -> Result<Seq<Operand>, AllocError>
+pub fn parameters_of(alloc: Global, form: Form, names: &[Text]) -> Result<Seq<Operand>, AllocError>
     ensures operands { IfOk result (λ operands. map plain_operand operands ≡ spec.parameters_of form names.now) }
 {
     let mut operands = first_operands(alloc, form)?;

@@ -212,8 +212,15 @@ fn define_by_adapter<N: Names>(
         }
         None => {
             let none = Seq::new(alloc);
-            let function =
-                adapter_function::<N>(alloc, basis, indexed, adapter, usual_form(), &none, &[])?;
+            let function = adapter_function::<N>(
+                alloc,
+                basis,
+                indexed,
+                adapter,
+                usual_form(),
+                &none,
+                &[],
+            )?;
             define_function(alloc, place, &import.name, words_of(function))
         }
     }

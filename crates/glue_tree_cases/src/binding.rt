@@ -48,8 +48,7 @@ fn formed(
 ) -> Result<String, AllocError> {
     let wanted = texts(alloc, wanted)?;
     let around = texts(alloc, around)?;
-    let function =
-        bind::<IdentScope>(alloc, steps, wanted.as_slice(), form, around.as_slice())?;
+    let function = bind::<IdentScope>(alloc, steps, wanted.as_slice(), form, around.as_slice())?;
     printed(alloc, function.words)
 }
 

@@ -180,7 +180,13 @@ fn function(alloc: Global, case: &Case) -> Result<String, LowerFault> {
     let names = ["arg0", "arg1", "arg2"];
     let count = case.2.len().min(names.len());
     let wanted = texts(alloc, names.split_at(count).0)?;
-    let function = bind::<IdentScope>(alloc, steps.as_slice(), wanted.as_slice(), usual_form(), &[])?;
+    let function = bind::<IdentScope>(
+        alloc,
+        steps.as_slice(),
+        wanted.as_slice(),
+        usual_form(),
+        &[],
+    )?;
     Ok(printed(alloc, function.words)?)
 }
 
