@@ -1,5 +1,6 @@
 -- What the items that define own imports hold and declare, and that each belongs into the file.
 use Rattle.glue_context.proofs.Common.{◌≡◌, ℕ, inl, inr, List, [], ◌∷◌, ◌++◌, map, Bool, true, false, refl, sym, ap, ◌∙◌, subst, append-nil, codes, filter_map, filter_map-append, true≢false, list_all, list_any, Option, Some, None, IsIn, AreAmong, HOSTS, Item, Belongs, Context, ImportKind, bound_name, bound_in, used_in, hosted_in, wasm_in, spliced_in, is_export_key, is_exported, Settings, NameMap, Lowered, host_names, own_imports, HasSteps, IsDefineItem}
+use Rattle.std.specs.Prelude.{◌||◌}
 use Rattle.std.proofs.lemmas.Bool.{and_parts}
 use Rattle.std.proofs.lemmas.List.Folds.{list_any-append}
 use Rattle.wasm_core.specs.ids.ImportId.{ImportId}
@@ -50,7 +51,7 @@ use Rattle.glue_context.proofs.HandingFacts.{around_declared, back_binds, back_i
 use Rattle.glue_context.proofs.Provided.{errors_provided}
 use Rattle.printed_adapters.specs.Caught.{catches}
 use Rattle.glue_check.proofs.Complete.{CanHand}
-use Rattle.helper_table.proofs.Supplied.{in_provided, provided_names}
+use Rattle.helper_table.proofs.Supplied.{provided_in, provided_names}
 
 -- the text of an item by itself is that of its words
 pub one_printed : (r : Role) (words : List Word) → printed (record { role = r; words = words } ∷ []) ≡ words_text words
@@ -347,7 +348,7 @@ module _ (s : Settings) (m : NameMap) (l : Lowered) where
           handled : catches s l ≡ true → IsIn (codes "handleError") declared
           handled caught =
               among_in (codes "handleError") (provided_names (helper_parts s l m)) declared basis.helpers
-              (in_provided (helper_parts s l m) (codes "handleError") (errors_provided s l m basis.taken.items basis.taken.few caught (hands caught)))
+              (provided_in (helper_parts s l m) (codes "handleError") (errors_provided s l m basis.taken.items basis.taken.few caught (hands caught)))
 
       pub define_belongs : IsDefineItem s m l place item → Belongs c item.words
       define_belongs = define_cases place item (Belongs c item.words)

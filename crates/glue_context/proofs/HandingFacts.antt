@@ -3,9 +3,11 @@
 use Rattle.glue_context.proofs.Common.{◌≡◌, ℕ, List, [], ◌∷◌, ◌++◌, Bool, true, false, true≢false, refl, sym, ap, ◌∙◌, subst, rules, codes, filter_map, filter_map-append, list_any, IsIn, AreAmong, AreApart, Item, ImportId, ImportKind, Context, IsFrame, bound_in, is_export_key, Settings, Lowered, own_imports}
 use Rattle.std.specs.Prelude.{◌&&◌, cond}
 use Rattle.glue_words.specs.declared.word.Word.{Word}
+use Rattle.glue_words.specs.Ident.{is_ident}
 use Rattle.glue_words.specs.Spacing.{joins}
 use Rattle.glue_words.specs.Tables.{punct_text}
 use Rattle.glue_words.proofs.Among.{apart_none}
+use Rattle.glue_words.proofs.Idents.{ascii_ident}
 use Rattle.glue_binding.proofs.Linked.{StandsBeside}
 use Rattle.glue_shared.specs.Names.{has_number}
 use Rattle.printed_adapters.specs.Caught.{catches, is_caught, is_caught_pair}
@@ -15,12 +17,15 @@ use Rattle.glue_context.specs.Handing.{caller_back, definition_back, definition_
 use Rattle.glue_context.proofs.Entries.{any_there}
 use Rattle.glue_context.proofs.Fits.{HasNames}
 
+handler_ident : is_ident (codes "handleError") ≡ true
+handler_ident = ascii_ident (codes "handleError") refl
+
 -- they are spaced from the function
 pub defines : (t : Throws) (name : List ℕ) → IsFrame (definition_front t name) (definition_back t)
 unfolding joins punct_text
 defines throws.Left name = record { right = (refl, refl); before = refl; behind = refl; after = refl; apart = refl; ends = refl }
-defines (throws.Handed true) name = record { right = (refl, refl); before = refl; behind = refl; after = refl; apart = refl; ends = refl }
-defines (throws.Handed false) name = record { right = (refl, refl); before = refl; behind = refl; after = refl; apart = refl; ends = refl }
+defines (throws.Handed true) name = record { right = (rw handler_ident refl, refl); before = refl; behind = refl; after = refl; apart = refl; ends = refl }
+defines (throws.Handed false) name = record { right = (rw handler_ident refl, refl); before = refl; behind = refl; after = refl; apart = refl; ends = refl }
 
 -- the words behind it declare nothing, and are no `export`
 pub back_binds : (t : Throws) → bound_in (definition_back t) ≡ []
