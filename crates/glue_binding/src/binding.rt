@@ -3,6 +3,7 @@ ghost use Rattle.std.specs.Prelude.{◌≡◌, [], IfOk};
 ghost use Rattle.glue_binding.specs.Binding.{IsBoundFunction};
 
 use crate::body::body_of;
+use crate::depth::keep_shallow;
 use crate::draw::{draw, temporaries_of};
 use crate::form::Form;
 use crate::parameters::{form_words_of, parameters_of};
@@ -29,6 +30,7 @@ pub fn bind<N: Names>(
 ) -> Result<JsFunction, AllocError>
     ensures function { IfOk result (λ f. IsBoundFunction form steps.now wanted.now around.now f) }
 {
+    keep_shallow(steps)?;
     let mut scope = N::new(alloc);
     reserve_seed(alloc, &mut scope, steps)?;
     reserve_names(&mut scope, around)?;

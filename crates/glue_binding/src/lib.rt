@@ -11,6 +11,7 @@ mod binding;
 mod body;
 mod calls;
 mod closures;
+mod depth;
 mod draw;
 mod form;
 mod import;
