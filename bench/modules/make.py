@@ -1,10 +1,16 @@
 #!/usr/bin/env python3
-"""Writes a WebAssembly module with so many bytes of code to standard output: make.py BYTES > MODULE
+"""Writes a WebAssembly module of so many bytes to standard output: make.py BYTES [SHAPE] > MODULE
 
-The module has one memory and functions that take two numbers and give one. Their bodies hold locals, constants,
-arithmetic, loads and stores, blocks, loops, branches and calls, in an order that a fixed seed decides. A table that is
-exported holds every function, so all of them can be reached. The module is valid, and every number is written in its
-shortest form. The format is the binary format of the WebAssembly core specification, section 5.
+Without a shape the module has at least so many bytes of code. It has one memory and functions that take two numbers and
+give one. Their bodies hold locals, constants, arithmetic, loads and stores, blocks, loops, branches and calls, in an order
+that a fixed seed decides. A table that is exported holds every function, so all of them can be reached.
+
+With a shape, which is one of SHAPES and may have several words, the module has about so many bytes. It is made of entries
+of one kind, and of what makes these reachable, where they aren't so by themselves.
+
+The module is valid, and every number is written in its shortest form. Sections stand in the order of the specification, and
+custom sections last. The format is the binary format of the WebAssembly core specification, section 5, and for names and
+producers that of the tool conventions.
 """
 
 import random
@@ -15,12 +21,20 @@ sys.path.insert(0, str(Path(__file__).resolve().parents[1]))
 from shared import leb128 as unsigned  # noqa: E402
 
 PREAMBLE = b"\0asm\1\0\0\0"
-TYPE, FUNCTION, TABLE, MEMORY, EXPORT, ELEMENT, CODE = 1, 3, 4, 5, 7, 9, 10
+CUSTOM, TYPE, IMPORT, FUNCTION, TABLE, MEMORY, GLOBAL, EXPORT = range(8)
+ELEMENT, CODE, DATA, DATA_COUNT = range(9, 13)
+# The order in which sections stand in a module, but for custom ones.
+ORDER = [TYPE, IMPORT, FUNCTION, TABLE, MEMORY, GLOBAL, EXPORT, ELEMENT, DATA_COUNT, CODE, DATA]
 I32, I64, F64, FUNCREF = 0x7F, 0x7E, 0x7C, 0x70
-# Every function is (i32, i32) -> i32, with four i32, two i64 and one f64 as locals.
+# Without a shape every function is (i32, i32) -> i32, with four i32, two i64 and one f64 as locals.
 PARAMETERS, LOCALS_I32, LOCALS_I64, LOCALS_F64 = 2, 4, 2, 1
 FIRST_I64 = PARAMETERS + LOCALS_I32
 FIRST_F64 = FIRST_I64 + LOCALS_I64
+# What the shapes share: the type () -> (), the body of a function without operators, exports, and letters of names.
+NOTHING = b"\x60\x00\x00"
+EMPTY_BODY = b"\x02\x00\x0b"
+TABLE_EXPORT, MEMORY_EXPORT, FUNCTION_EXPORT = b"\x05table\x01\x00", b"\x06memory\x02\x00", b"\x03run\x00"
+LETTERS = b"abcdefghijklmnopqrstuvwxyz0123456789"
 
 
 def signed(value):
@@ -105,8 +119,23 @@ class Body:
         return unsigned(len(code)) + code
 
 
-def module(size):
-    """A module with at least `size` bytes of code."""
+def assembled(parts, customs=b""):
+    """The module of the contents of sections by their numbers, and of custom sections."""
+    return PREAMBLE + b"".join(section(number, parts[number]) for number in ORDER if number in parts) + customs
+
+
+def table(count):
+    """The section of one table, which holds so many functions."""
+    return listed([bytes([FUNCREF, 0]) + unsigned(count)])
+
+
+def filled(places):
+    """The section of one element segment, which puts functions into the table from its start on."""
+    return listed([b"\x00\x41\x00\x0b" + listed([unsigned(place) for place in places])])
+
+
+def code(size):
+    """At least `size` bytes of code."""
     rng = random.Random(size)
     # A call names one of the first functions, which are always there.
     bodies, length = [], 0
@@ -114,25 +143,168 @@ def module(size):
         bodies.append(Body(rng, 100).entry())
         length += len(bodies[-1])
     count = len(bodies)
-    types = [bytes([0x60, 2, I32, I32, 1, I32])]
-    table = bytes([FUNCREF, 0]) + unsigned(count)
-    exports = [b"\x05table\x01\x00", b"\x06memory\x02\x00"]
-    elements = [b"\x00\x41\x00\x0b" + listed([unsigned(place) for place in range(count)])]
-    return b"".join(
-        [
-            PREAMBLE,
-            section(TYPE, listed(types)),
-            section(FUNCTION, listed([unsigned(0)] * count)),
-            section(TABLE, listed([table])),
-            section(MEMORY, listed([b"\x00\x11"])),
-            section(EXPORT, listed(exports)),
-            section(ELEMENT, listed(elements)),
-            section(CODE, listed(bodies)),
-        ]
+    return assembled(
+        {
+            TYPE: listed([bytes([0x60, 2, I32, I32, 1, I32])]),
+            FUNCTION: listed([unsigned(0)] * count),
+            TABLE: table(count),
+            MEMORY: listed([b"\x00\x11"]),
+            EXPORT: listed([TABLE_EXPORT, MEMORY_EXPORT]),
+            ELEMENT: filled(range(count)),
+            CODE: listed(bodies),
+        }
     )
 
 
-if __name__ == "__main__":
-    if len(sys.argv) != 2 or not sys.argv[1].isdecimal():
+def short_name(number):
+    """The name of a number, other than that of each other number: its length and its letters."""
+    out = bytearray()
+    while number >= 0:
+        number, letter = divmod(number, len(LETTERS))
+        out.append(LETTERS[letter])
+        number -= 1
+    return unsigned(len(out)) + bytes(out)
+
+
+def custom(name, content):
+    """A custom section of a name."""
+    return section(CUSTOM, unsigned(len(name)) + name + content)
+
+
+def running(operators, parts=()):
+    """A module of one exported function with these operators, and of further parts."""
+    body = b"\x00" + operators + b"\x0b"
+    function = {TYPE: listed([NOTHING]), FUNCTION: listed([b"\x00"]), EXPORT: listed([FUNCTION_EXPORT + b"\x00"])}
+    return assembled({**function, CODE: listed([unsigned(len(body)) + body]), **dict(parts)})
+
+
+def element_expressions(size):
+    """One active element segment of expressions, which give the function and null in turn. The table is exported."""
+    count = size // 6
+    segment = b"\x04\x41\x00\x0b" + listed([b"\xd2\x00\x0b", b"\xd0\x70\x0b"] * count)
+    return assembled(
+        {
+            TYPE: listed([NOTHING]),
+            FUNCTION: listed([b"\x00"]),
+            TABLE: table(2 * count),
+            EXPORT: listed([TABLE_EXPORT]),
+            ELEMENT: listed([segment]),
+            CODE: listed([EMPTY_BODY]),
+        }
+    )
+
+
+def data_segments(size):
+    """Active data segments of one byte. The memory is exported."""
+    segment = b"\x00\x41\x00\x0b\x01a"
+    count = size // len(segment)
+    return assembled(
+        {
+            MEMORY: listed([b"\x00\x01"]),
+            EXPORT: listed([MEMORY_EXPORT]),
+            DATA_COUNT: unsigned(count),
+            DATA: listed([segment] * count),
+        }
+    )
+
+
+def imports(size):
+    """Imported functions of one module, each with a name of its own. An exported table holds them."""
+    count = size // 12
+    return assembled(
+        {
+            TYPE: listed([NOTHING]),
+            IMPORT: listed([b"\x01m" + short_name(number) + b"\x00\x00" for number in range(count)]),
+            TABLE: table(count),
+            EXPORT: listed([TABLE_EXPORT]),
+            ELEMENT: filled(range(count)),
+        }
+    )
+
+
+def producers(size):
+    """Values of one field of producers, each with a name of its own and a version of one digit."""
+    values = [short_name(number) + b"\x011" for number in range(size // 7)]
+    return assembled({}, custom(b"producers", listed([b"\x08language" + listed(values)])))
+
+
+def global_variables(size):
+    """Globals that are 0. An exported function reads each, and returns with all of them left."""
+    entry = bytes([I32, 0]) + b"\x41\x00\x0b"
+    count = size // (len(entry) + 4)
+    reads = b"".join(b"\x23" + unsigned(place) for place in range(count))
+    return running(reads + b"\x0f", {GLOBAL: listed([entry] * count)})
+
+
+def nops(size):
+    """One exported function of operators that do nothing."""
+    return running(b"\x01" * size)
+
+
+def custom_sections(size):
+    """Custom sections without content, of a name of one letter."""
+    entry = custom(b"a", b"")
+    return assembled({}, entry * (size // len(entry)))
+
+
+def types(size):
+    """Function types () -> (i32). An exported function calls through a table by each, at the place that the last call gave."""
+    entry = bytes([0x60, 0, 1, I32])
+    count = size // (len(entry) + 5)
+    calls = b"".join(b"\x11" + unsigned(place) + b"\x00" for place in range(1, count + 1))
+    return running(b"\x41\x00" + calls + b"\x1a", {TYPE: listed([NOTHING, *[entry] * count]), TABLE: table(1)})
+
+
+def references(size):
+    """One exported function of references to itself, each of which is dropped."""
+    return running(b"\xd2\x00\x1a" * (size // 3))
+
+
+def functions(size, customs=b"", cost=7):
+    """Functions without operators. An exported table holds them."""
+    count = size // cost
+    return assembled(
+        {
+            TYPE: listed([NOTHING]),
+            FUNCTION: listed([b"\x00"] * count),
+            TABLE: table(count),
+            EXPORT: listed([TABLE_EXPORT]),
+            ELEMENT: filled(range(count)),
+            CODE: listed([EMPTY_BODY] * count),
+        },
+        customs,
+    )
+
+
+def function_names(size):
+    """Functions without operators, each with a name of its own in the name section. An exported table holds them."""
+    cost = 15
+    names = [unsigned(place) + short_name(place) for place in range(size // cost)]
+    return functions(size, custom(b"name", section(1, listed(names))), cost)
+
+
+SHAPES = {
+    "element expressions": element_expressions,
+    "data segments": data_segments,
+    "imports": imports,
+    "producers": producers,
+    "globals": global_variables,
+    "nops": nops,
+    "custom sections": custom_sections,
+    "types": types,
+    "references": references,
+    "functions": functions,
+    "names": function_names,
+}
+
+
+def main():
+    shape = " ".join(sys.argv[2:])
+    makers = {"": code, **SHAPES}
+    if len(sys.argv) < 2 or not sys.argv[1].isdecimal() or shape not in makers:
         sys.exit(__doc__.splitlines()[0])
-    sys.stdout.buffer.write(module(int(sys.argv[1])))
+    sys.stdout.buffer.write(makers[shape](int(sys.argv[1])))
+
+
+if __name__ == "__main__":
+    main()
