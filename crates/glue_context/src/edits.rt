@@ -16,7 +16,7 @@ use printed_adapters::{SHIM, uses_shim};
 use std::alloc::{AllocError, Global};
 use taken_items::added_exports;
 use values::{Duplicate, Seq, Text};
-use wasm_core::{Body, ExportItem, FuncType, GlobalId, ImportId, Module, Op, ValType};
+use wasm_core::{Body, ExportItem, FuncType, GlobalId, ImportId, Module, Op, Ops, ValType};
 
 // Opcodes (WebAssembly core specification, 5.4).
 const LOCAL_GET: u8 = 0x20;
@@ -237,7 +237,7 @@ fn shim_body(alloc: Global, global: GlobalId) -> Result<Body, AllocError>
     ops.push(Op::Global(GLOBAL_GET, global))?;
     Ok(Body {
         locals: Seq::new(alloc),
-        ops,
+        ops: Ops::pack(alloc, ops.as_slice())?,
     })
 }
 

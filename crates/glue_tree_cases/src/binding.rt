@@ -359,6 +359,43 @@ fn numbers_truths_and_helpers(rt: HostRuntime) -> Result<(), AllocError> {
     assert_told(&rt, compared, "(x) {\nreturn (x !== 0) >>> 0 !== 0;\n}")
 }
 
+/// The result of an export, read as unsigned so many times.
+fn unsigned(alloc: Global, times: u64) -> Result<String, AllocError> {
+    let mut steps = Vec::new(alloc);
+    steps.push(asking(alloc, "f", 0)?)?;
+    for _ in 0..times {
+        steps.push(Step::ToUnsigned)?;
+    }
+    bound(alloc, &steps, &[])
+}
+
+/// A parameter that is lent so many times, each time what the one before gave.
+fn lent(alloc: Global, times: u64) -> Result<String, AllocError> {
+    let mut steps = Vec::new(alloc);
+    steps.push(Step::Parameter(0))?;
+    for _ in 0..times {
+        steps.push(Step::IndexFromBorrow)?;
+    }
+    bound(alloc, &steps, &["x"])
+}
+
+/// How many pieces a text has between these words: one more than there are words.
+fn pieces(text: &str, word: &str) -> usize {
+    text.split(word).count()
+}
+
+#[test]
+fn what_nests_has_a_limit(rt: HostRuntime) -> Result<(), AllocError> {
+    let alloc = rt.alloc();
+    let deepest = unsigned(alloc, 5_000)?;
+    assert!(rt; pieces(&deepest, " >>> 0") == 5_001);
+    assert!(rt; unsigned(alloc, 5_001).is_err());
+    let deepest = lent(alloc, 5_000)?;
+    assert!(rt; pieces(&deepest, "} finally {") == 5_001);
+    assert!(rt; lent(alloc, 5_001).is_err());
+    Ok(())
+}
+
 const WITH_THIS: Form = Form {
     takes_this: true,
     has_rest: false,

@@ -26,11 +26,11 @@ rest_in : {A : Type 0} → Input → Result (A × Input) ℕ → Input
 rest_in d (Ok p) = p.1
 rest_in d (Err place) = d
 
-same_value : {A : Type 0} (x y : A) (s t : Input) → ◌≡◌ {A = Result (A × Input) ℕ} (Ok (x, s)) (Ok (y, t)) → x ≡ y
+pub same_value : {A : Type 0} (x y : A) (s t : Input) → ◌≡◌ {A = Result (A × Input) ℕ} (Ok (x, s)) (Ok (y, t)) → x ≡ y
 unfolding value_in
 same_value x y s t h = ap (value_in x) h
 
-same_rest : {A : Type 0} (x y : A) (s t : Input) → ◌≡◌ {A = Result (A × Input) ℕ} (Ok (x, s)) (Ok (y, t)) → s ≡ t
+pub same_rest : {A : Type 0} (x y : A) (s t : Input) → ◌≡◌ {A = Result (A × Input) ℕ} (Ok (x, s)) (Ok (y, t)) → s ≡ t
 unfolding rest_in
 same_rest x y s t h = ap (rest_in s) h
 

@@ -10,3 +10,5 @@ mod compare;
 mod containers;
 #[cfg(test)]
 mod ops;
+#[cfg(test)]
+mod packed;

@@ -4,7 +4,7 @@ use std::process::Abort;
 use values::Seq;
 use wasm_bytes::{Counts, ReadFault, Reader, push_number};
 use wasm_ops::{
-    Body, Numbering, ValType, number_at, read_code_entry, read_initial, read_initials, write_code,
+    Body, Numbering, Ops, ValType, number_at, read_code_entry, read_initial, read_initials, write_code,
     write_expression,
 };
 
@@ -94,7 +94,7 @@ fn body_of(alloc: Global, ops: &[u8]) -> Result<Body, ReadFault> {
 }
 
 fn ops_told(alloc: Global, body: &Body) -> Result<String, AllocError> {
-    format!(in alloc; "{:?}", body.ops.as_slice())
+    format!(in alloc; "{:?}", body.ops)
 }
 
 /// Each place has itself as its number where a body is written.
@@ -366,7 +366,7 @@ fn nested(alloc: Global, depth: u32) -> Result<Vec<u8>, AllocError> {
 }
 
 fn op_count(alloc: Global, ops: &[u8]) -> Result<usize, ReadFault> {
-    Ok(body_of(alloc, ops)?.ops.len())
+    Ok(body_of(alloc, ops)?.ops.unpack(alloc)?.len())
 }
 
 #[test]
@@ -389,7 +389,7 @@ fn body_told(alloc: Global, params: u64, entry: &[u8]) -> Result<String, AllocEr
 fn body_with(alloc: Global, runs: &[(u32, ValType)]) -> Result<Body, AllocError> {
     let mut body = Body {
         locals: Seq::new(alloc),
-        ops: Seq::new(alloc),
+        ops: Ops::new(alloc),
     };
     for run in runs {
         body.locals.push(*run)?;
@@ -409,7 +409,7 @@ fn runs_of_locals_are_joined(rt: HostRuntime) -> Result<(), AllocError> {
     assert_told(
         &rt,
         body_told(rt.alloc(), 1, b"\x0a\x04\x02\x7f\0\x7e\x03\x7f\x01\x7c\x0b"),
-        "Ok(Body { locals: Seq { items: [(5, I32), (1, F64)] }, ops: Seq { items: [] } })",
+        "Ok(Body { locals: Seq { items: [(5, I32), (1, F64)] }, ops: [] })",
     )?;
     let body = body_with(rt.alloc(), RUNS)?;
     assert_bytes(
@@ -435,7 +435,7 @@ fn locals_have_a_limit(rt: HostRuntime) -> Result<(), AllocError> {
     assert_told(
         &rt,
         body_told(rt.alloc(), 0, b"\x08\x01\xff\xff\xff\xff\x0f\x7f\x0b"),
-        "Ok(Body { locals: Seq { items: [(4294967295, I32)] }, ops: Seq { items: [] } })",
+        "Ok(Body { locals: Seq { items: [(4294967295, I32)] }, ops: [] })",
     )
 }
 
@@ -446,7 +446,7 @@ const OTHERS: &[&[u32]] = &[&[64, 7], &[9, 300], &[3], &[1, 0], &[4], &[5], &[6]
 fn renumbered(alloc: Global, body: &Body) -> Result<Vec<u8>, AllocError> {
     let numbers = numbering(alloc, OTHERS)?;
     let mut out = Vec::new(alloc);
-    let done = write_expression(&mut out, &numbers, body.ops.as_slice());
+    let done = write_expression(&mut out, &numbers, &body.ops);
     drop(numbers);
     done.and(Ok(out))
 }
@@ -522,14 +522,14 @@ fn initial_expressions(rt: HostRuntime) -> Result<(), AllocError> {
             2,
             b"\x41\x01\x23\0\x6a\x42\x02\x7e\xd2\x02\xd0\x70\x0b\x43\0\0\0\0\x0b",
         ),
-        "Ok(Seq { items: [Seq { items: [Const32(1), Global(35, GlobalId(0)), Plain(106), Const64(2), Plain(126), Func(210, FuncId(2)), RefNull(FuncRef)] }, Seq { items: [Raw4([0, 0, 0, 0])] }] }), 0 left",
+        "Ok(Seq { items: [[Const32(1), Global(35, GlobalId(0)), Plain(106), Const64(2), Plain(126), Func(210, FuncId(2)), RefNull(FuncRef)], [Raw4([0, 0, 0, 0])]] }), 0 left",
     )
 }
 
 const INITIALS: &[(&[u8], &str)] = &[
     (
         b"\xfd\x0c\0\x01\x02\x03\x04\x05\x06\x07\x08\x09\x0a\x0b\x0c\x0d\x0e\x0f\x0b",
-        "Ok(Seq { items: [SimdBytes(12, [0, 1, 2, 3, 4, 5, 6, 7, 8, 9, 10, 11, 12, 13, 14, 15])] })",
+        "Ok([SimdBytes(12, [0, 1, 2, 3, 4, 5, 6, 7, 8, 9, 10, 11, 12, 13, 14, 15])])",
     ),
     // An operator that can't stand here, another vector, another global, and an end too early.
     (b"\x10\0\x0b", "Err(Parse { place: 0 })"),

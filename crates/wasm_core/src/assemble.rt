@@ -13,7 +13,7 @@ use wasm_file::{
     Custom, FileGlobal, FileImport, ImportType, Names, ProducerField, TableType, read_names,
     read_producers,
 };
-use wasm_ops::{Body, FuncId, GlobalId, ImportId, Limits, MemoryId, TableId, TagId, TypeId};
+use wasm_ops::{Body, FuncId, GlobalId, ImportId, Limits, MemoryId, Ops, TableId, TagId, TypeId};
 
 /// The next places of items, by their kinds.
 #[derive(Clone, Copy)]
@@ -137,7 +137,7 @@ impl Imported for GlobalVar {
                 ty,
                 mutable,
                 import: Some(import),
-                init: Seq::new(alloc),
+                init: Ops::new(alloc),
             }),
             _ => None,
         }

@@ -53,7 +53,7 @@ impl Declares for GlobalVar {
     ghost thing = { things.Global };
 
     fn push_named(&self, out: &mut Vec<Thing>) -> Result<(), AllocError> {
-        push_ops(out, self.init.as_slice())
+        push_ops(out, &self.init)
     }
 
     fn thing(place: u32) -> Thing {

@@ -15,7 +15,7 @@ use std::alloc::{AllocError, Global};
 use std::marker::Model;
 use values::Seq;
 use wasm_file::{Elem, Segment};
-use wasm_ops::{FuncId, Op};
+use wasm_ops::{FuncId, Op, Ops};
 use wasm_reach::{Graph, Thing};
 
 /// A module, with what of its references is known beforehand. A contract sees the module.
@@ -104,11 +104,12 @@ impl<'a> Edges<'a> {
     }
 
     /// Appends what the operators of a body name, and what declares the functions that they take.
-    fn push_body(&self, out: &mut Vec<Thing>, ops: &[Op]) -> Result<(), AllocError>
+    fn push_body(&self, out: &mut Vec<Thing>, ops: &Ops) -> Result<(), AllocError>
         ensures { OnOk result (out.new.items ≡ out.old.items ++ flat_map (body_op_names self.now) ops.now) }
     {
-        for op in ops {
-            self.push_body_op(out, op)?;
+        let mut walk = ops.walk();
+        while let Some(op) = walk.next()? {
+            self.push_body_op(out, &op)?;
         }
         Ok(())
     }
@@ -121,7 +122,7 @@ impl<'a> Edges<'a> {
             Some(func) => {
                 push_thing(out, Thing::Type(func.ty.0))?;
                 match &func.body {
-                    Some(body) => self.push_body(out, body.ops.as_slice()),
+                    Some(body) => self.push_body(out, &body.ops),
                     None => Ok(()),
                 }
             }
@@ -276,7 +277,7 @@ fn push_global_at(
     ensures { OnOk result (out.new.items ≡ out.old.items ++ global_names (entry_at globals.now place)) }
 {
     match entry_at(globals, place) {
-        Some(global) => push_ops(out, global.init.as_slice()),
+        Some(global) => push_ops(out, &global.init),
         None => Ok(()),
     }
 }

@@ -277,7 +277,7 @@ impl FileList for Globals {
             return Ok(false);
         }
         write_global_type(out, item.ty, item.mutable)?;
-        write_expression(out, plan.numbers, item.init.as_slice())?;
+        write_expression(out, plan.numbers, &item.init)?;
         Ok(true)
     }
 }

@@ -5,9 +5,8 @@ ghost use Rattle.std.specs.List.{flat_map};
 ghost use Rattle.wasm_core.specs.Reach.{block_names, catch_names, op_names, ops_names, func_thing, content_names, elem_place_names, segment_place_names};
 
 use std::alloc::AllocError;
-use values::Seq;
 use wasm_file::{Elem, ElemPlace, Segment};
-use wasm_ops::{BlockType, Catch, FuncId, Op};
+use wasm_ops::{BlockType, Catch, FuncId, Op, Ops};
 use wasm_reach::Thing;
 
 /// Appends one thing.
@@ -107,21 +106,22 @@ pub(crate) fn push_op(out: &mut Vec<Thing>, op: &Op) -> Result<(), AllocError>
 }
 
 /// Appends what operators name.
-pub(crate) fn push_ops(out: &mut Vec<Thing>, ops: &[Op]) -> Result<(), AllocError>
+pub(crate) fn push_ops(out: &mut Vec<Thing>, ops: &Ops) -> Result<(), AllocError>
     ensures { OnOk result (out.new.items ≡ out.old.items ++ ops_names ops.now) }
 {
-    for op in ops {
-        push_op(out, op)?;
+    let mut walk = ops.walk();
+    while let Some(op) = walk.next()? {
+        push_op(out, &op)?;
     }
     Ok(())
 }
 
 /// Appends what expressions name.
-fn push_exprs(out: &mut Vec<Thing>, exprs: &[Seq<Op>]) -> Result<(), AllocError>
+fn push_exprs(out: &mut Vec<Thing>, exprs: &[Ops]) -> Result<(), AllocError>
     ensures { OnOk result (out.new.items ≡ out.old.items ++ flat_map ops_names exprs.now) }
 {
     for expr in exprs {
-        push_ops(out, expr.as_slice())?;
+        push_ops(out, expr)?;
     }
     Ok(())
 }
@@ -152,7 +152,7 @@ fn push_elem_place(out: &mut Vec<Thing>, place: &ElemPlace) -> Result<(), AllocE
         ElemPlace::Passive | ElemPlace::Declared => Ok(()),
         ElemPlace::Active(id, offset) => {
             push_thing(out, Thing::Table(id.0))?;
-            push_ops(out, offset.as_slice())
+            push_ops(out, offset)
         }
     }
 }
@@ -173,7 +173,7 @@ pub(crate) fn push_segment(out: &mut Vec<Thing>, segment: &Segment) -> Result<()
         None => Ok(()),
         Some((id, offset)) => {
             push_thing(out, Thing::Memory(id.0))?;
-            push_ops(out, offset.as_slice())
+            push_ops(out, offset)
         }
     }
 }

@@ -11,7 +11,7 @@ use std::alloc::AllocError;
 use values::Seq;
 use wasm_bytes::{push_number, push_u32, write_framed};
 use wasm_file::{Elem, ElemPlace, Segment};
-use wasm_ops::{FuncId, Numbering, Op, TableId, ValType, number_at, write_expression};
+use wasm_ops::{FuncId, Numbering, Ops, TableId, ValType, number_at, write_expression};
 
 /// Whether the type is that of functions.
 fn is_func_ref(ty: ValType) -> bool
@@ -54,7 +54,7 @@ fn write_place(out: &mut Vec<u8>, numbers: &Numbering, elem: &Elem) -> Result<()
             if table != 0 || !is_func_ref(elem.ty) {
                 push_u32(out, table)?;
             }
-            write_expression(out, numbers, init.as_slice())
+            write_expression(out, numbers, init)
         }
         _ => Ok(()),
     }
@@ -87,11 +87,11 @@ fn write_funcs(out: &mut Vec<u8>, numbers: &Numbering, funcs: &[FuncId]) -> Resu
 }
 
 /// Appends expressions.
-fn write_exprs(out: &mut Vec<u8>, numbers: &Numbering, exprs: &[Seq<Op>]) -> Result<(), AllocError>
+fn write_exprs(out: &mut Vec<u8>, numbers: &Numbering, exprs: &[Ops]) -> Result<(), AllocError>
     ensures { OnOk result (out.new.items ≡ out.old.items ++ flat_map expression_bytes (map (renumbered_ops numbers.now) exprs.now)) }
 {
     for expr in exprs {
-        write_expression(out, numbers, expr.as_slice())?;
+        write_expression(out, numbers, expr)?;
     }
     Ok(())
 }
@@ -146,7 +146,7 @@ fn write_segment_place(
                 out.push(2)?;
                 push_u32(out, memory)?;
             }
-            write_expression(out, numbers, init.as_slice())
+            write_expression(out, numbers, init)
         }
     }
 }

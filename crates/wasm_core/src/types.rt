@@ -1,7 +1,7 @@
 //! What a module holds, by ids (WebAssembly core specification, 2.5).
 use values::{Seq, Text};
 use wasm_ops::{
-    Body, FuncId, GlobalId, ImportId, Limits, MemoryId, Op, TableId, TagId, TypeId, ValType,
+    Body, FuncId, GlobalId, ImportId, Limits, MemoryId, Ops, TableId, TagId, TypeId, ValType,
 };
 
 /// A function. It has an import or a body.
@@ -35,7 +35,7 @@ pub struct GlobalVar {
     pub ty: ValType,
     pub mutable: bool,
     pub import: Option<ImportId>,
-    pub init: Seq<Op>,
+    pub init: Ops,
 }
 
 /// A tag of exceptions.

@@ -6,7 +6,8 @@ use crate::work::{Work, assert_worked};
 use std::alloc::{AllocError, Global};
 use values::Seq;
 use wasm_core::{
-    Body, ExportId, ExportItem, FuncId, FuncType, ImportId, ImportKind, Module, ParseFault, ValType,
+    Body, ExportId, ExportItem, FuncId, FuncType, ImportId, ImportKind, Module, Ops, ParseFault,
+    ValType,
 };
 
 /// Type () -> () and an imported tag of it, which is exported.
@@ -42,7 +43,7 @@ fn type_of(alloc: Global, types: &[ValType]) -> Result<FuncType, AllocError> {
 fn no_body(alloc: Global) -> Body {
     Body {
         locals: Seq::new(alloc),
-        ops: Seq::new(alloc),
+        ops: Ops::new(alloc),
     }
 }
 
@@ -114,11 +115,11 @@ fn a_type_that_is_alike_is_shared(rt: HostRuntime) -> Result<(), ParseFault> {
         [Some(FuncType { params: Seq { items: [I32] }, results: Seq { items: [I32] } }), \
         Some(FuncType { params: Seq { items: [] }, results: Seq { items: [] } })] \
         [Some(Func { ty: TypeId(0), name: Some(Text { string: \"f\" }), import: None, \
-        body: Some(Body { locals: Seq { items: [] }, ops: Seq { items: [] } }) }), \
+        body: Some(Body { locals: Seq { items: [] }, ops: [] }) }), \
         Some(Func { ty: TypeId(0), name: Some(Text { string: \"g\" }), import: None, \
-        body: Some(Body { locals: Seq { items: [] }, ops: Seq { items: [] } }) }), \
+        body: Some(Body { locals: Seq { items: [] }, ops: [] }) }), \
         Some(Func { ty: TypeId(1), name: Some(Text { string: \"h\" }), import: None, \
-        body: Some(Body { locals: Seq { items: [] }, ops: Seq { items: [] } }) })]",
+        body: Some(Body { locals: Seq { items: [] }, ops: [] }) })]",
     )
 }
 
@@ -177,7 +178,7 @@ fn a_start_function_is_taken_once_and_named(rt: HostRuntime) -> Result<(), Parse
         &Work::TakeStart,
         START,
         "None Some(FuncId(0)) None [Some(Func { ty: TypeId(0), name: Some(Text { string: \"begin\" }), import: None, \
-        body: Some(Body { locals: Seq { items: [] }, ops: Seq { items: [] } }) })]",
+        body: Some(Body { locals: Seq { items: [] }, ops: [] }) })]",
     )
 }
 

@@ -1,7 +1,7 @@
 //! Entries as a file has them, and the lists of its sections (WebAssembly core specification, 5.5).
 use values::{Seq, Text};
 use wasm_ops::{
-    Body, FuncId, FuncType, GlobalId, Limits, MemoryId, Op, TableId, TagId, TypeId, ValType,
+    Body, FuncId, FuncType, GlobalId, Limits, MemoryId, Ops, TableId, TagId, TypeId, ValType,
 };
 
 /// What an import asks for.
@@ -59,7 +59,7 @@ pub struct TableType {
 pub struct FileGlobal {
     pub ty: ValType,
     pub mutable: bool,
-    pub init: Seq<Op>,
+    pub init: Ops,
 }
 
 /// Where an element segment goes.
@@ -68,7 +68,7 @@ pub enum ElemPlace {
     Passive,
     Declared,
     /// Into a table, from the place that an expression gives.
-    Active(TableId, Seq<Op>),
+    Active(TableId, Ops),
 }
 
 /// An element segment: functions, or an expression for each entry.
@@ -77,13 +77,13 @@ pub struct Elem {
     pub place: ElemPlace,
     pub ty: ValType,
     pub funcs: Seq<FuncId>,
-    pub exprs: Seq<Seq<Op>>,
+    pub exprs: Seq<Ops>,
 }
 
 /// A data segment. One that is active has a memory and an expression for its place.
 #[derive(Debug, Drop)]
 pub struct Segment {
-    pub place: Option<(MemoryId, Seq<Op>)>,
+    pub place: Option<(MemoryId, Ops)>,
     pub bytes: Seq<u8>,
 }
 

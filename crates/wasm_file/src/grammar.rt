@@ -14,7 +14,7 @@ use std::alloc::Global;
 use values::Seq;
 use wasm_bytes::{Counts, Entry, ReadFault, Reader, read_entries, read_exactly, read_name};
 use wasm_ops::{
-    FuncId, GlobalId, Limits, MemoryId, Op, TableId, TagId, TypeId, ValType, read_initial,
+    FuncId, GlobalId, Limits, MemoryId, Ops, TableId, TagId, TypeId, ValType, read_initial,
     read_initials, read_ref_type,
 };
 
@@ -381,7 +381,7 @@ fn read_elem_entries(
     reader: &mut Reader<'_>,
     alloc: Global,
     counts: &Counts,
-) -> Result<(Seq<FuncId>, Seq<Seq<Op>>), ReadFault>
+) -> Result<(Seq<FuncId>, Seq<Ops>), ReadFault>
     ensures { Gives result reader.new (elem_entries counts.now flags reader.old) }
 {
     let count = reader.number32()?;
@@ -450,7 +450,7 @@ fn read_segment_place(
     reader: &mut Reader<'_>,
     alloc: Global,
     counts: &Counts,
-) -> Result<Option<(MemoryId, Seq<Op>)>, ReadFault>
+) -> Result<Option<(MemoryId, Ops)>, ReadFault>
     ensures { Gives result reader.new (segment_place counts.now flags reader.old) }
 {
     if flags == 1 {

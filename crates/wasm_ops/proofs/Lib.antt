@@ -1,3 +1,4 @@
 pub mod RunSteps
 pub mod Made
 pub mod Written
+pub mod PackedAgain

@@ -6,3 +6,4 @@ pub mod Locals
 pub mod Numbers
 pub mod Code
 pub mod Spelling
+pub mod Packed

@@ -8,6 +8,7 @@ ghost use Rattle.wasm_ops.specs.Code.{labels_after, op, next_op, expression, nex
 use crate::locals::{join_runs, read_runs};
 use crate::operands::read_operands;
 use crate::ops::{Body, Op};
+use crate::packed::Ops;
 use crate::shapes::{initial_shape, named_blocks, shape_within};
 use std::alloc::{AllocError, Global};
 use values::Seq;
@@ -73,15 +74,16 @@ fn read_expression(
     reader: &mut Reader<'_>,
     alloc: Global,
     counts: &Counts,
-) -> Result<Seq<Op>, ReadFault>
+) -> Result<Ops, ReadFault>
     ensures { Gives result reader.new (expression counts.now reader.old) }
 {
     let mut labels = vec![in alloc; false]?;
-    let mut ops = Seq::new(alloc);
+    let mut room = Vec::new(alloc);
+    let mut ops = Ops::new(alloc);
     for _ in 0..reader.len() {
         match read_next_op(reader, alloc, counts, &mut labels)? {
             None => return Ok(ops),
-            Some(op) => ops.push(op)?,
+            Some(op) => ops.push(&mut room, &op)?,
         }
     }
     Err(ReadFault::Parse {
@@ -114,14 +116,15 @@ pub fn read_initial(
     reader: &mut Reader<'_>,
     alloc: Global,
     counts: &Counts,
-) -> Result<Seq<Op>, ReadFault>
+) -> Result<Ops, ReadFault>
     ensures { Gives result reader.new (initial counts.now reader.old) }
 {
-    let mut ops = Seq::new(alloc);
+    let mut room = Vec::new(alloc);
+    let mut ops = Ops::new(alloc);
     for _ in 0..reader.len() {
         match read_next_initial(reader, alloc, counts)? {
             None => return Ok(ops),
-            Some(op) => ops.push(op)?,
+            Some(op) => ops.push(&mut room, &op)?,
         }
     }
     Err(ReadFault::Parse {
@@ -135,7 +138,7 @@ pub fn read_initials(
     reader: &mut Reader<'_>,
     alloc: Global,
     counts: &Counts,
-) -> Result<Seq<Seq<Op>>, ReadFault>
+) -> Result<Seq<Ops>, ReadFault>
     ensures { Gives result reader.new (entries count (initial counts.now) reader.old) }
 {
     let mut expressions = Seq::new(alloc);
@@ -163,12 +166,9 @@ fn read_body(
         ..*counts
     };
     let locals = join_runs(alloc, runs.as_slice())?;
-    let mut ops = read_expression(reader, alloc, &counts)?.into_vec();
+    let mut ops = read_expression(reader, alloc, &counts)?;
     ops.shrink_to_fit();
-    Ok(Body {
-        locals,
-        ops: Seq::from_vec(ops),
-    })
+    Ok(Body { locals, ops })
 }
 
 /// A body behind its length, of a function with so many parameters.

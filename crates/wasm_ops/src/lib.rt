@@ -11,12 +11,17 @@
 mod code;
 mod entries;
 mod ids;
+mod kinds;
+mod lists;
 mod locals;
 mod operands;
 mod ops;
+mod packed;
+mod packing;
 mod shapes;
 mod spelling;
 mod types;
+mod unpacking;
 
 pub use code::{read_code_entry, read_initial, read_initials};
 pub use entries::read_ref_type;
@@ -24,5 +29,6 @@ pub use ids::{
     DataId, ElemId, ExportId, FuncId, GlobalId, ImportId, MemoryId, TableId, TagId, TypeId,
 };
 pub use ops::{BlockType, Body, Catch, MemArg, Numbering, Op};
+pub use packed::{Ops, Walk};
 pub use spelling::{number_at, write_code, write_expression};
 pub use types::{FuncType, Limits, ValType};

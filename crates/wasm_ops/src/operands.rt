@@ -203,7 +203,7 @@ fn read_mem_arg(
 }
 
 /// Raw bytes, as many as the array holds.
-fn read_array<const N: usize>(reader: &mut Reader<'_>) -> Result<[u8; N], ReadFault>
+pub(crate) fn read_array<const N: usize>(reader: &mut Reader<'_>) -> Result<[u8; N], ReadFault>
     ensures { Gives result reader.new (raw N reader.old) }
 {
     let bytes = reader.raw(N)?;

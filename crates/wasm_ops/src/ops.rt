@@ -2,6 +2,7 @@
 //! A number that stands first is the opcode, for the prefixes `FC` and `FD` the number after the prefix.
 
 use crate::ids::{DataId, ElemId, FuncId, GlobalId, MemoryId, TableId, TagId, TypeId};
+use crate::packed::Ops;
 use crate::types::ValType;
 use values::Seq;
 
@@ -75,7 +76,7 @@ pub enum Op {
 #[derive(Debug, Drop)]
 pub struct Body {
     pub locals: Seq<(u32, ValType)>,
-    pub ops: Seq<Op>,
+    pub ops: Ops,
 }
 
 /// The number that each place of a module's lists has in the file that is written.

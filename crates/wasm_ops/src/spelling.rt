@@ -12,6 +12,7 @@ ghost use Rattle.wasm_ops.specs.Spelling.{val_type_bytes, func_type_bytes, block
 use crate::ids::{TableId, TypeId};
 use crate::locals::join_runs;
 use crate::ops::{BlockType, Body, Catch, MemArg, Numbering, Op};
+use crate::packed::Ops;
 use crate::types::{FuncType, ValType};
 use std::alloc::{AllocError, Global};
 use values::Seq;
@@ -49,7 +50,7 @@ pub fn number_at(numbers: &Seq<u32>, place: u32) -> u32
 }
 
 /// Appends a byte and a number.
-fn push_coded(out: &mut Vec<u8>, code: u8, number: u32) -> Result<(), AllocError>
+pub(crate) fn push_coded(out: &mut Vec<u8>, code: u8, number: u32) -> Result<(), AllocError>
     ensures { OnOk result (out.new.items ≡ out.old.items ++ coded code number) }
 {
     out.push(code)?;
@@ -57,7 +58,7 @@ fn push_coded(out: &mut Vec<u8>, code: u8, number: u32) -> Result<(), AllocError
 }
 
 /// Appends a byte and two numbers.
-fn push_coded_pair(out: &mut Vec<u8>, code: u8, first: u32, second: u32) -> Result<(), AllocError>
+pub(crate) fn push_coded_pair(out: &mut Vec<u8>, code: u8, first: u32, second: u32) -> Result<(), AllocError>
     ensures { OnOk result (out.new.items ≡ out.old.items ++ (coded code first ++ number_bytes second)) }
 {
     push_coded(out, code, first)?;
@@ -178,7 +179,7 @@ fn write_simd_mem(
 }
 
 /// Appends a byte, a number and raw bytes.
-fn push_coded_bytes(
+pub(crate) fn push_coded_bytes(
     out: &mut Vec<u8>,
     code: u8,
     number: u32,
@@ -191,7 +192,7 @@ fn push_coded_bytes(
 }
 
 /// Appends a byte and raw bytes.
-fn push_bytes(out: &mut Vec<u8>, code: u8, bytes: &[u8]) -> Result<(), AllocError>
+pub(crate) fn push_bytes(out: &mut Vec<u8>, code: u8, bytes: &[u8]) -> Result<(), AllocError>
     ensures { OnOk result (out.new.items ≡ out.old.items ++ code ∷ bytes.now) }
 {
     out.push(code)?;
@@ -269,7 +270,7 @@ fn write_mem(
 }
 
 /// Appends an opcode and a number with a sign.
-fn push_coded_signed(out: &mut Vec<u8>, code: u8, value: i64) -> Result<(), AllocError>
+pub(crate) fn push_coded_signed(out: &mut Vec<u8>, code: u8, value: i64) -> Result<(), AllocError>
     ensures { OnOk result (out.new.items ≡ out.old.items ++ code ∷ signed_bytes value) }
 {
     out.push(code)?;
@@ -334,11 +335,12 @@ fn write_op(out: &mut Vec<u8>, numbers: &Numbering, op: &Op) -> Result<(), Alloc
 }
 
 /// Appends operators with the numbers of what they name, one after another.
-fn write_each_op(out: &mut Vec<u8>, numbers: &Numbering, ops: &[Op]) -> Result<(), AllocError>
+fn write_each_op(out: &mut Vec<u8>, numbers: &Numbering, ops: &Ops) -> Result<(), AllocError>
     ensures { OnOk result (out.new.items ≡ out.old.items ++ flat_map op_bytes (renumbered_ops numbers.now ops.now)) }
 {
-    for op in ops {
-        write_op(out, numbers, op)?;
+    let mut walk = ops.walk();
+    while let Some(op) = walk.next()? {
+        write_op(out, numbers, &op)?;
     }
     Ok(())
 }
@@ -348,7 +350,7 @@ fn write_each_op(out: &mut Vec<u8>, numbers: &Numbering, ops: &[Op]) -> Result<(
 pub fn write_expression(
     out: &mut Vec<u8>,
     numbers: &Numbering,
-    ops: &[Op],
+    ops: &Ops,
 ) -> Result<(), AllocError>
     ensures { OnOk result (out.new.items ≡ out.old.items ++ expression_bytes (renumbered_ops numbers.now ops.now)) }
 {
@@ -398,6 +400,6 @@ pub fn write_code(
 {
     let mut content = Vec::new(alloc);
     write_runs(&mut content, alloc, body.locals.as_slice())?;
-    write_expression(&mut content, numbers, body.ops.as_slice())?;
+    write_expression(&mut content, numbers, &body.ops)?;
     write_framed(out, content.as_slice())
 }

@@ -1,7 +1,10 @@
-use Rattle.std.proofs.Common.{◌≡◌, ◌++◌, take}
+use Rattle.std.proofs.Common.{◌≡◌, ◌++◌, length}
 use Rattle.std.specs.List.{flat_map}
 use Rattle.wasm_core.specs.Reach.{body_op_names}
 use Rattle.wasm_core.proofs.edges.Edges.push_body.Given as goal
 
 abbrev pub invariant-loop-op : goal.invariant-loop-op
-invariant-loop-op l = l.out.items ≡ l.fn.out.items ++ flat_map (body_op_names l.self) (take l.op-index l.ops)
+invariant-loop-op l = l.out.items ++ flat_map (body_op_names l.self) l.walk ≡ l.fn.out.items ++ flat_map (body_op_names l.self) l.ops
+
+abbrev pub decreases-loop-op : goal.decreases-loop-op
+decreases-loop-op l = length l.walk

@@ -1,0 +1,103 @@
+//! Operators that are kept packed are given back as they were.
+use crate::compare::{assert_told, debugged};
+use std::alloc::{AllocError, Global};
+use std::process::Abort;
+use values::Seq;
+use wasm_ops::{
+    BlockType, Catch, DataId, ElemId, FuncId, GlobalId, MemArg, MemoryId, Op, Ops, TableId, TagId,
+    TypeId, ValType,
+};
+
+const MAX: u32 = u32::MAX;
+
+const FAR: MemArg = MemArg {
+    align: MAX,
+    memory: MemoryId(MAX),
+    offset: u64::MAX,
+};
+
+/// Operators that hold the greatest numbers of their types, and bytes that no file has there.
+fn greatest() -> [Op; 18] {
+    [
+        Op::Plain(255),
+        Op::Block(255, BlockType::Index(TypeId(MAX))),
+        Op::Tag(255, TagId(MAX)),
+        Op::Label(255, MAX),
+        Op::Func(255, FuncId(MAX)),
+        Op::Indirect(255, TypeId(MAX), TableId(MAX)),
+        Op::Local(255, MAX),
+        Op::Global(255, GlobalId(MAX)),
+        Op::Table(255, TableId(MAX)),
+        Op::Mem(255, FAR),
+        Op::Memory(255, MemoryId(MAX)),
+        Op::Const32(i32::MAX),
+        Op::Const64(i64::MAX),
+        Op::Raw4([255; 4]),
+        Op::Raw8([255; 8]),
+        Op::RefNull(ValType::V128),
+        Op::FcPlain(MAX),
+        Op::MemoryInit(DataId(MAX), MemoryId(MAX)),
+    ]
+}
+
+/// The others of one kind each.
+fn others() -> [Op; 16] {
+    [
+        Op::Block(0, BlockType::Empty),
+        Op::Block(0, BlockType::Value(ValType::ExnRef)),
+        Op::Const32(i32::MIN),
+        Op::Const64(i64::MIN),
+        Op::DataDrop(DataId(MAX)),
+        Op::MemoryCopy(MemoryId(MAX), MemoryId(0)),
+        Op::MemoryFill(MemoryId(MAX)),
+        Op::TableInit(ElemId(MAX), TableId(0)),
+        Op::ElemDrop(ElemId(MAX)),
+        Op::TableCopy(TableId(0), TableId(MAX)),
+        Op::FcTable(MAX, TableId(MAX)),
+        Op::Simd(MAX),
+        Op::SimdMem(MAX, FAR),
+        Op::SimdMemLane(MAX, FAR, 255),
+        Op::SimdBytes(MAX, [255; 16]),
+        Op::SimdLane(MAX, 255),
+    ]
+}
+
+/// Operators with lists inside, empty ones and others.
+fn listed(alloc: Global) -> Result<Seq<Op>, AllocError> {
+    let mut labels = Seq::new(alloc);
+    let mut types = Seq::new(alloc);
+    let mut clauses = Seq::new(alloc);
+    for label in [0, 127, 128, MAX] {
+        labels.push(label)?;
+        types.push(ValType::F64)?;
+        clauses.push(Catch::Tag(255, TagId(MAX), label))?;
+        clauses.push(Catch::All(255, label))?;
+    }
+    let mut ops = Seq::new(alloc);
+    ops.push(Op::BrTable(Seq::new(alloc), 0))?;
+    ops.push(Op::BrTable(labels, MAX))?;
+    ops.push(Op::Select(Seq::new(alloc)))?;
+    ops.push(Op::Select(types))?;
+    ops.push(Op::TryTable(BlockType::Empty, Seq::new(alloc)))?;
+    ops.push(Op::TryTable(BlockType::Index(TypeId(MAX)), clauses))?;
+    Ok(ops)
+}
+
+/// The operators as they are printed after they were packed, and the list of them.
+fn assert_given_back<H: Abort>(rt: &H, alloc: Global, ops: &[Op]) -> Result<(), AllocError> {
+    let want = format!(in alloc; "{ops:?}")?;
+    let packed = Ops::pack(alloc, ops)?;
+    let list = packed.unpack(alloc)?;
+    assert_told(rt, format!(in alloc; "{:?}", list.as_slice()), &want)?;
+    assert_told(rt, debugged(alloc, packed), &want)
+}
+
+#[test]
+fn what_is_packed_is_given_back(rt: HostRuntime) -> Result<(), AllocError> {
+    let alloc = rt.alloc();
+    assert_given_back(&rt, alloc, &[])?;
+    assert_given_back(&rt, alloc, &greatest())?;
+    assert_given_back(&rt, alloc, &others())?;
+    let listed = listed(alloc)?;
+    assert_given_back(&rt, alloc, listed.as_slice())
+}

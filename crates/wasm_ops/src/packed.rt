@@ -1,0 +1,147 @@
+//! Operators that are kept as bytes.
+
+ghost use Rattle.std.specs.Prelude.{◌≡◌, ◌∷◌, ◌++◌, [], IfOk, OnOk, OnErr};
+ghost use Rattle.wasm_ops.specs.Packed.{Steps};
+
+use crate::ops::Op;
+use crate::packing::pack_op;
+use crate::unpacking::read_packed;
+use std::alloc::{AllocError, Global};
+use std::fmt::{self, Debug, Formatter, Write};
+use std::marker::Model;
+use values::Seq;
+use wasm_bytes::Reader;
+
+/// Operators one after another. A contract sees their list; in memory they are bytes, about as many as in a file.
+#[derive(Drop)]
+pub struct Ops {
+    bytes: Vec<u8>,
+}
+
+impl Model for Ops {
+    ghost use Rattle.std.specs.Prelude.{List};
+    ghost use Rattle.wasm_ops.specs.declared.ops.Op.{Op};
+    ghost use Rattle.wasm_ops.specs.Packed.{unpacked, IsPacked};
+
+    ghost Value = { List Op };
+
+    ghost view = { λ ops. unpacked (record { place = 0; bytes = ops.bytes.items }) };
+
+    ghost invariant = { λ ops. IsPacked (record { place = 0; bytes = ops.bytes.items }) };
+}
+
+impl Ops {
+    /// No operators.
+    #[tactic(auto, using(crate::proofs::PackedAgain::packed_none))]
+    pub fn new(alloc: Global) -> Ops
+        ensures { result ≡ [] }
+    {
+        Ops {
+            bytes: Vec::new(alloc),
+        }
+    }
+
+    /// Puts an operator behind the others. It is packed into `room` first, whose content is of no use; want of memory leaves these as they are. A list
+    /// of more than 4,294,967,295 labels, types or clauses comes to want of memory.
+    #[tactic(auto, using(crate::proofs::PackedAgain::packed_more))]
+    pub fn push(&mut self, room: &mut Vec<u8>, op: &Op) -> Result<(), AllocError>
+        ensures ok { OnOk result (self.new ≡ self.old ++ op.now ∷ []) }
+        ensures err { OnErr result (self.new ≡ self.old) }
+    {
+        room.clear();
+        pack_op(room, op)?;
+        self.bytes.extend_from_slice(room)?;
+        Ok(())
+    }
+
+    /// Gives back the memory that no operator needs.
+    pub fn shrink_to_fit(&mut self)
+        ensures { self.new ≡ self.old }
+    {
+        self.bytes.shrink_to_fit();
+    }
+
+    /// These operators, packed.
+    pub fn pack(alloc: Global, list: &[Op]) -> Result<Ops, AllocError>
+        ensures { IfOk result (λ ops. ops ≡ list.now) }
+    {
+        let mut room = Vec::new(alloc);
+        let mut ops = Ops::new(alloc);
+        for op in list {
+            ops.push(&mut room, op)?;
+        }
+        Ok(ops)
+    }
+
+    /// The list of the operators.
+    pub fn unpack(&self, alloc: Global) -> Result<Seq<Op>, AllocError>
+        ensures { IfOk result (λ list. list ≡ self.now) }
+    {
+        let mut list = Seq::new(alloc);
+        let mut walk = self.walk();
+        while let Some(op) = walk.next()? {
+            list.push(op)?;
+        }
+        Ok(list)
+    }
+
+    /// The operators, from the first on.
+    pub fn walk(&self) -> Walk<'_>
+        ensures { result ≡ self.now }
+    {
+        Walk {
+            reader: Reader::new(&self.bytes),
+            alloc: *self.bytes.allocator(),
+        }
+    }
+}
+
+/// As a list.
+impl Debug for Ops {
+    fn fmt<W: Write>(&self, f: &mut Formatter<W>) -> fmt::Result {
+        let mut walk = self.walk();
+        let mut list = f.debug_list();
+        while let Some(op) = walk.next().map_err(|_| fmt::Error)? {
+            list.entry(&op);
+        }
+        list.finish()
+    }
+}
+
+/// The operators that are still to come. A contract sees their list.
+#[derive(Drop)]
+pub struct Walk<'a> {
+    reader: Reader<'a>,
+    alloc: Global,
+}
+
+impl<'a> Model for Walk<'a> {
+    ghost use Rattle.std.specs.Prelude.{List};
+    ghost use Rattle.wasm_ops.specs.declared.ops.Op.{Op};
+    ghost use Rattle.wasm_ops.specs.Packed.{unpacked, IsPacked};
+
+    ghost Value = { List Op };
+
+    ghost view = { λ walk. unpacked walk.reader };
+
+    ghost invariant = { λ walk. IsPacked walk.reader };
+}
+
+impl<'a> Walk<'a> {
+    /// The next operator, none behind the last. A list inside it takes memory; where that is missing, none are left.
+    #[tactic(auto, using(crate::proofs::PackedAgain::packed_empty, crate::proofs::PackedAgain::packed_none, crate::proofs::PackedAgain::walked))]
+    pub fn next(&mut self) -> Result<Option<Op>, AllocError>
+        ensures { IfOk result (λ found. Steps found self.old self.new) }
+    {
+        if self.reader.len() == 0 {
+            return Ok(None);
+        }
+        match read_packed(&mut self.reader, self.alloc) {
+            Ok(op) => Ok(Some(op)),
+            Err(_) => {
+                self.reader = Reader::new(&[]);
+                Err(AllocError)
+            }
+        }
+    }
+}
