@@ -4,8 +4,8 @@ use std::process::Abort;
 use values::Seq;
 use wasm_bytes::{Counts, ReadFault, Reader, push_number};
 use wasm_ops::{
-    Body, Numbering, Ops, ValType, number_at, read_code_entry, read_initial, read_initials, write_code,
-    write_expression,
+    Body, Numbering, Ops, ValType, number_at, read_code_entry, read_initial, read_initials,
+    write_code, write_expression,
 };
 
 const COUNTS: Counts = Counts {

@@ -18,7 +18,7 @@ use wasm_file::{
     write_global_type, write_limits, write_tag,
 };
 use wasm_ops::{
-    Body, FuncId, FuncType, GlobalId, Limits, MemoryId, Numbering, TableId, TagId, TypeId,
+    Body, FuncId, FuncType, GlobalId, Limits, MemoryId, Numbering, Ops, TableId, TagId, TypeId,
     number_at, write_code, write_expression,
 };
 
@@ -363,7 +363,7 @@ fn empty_body(alloc: Global) -> Body
 {
     Body {
         locals: Seq::new(alloc),
-        ops: Seq::new(alloc),
+        ops: Ops::new(alloc),
     }
 }
 

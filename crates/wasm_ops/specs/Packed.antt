@@ -152,9 +152,9 @@ unpacked_catch_as number =
       code ← byte
       p ← both number32 number32
       pure (catches.Tag code (record { 0 = p.0 }) p.1)) else (do
-      code ← byte
-      label ← number32
-      pure (catches.All code label))
+        code ← byte
+        label ← number32
+        pure (catches.All code label))
 
 unfoldable pub unpacked_catch : Input → Result (Catch × Input) ℕ
 unpacked_catch = byte >>= unpacked_catch_as

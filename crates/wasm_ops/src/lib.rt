@@ -5,6 +5,9 @@
 //! blocks are a list, so a body may nest as deeply as its bytes allow. What is written is exactly the spelling in `specs/`:
 //! numbers in their shortest form, runs of locals joined, entries by the numbers that a `Numbering` gives them.
 //!
+//! The operators of a body or an expression are kept packed (`Ops`), as the bytes of each variant and of what it holds. A contract
+//! sees their list: what is pushed stands behind the others (`push`), and a walk gives one after another (`Walk::next`).
+//!
 //! It stands on `wasm_bytes` and `values`.
 #![tactic(auto)]
 

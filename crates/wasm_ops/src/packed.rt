@@ -41,8 +41,8 @@ impl Ops {
         }
     }
 
-    /// Puts an operator behind the others. It is packed into `room` first, whose content is of no use; want of memory leaves these as they are. A list
-    /// of more than 4,294,967,295 labels, types or clauses comes to want of memory.
+    /// Puts an operator behind the others. It is packed into `room` first, whose old content is dropped. Want of memory leaves these
+    /// operators as they are; more than 4,294,967,295 labels, types or clauses in one operator come to want of memory.
     #[tactic(auto, using(crate::proofs::PackedAgain::packed_more))]
     pub fn push(&mut self, room: &mut Vec<u8>, op: &Op) -> Result<(), AllocError>
         ensures ok { OnOk result (self.new ≡ self.old ++ op.now ∷ []) }

@@ -8,7 +8,9 @@ ghost use Rattle.wasm_ops.specs.Packed.{packed_block, packed_catch, packed_arg, 
 
 use crate::lists::pack_list;
 use crate::ops::{BlockType, Catch, MemArg, Op};
-use crate::spelling::{push_bytes, push_coded, push_coded_bytes, push_coded_pair, push_coded_signed};
+use crate::spelling::{
+    push_bytes, push_coded, push_coded_bytes, push_coded_pair, push_coded_signed,
+};
 use crate::types::ValType;
 use std::alloc::AllocError;
 use wasm_bytes::{push_number, push_u32};
@@ -87,7 +89,12 @@ fn pack_coded_two(out: &mut Vec<u8>, number: u8, code: u8, n: u32, m: u32) -> Re
 }
 
 /// Appends two bytes and a block type.
-fn pack_coded_block(out: &mut Vec<u8>, number: u8, code: u8, ty: BlockType) -> Result<(), AllocError>
+fn pack_coded_block(
+    out: &mut Vec<u8>,
+    number: u8,
+    code: u8,
+    ty: BlockType,
+) -> Result<(), AllocError>
     ensures bytes { OnOk result (out.new.items ≡ out.old.items ++ number ∷ code ∷ packed_block ty) }
     ensures words { HasWordsBlock ty }
 {

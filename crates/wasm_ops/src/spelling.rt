@@ -58,7 +58,12 @@ pub(crate) fn push_coded(out: &mut Vec<u8>, code: u8, number: u32) -> Result<(),
 }
 
 /// Appends a byte and two numbers.
-pub(crate) fn push_coded_pair(out: &mut Vec<u8>, code: u8, first: u32, second: u32) -> Result<(), AllocError>
+pub(crate) fn push_coded_pair(
+    out: &mut Vec<u8>,
+    code: u8,
+    first: u32,
+    second: u32,
+) -> Result<(), AllocError>
     ensures { OnOk result (out.new.items ≡ out.old.items ++ (coded code first ++ number_bytes second)) }
 {
     push_coded(out, code, first)?;
@@ -347,11 +352,7 @@ fn write_each_op(out: &mut Vec<u8>, numbers: &Numbering, ops: &Ops) -> Result<()
 
 /// Appends operators with the numbers of what they name, and the one that ends them.
 #[tactic(auto, unfolding(crate::specs::Spelling::expression_bytes))]
-pub fn write_expression(
-    out: &mut Vec<u8>,
-    numbers: &Numbering,
-    ops: &Ops,
-) -> Result<(), AllocError>
+pub fn write_expression(out: &mut Vec<u8>, numbers: &Numbering, ops: &Ops) -> Result<(), AllocError>
     ensures { OnOk result (out.new.items ≡ out.old.items ++ expression_bytes (renumbered_ops numbers.now ops.now)) }
 {
     write_each_op(out, numbers, ops)?;

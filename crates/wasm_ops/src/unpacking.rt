@@ -235,9 +235,7 @@ fn read_as(reader: &mut Reader<'_>, alloc: Global, kind: Kind) -> Result<Op, Rea
         Kind::Raw8 => read_array(reader).map(Op::Raw8),
         Kind::RefNull => read_val_type(reader).map(Op::RefNull),
         Kind::FcPlain => reader.number32().map(Op::FcPlain),
-        Kind::MemoryInit => {
-            read_two(reader).map(|p| Op::MemoryInit(DataId(p.0), MemoryId(p.1)))
-        }
+        Kind::MemoryInit => { read_two(reader).map(|p| Op::MemoryInit(DataId(p.0), MemoryId(p.1))) }
         Kind::DataDrop => reader.number32().map(|n| Op::DataDrop(DataId(n))),
         Kind::MemoryCopy => {
             read_two(reader).map(|p| Op::MemoryCopy(MemoryId(p.0), MemoryId(p.1)))
