@@ -2,5 +2,5 @@ pub mod Spelling
 pub mod Form
 pub mod Outer
 pub mod Body
-pub mod Depth
+pub mod Nesting
 pub mod Binding

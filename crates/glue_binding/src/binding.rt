@@ -1,11 +1,12 @@
 //! From steps to a function of a form.
-ghost use Rattle.std.specs.Prelude.{◌≡◌, [], IfOk};
+ghost use Rattle.std.specs.Prelude.{◌≡◌, [], false, IfOk};
 ghost use Rattle.glue_binding.specs.Binding.{IsBoundFunction};
+ghost use Rattle.glue_binding.specs.Nesting.{nests_too_often};
 
 use crate::body::body_of;
-use crate::depth::keep_shallow;
 use crate::draw::{draw, temporaries_of};
 use crate::form::Form;
+use crate::nesting::check_nesting;
 use crate::parameters::{form_words_of, parameters_of};
 use crate::seed::{reserve_names, reserve_seed};
 use glue_scope::Names;
@@ -19,8 +20,8 @@ use values::{Seq, Text};
 /// and than those that stand around it in the same item.
 ///
 /// Where a step names a parameter that isn't there, or finds no operand, `null` stands for it, in the text as in the
-/// meaning; the steps of a checked adapter never come there. The only error is want of memory. Documentation and
-/// TypeScript signature are empty.
+/// meaning; the steps of a checked adapter never come there. The only error is want of memory; more than 5,000 steps that nest, as
+/// cleanups and readings as unsigned do, come to it. Documentation and TypeScript signature are empty.
 pub fn bind<N: Names>(
     alloc: Global,
     steps: &[Step],
@@ -29,8 +30,9 @@ pub fn bind<N: Names>(
     around: &[Text],
 ) -> Result<JsFunction, AllocError>
     ensures function { IfOk result (λ f. IsBoundFunction form steps.now wanted.now around.now f) }
+    ensures few { IfOk result (λ f. nests_too_often steps.now ≡ false) }
 {
-    keep_shallow(steps)?;
+    check_nesting(steps)?;
     let mut scope = N::new(alloc);
     reserve_seed(alloc, &mut scope, steps)?;
     reserve_names(&mut scope, around)?;

@@ -50,7 +50,7 @@ pub fn reserve_names<N: Names>(scope: &mut N, names: &[Text]) -> Result<(), Allo
 
 /// Binds the names from outside that the function of the steps uses, whatever its parameters and temporaries are
 /// called: they are read off its words, spelled with no names drawn. The only error is want of memory.
-pub fn reserve_seed<N: Names>(
+pub(crate) fn reserve_seed<N: Names>(
     alloc: Global,
     scope: &mut N,
     steps: &[Step],

@@ -359,23 +359,28 @@ fn numbers_truths_and_helpers(rt: HostRuntime) -> Result<(), AllocError> {
     assert_told(&rt, compared, "(x) {\nreturn (x !== 0) >>> 0 !== 0;\n}")
 }
 
-/// The result of an export, read as unsigned so many times.
-fn unsigned(alloc: Global, times: u64) -> Result<String, AllocError> {
+/// The result of an export, read as unsigned so many times, with 32 bits or with 64.
+fn unsigned(alloc: Global, is_wide: bool, times: u64) -> Result<String, AllocError> {
     let mut steps = Vec::new(alloc);
     steps.push(asking(alloc, "f", 0)?)?;
     for _ in 0..times {
-        steps.push(Step::ToUnsigned)?;
+        steps.push(if is_wide {
+            Step::ToUnsigned64
+        } else {
+            Step::ToUnsigned
+        })?;
     }
     bound(alloc, &steps, &[])
 }
 
-/// A parameter that is lent so many times, each time what the one before gave.
+/// A parameter that is lent so many times, each time what the one before gave, and whether the last is zero.
 fn lent(alloc: Global, times: u64) -> Result<String, AllocError> {
     let mut steps = Vec::new(alloc);
     steps.push(Step::Parameter(0))?;
     for _ in 0..times {
         steps.push(Step::IndexFromBorrow)?;
     }
+    steps.push(Step::IsNotZero)?;
     bound(alloc, &steps, &["x"])
 }
 
@@ -387,12 +392,19 @@ fn pieces(text: &str, word: &str) -> usize {
 #[test]
 fn what_nests_has_a_limit(rt: HostRuntime) -> Result<(), AllocError> {
     let alloc = rt.alloc();
-    let deepest = unsigned(alloc, 5_000)?;
+    let deepest = unsigned(alloc, false, 5_000)?;
     assert!(rt; pieces(&deepest, " >>> 0") == 5_001);
-    assert!(rt; unsigned(alloc, 5_001).is_err());
-    let deepest = lent(alloc, 5_000)?;
-    assert!(rt; pieces(&deepest, "} finally {") == 5_001);
-    assert!(rt; lent(alloc, 5_001).is_err());
+    assert!(rt; unsigned(alloc, false, 5_001).is_err());
+    let deepest = lent(alloc, 4_999)?;
+    assert!(rt; pieces(&deepest, "} finally {") == 5_000);
+    assert!(rt; lent(alloc, 5_000).is_err());
+    Ok(())
+}
+
+#[test]
+fn readings_with_64_bits_stand_one_behind_the_other(rt: HostRuntime) -> Result<(), AllocError> {
+    let flat = unsigned(rt.alloc(), true, 5_001)?;
+    assert!(rt; pieces(&flat, "BigInt.asUintN(64, ") == 5_002);
     Ok(())
 }
 

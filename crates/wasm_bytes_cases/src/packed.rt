@@ -12,7 +12,7 @@ const MAX: u32 = u32::MAX;
 
 const FAR: MemArg = MemArg {
     align: MAX,
-    memory: MemoryId(MAX),
+    memory: MemoryId(MAX - 1),
     offset: u64::MAX,
 };
 
@@ -24,7 +24,7 @@ fn greatest() -> [Op; 18] {
         Op::Tag(255, TagId(MAX)),
         Op::Label(255, MAX),
         Op::Func(255, FuncId(MAX)),
-        Op::Indirect(255, TypeId(MAX), TableId(MAX)),
+        Op::Indirect(255, TypeId(MAX), TableId(MAX - 1)),
         Op::Local(255, MAX),
         Op::Global(255, GlobalId(MAX)),
         Op::Table(255, TableId(MAX)),
@@ -32,15 +32,15 @@ fn greatest() -> [Op; 18] {
         Op::Memory(255, MemoryId(MAX)),
         Op::Const32(i32::MAX),
         Op::Const64(i64::MAX),
-        Op::Raw4([255; 4]),
-        Op::Raw8([255; 8]),
+        Op::Raw4([252, 253, 254, 255]),
+        Op::Raw8([0, 1, 2, 3, 4, 5, 6, 7]),
         Op::RefNull(ValType::V128),
         Op::FcPlain(MAX),
-        Op::MemoryInit(DataId(MAX), MemoryId(MAX)),
+        Op::MemoryInit(DataId(MAX), MemoryId(MAX - 1)),
     ]
 }
 
-/// The others of one kind each.
+/// Other values and other variants.
 fn others() -> [Op; 16] {
     [
         Op::Block(0, BlockType::Empty),
@@ -53,11 +53,11 @@ fn others() -> [Op; 16] {
         Op::TableInit(ElemId(MAX), TableId(0)),
         Op::ElemDrop(ElemId(MAX)),
         Op::TableCopy(TableId(0), TableId(MAX)),
-        Op::FcTable(MAX, TableId(MAX)),
+        Op::FcTable(MAX, TableId(MAX - 1)),
         Op::Simd(MAX),
         Op::SimdMem(MAX, FAR),
         Op::SimdMemLane(MAX, FAR, 255),
-        Op::SimdBytes(MAX, [255; 16]),
+        Op::SimdBytes(MAX, [0, 1, 2, 3, 4, 5, 6, 7, 8, 9, 10, 11, 12, 13, 14, 15]),
         Op::SimdLane(MAX, 255),
     ]
 }
@@ -70,7 +70,7 @@ fn listed(alloc: Global) -> Result<Seq<Op>, AllocError> {
     for label in [0, 127, 128, MAX] {
         labels.push(label)?;
         types.push(ValType::F64)?;
-        clauses.push(Catch::Tag(255, TagId(MAX), label))?;
+        clauses.push(Catch::Tag(254, TagId(MAX - 1), label))?;
         clauses.push(Catch::All(255, label))?;
     }
     let mut ops = Seq::new(alloc);
@@ -100,4 +100,30 @@ fn what_is_packed_is_given_back(rt: HostRuntime) -> Result<(), AllocError> {
     assert_given_back(&rt, alloc, &others())?;
     let listed = listed(alloc)?;
     assert_given_back(&rt, alloc, listed.as_slice())
+}
+
+/// The operators that a walk gives, and what it gives behind the last.
+fn walked(alloc: Global, ops: &Ops) -> Result<String, AllocError> {
+    let mut walk = ops.walk();
+    let first = walk.next()?;
+    let second = walk.next()?;
+    let third = walk.next()?;
+    let fourth = walk.next()?;
+    format!(in alloc; "{first:?} {second:?} {third:?} {fourth:?}")
+}
+
+#[test]
+fn a_walk_ends_behind_the_last(rt: HostRuntime) -> Result<(), AllocError> {
+    let alloc = rt.alloc();
+    let mut room = Vec::new(alloc);
+    room.push(99)?;
+    let mut ops = Ops::new(alloc);
+    ops.push(&mut room, &Op::Local(32, 300))?;
+    ops.push(&mut room, &Op::Plain(26))?;
+    ops.shrink_to_fit();
+    assert_told(
+        &rt,
+        walked(alloc, &ops),
+        "Some(Local(32, 300)) Some(Plain(26)) None None",
+    )
 }

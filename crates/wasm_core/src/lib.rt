@@ -38,5 +38,5 @@ pub use wasm_file::{
 };
 pub use wasm_ops::{
     BlockType, Body, Catch, DataId, ElemId, ExportId, FuncId, FuncType, GlobalId, ImportId, Limits,
-    MemArg, MemoryId, Op, Ops, TableId, TagId, TypeId, ValType,
+    MemArg, MemoryId, Op, Ops, TableId, TagId, TypeId, ValType, Walk,
 };

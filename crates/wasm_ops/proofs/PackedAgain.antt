@@ -29,7 +29,7 @@ use Rattle.wasm_ops.specs.declared.ops.MemArg.{MemArg}
 use Rattle.wasm_ops.specs.declared.ids.TypeId.{TypeId}
 use Rattle.wasm_ops.specs.declared.ids.MemoryId.{MemoryId}
 use Rattle.wasm_ops.specs.declared.ids.TagId.{TagId}
-use Rattle.wasm_ops.specs.Packed.{packed_type, packed_block, packed_catch, packed_arg, packed_coded, packed_two, number_of, held_bytes, packed_bytes, both, block_kind_of, block_as, unpacked_block, unpacked_catch_as, unpacked_catch, unpacked_arg, unpacked_list, kind_of, held_as, unpacked_op, before, unpacked_within, unpacked, IsWord, HasWordsBlock, HasWordsCatch, HasWordsArg, HasWords, IsPacked, Steps}
+use Rattle.wasm_ops.specs.Packed.{packed_type, packed_block, packed_catch, packed_arg, packed_coded, packed_two, number_of, held_bytes, packed_bytes, both, block_kind_of, block_as, unpacked_block, unpacked_catch_as, unpacked_catch, unpacked_arg, unpacked_list, kind_of, held_as, unpacked_op, before, unpacked_within, unpacked, IsWord, HasWordsBlock, HasWordsCatch, HasWordsArg, HasWords, IsPacked}
 
 -- ---- parts
 

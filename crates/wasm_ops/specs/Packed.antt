@@ -287,7 +287,7 @@ HasWordsCatch (catches.All code label) = IsWord label
 abbrev pub HasWordsArg : MemArg → Type 0
 HasWordsArg arg = IsWord arg.align × IsWord arg.memory.0 × (arg.offset < 2 ^ 64)
 
--- what it holds has the widths of its types, and 32 bits count its lists
+-- The numbers that it holds have the widths of their types, its raw bytes are as many as there have to be, and 32 bits count its lists.
 abbrev pub HasWords : Op → Type 0
 HasWords (ops.Plain code) = ⊤
 HasWords (ops.Block code ty) = HasWordsBlock ty
@@ -328,7 +328,7 @@ pub record IsPacked (s : Input) : Type 0 where
   pub whole : s.bytes ≡ flat_map packed_bytes (unpacked s)
   pub held : AllByRecursion HasWords (unpacked s)
 
--- what a step over a list of operators gives: its first one, and it stands before the others
-abbrev pub Steps : Option Op → List Op → List Op → Type 0
-Steps None from to = from ≡ []
-Steps (Some x) from to = from ≡ x ∷ to
+-- what a walk over operators gives: the first operator before those that are left, or none of none
+abbrev pub IsNextOp : Option Op → List Op → List Op → Type 0
+IsNextOp None from to = (from ≡ []) × (to ≡ [])
+IsNextOp (Some x) from to = from ≡ x ∷ to

@@ -1,7 +1,7 @@
 //! Operators that are kept as bytes.
 
-ghost use Rattle.std.specs.Prelude.{◌≡◌, ◌∷◌, ◌++◌, [], IfOk, OnOk, OnErr};
-ghost use Rattle.wasm_ops.specs.Packed.{Steps};
+ghost use Rattle.std.specs.Prelude.{◌≡◌, ◌∷◌, ◌++◌, [], IfOk, IfErr, OnOk, OnErr};
+ghost use Rattle.wasm_ops.specs.Packed.{IsNextOp};
 
 use crate::ops::Op;
 use crate::packing::pack_op;
@@ -12,7 +12,7 @@ use std::marker::Model;
 use values::Seq;
 use wasm_bytes::Reader;
 
-/// Operators one after another. A contract sees their list; in memory they are bytes, about as many as in a file.
+/// Operators one after another. A contract sees their list; in memory they are bytes, at most twice as many as in a file.
 #[derive(Drop)]
 pub struct Ops {
     bytes: Vec<u8>,
@@ -96,7 +96,7 @@ impl Ops {
     }
 }
 
-/// As a list.
+/// The list of the operators. Want of memory is an error of the printing, behind what was printed.
 impl Debug for Ops {
     fn fmt<W: Write>(&self, f: &mut Formatter<W>) -> fmt::Result {
         let mut walk = self.walk();
@@ -128,10 +128,11 @@ impl<'a> Model for Walk<'a> {
 }
 
 impl<'a> Walk<'a> {
-    /// The next operator, none behind the last. A list inside it takes memory; where that is missing, none are left.
+    /// The next operator, none behind the last. A list inside it takes memory; where that is missing, no operators are left.
     #[tactic(auto, using(crate::proofs::PackedAgain::packed_empty, crate::proofs::PackedAgain::packed_none, crate::proofs::PackedAgain::walked))]
     pub fn next(&mut self) -> Result<Option<Op>, AllocError>
-        ensures { IfOk result (λ found. Steps found self.old self.new) }
+        ensures ok { IfOk result (λ found. IsNextOp found self.old self.new) }
+        ensures err { IfErr result (λ e. self.new ≡ []) }
     {
         if self.reader.len() == 0 {
             return Ok(None);

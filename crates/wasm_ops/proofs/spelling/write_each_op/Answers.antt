@@ -10,5 +10,5 @@ use Rattle.wasm_ops.proofs.spelling.write_each_op.Goals as goal
 pub returns : goal.returns
 returns c =
     let f = λ (op : Op). op_bytes (renumbered_op c.args.numbers.now op) in
-    let none = rw c.in_default.is at c.in_ok-op.ensures in
+    let none = (rw c.in_default.is at c.in_ok-op.ensures.ok).0 in
     walked_all f c.loop-op.walk c.args.out.now.items c.loop-op.out.items (flat_map f c.args.ops.now) none c.loop-op.invariant ∙ ap (λ l. c.args.out.now.items ++ l) (sym (flat_map-map op_bytes (renumbered_op c.args.numbers.now) c.args.ops.now))

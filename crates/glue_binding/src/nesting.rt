@@ -1,13 +1,13 @@
-//! How deep the statements and the operands of steps nest.
+//! How many steps nest.
 ghost use Rattle.std.specs.Prelude.{◌≡◌, false, IfOk};
 ghost use Rattle.std.specs.List.{count_by};
-ghost use Rattle.glue_binding.specs.Depth as spec;
+ghost use Rattle.glue_binding.specs.Nesting as spec;
 
 use glue_steps::Step;
 use std::alloc::AllocError;
 
-/// So many steps that nest may stand in one adapter. What they come to is walked by recursion, so that the machine's stack is memory too.
-pub const DEEPEST: u64 = 5_000;
+/// At most so many steps that nest may stand in one adapter. What they come to is walked by recursion, so that the machine's stack is memory too.
+pub const MOST_NESTING: u64 = 5_000;
 
 // Whether what stands behind a step stands in its `try`, or its operand in another one.
 fn nests(step: &Step) -> bool
@@ -20,7 +20,6 @@ fn nests(step: &Step) -> bool
             | Step::ReturnPointer { .. }
             | Step::ToUnsigned
             | Step::IsNotZero
-            | Step::ToUnsigned64
     )
 }
 
@@ -35,11 +34,11 @@ fn nesting(steps: &[Step]) -> u64
     count
 }
 
-/// Want of memory, where more steps nest than `DEEPEST`.
-pub(crate) fn keep_shallow(steps: &[Step]) -> Result<(), AllocError>
-    ensures shallow { IfOk result (λ unit. spec.is_too_deep steps.now ≡ false) }
+/// Want of memory, where more than `MOST_NESTING` steps nest.
+pub(crate) fn check_nesting(steps: &[Step]) -> Result<(), AllocError>
+    ensures few { IfOk result (λ unit. spec.nests_too_often steps.now ≡ false) }
 {
-    if nesting(steps) > DEEPEST {
+    if nesting(steps) > MOST_NESTING {
         return Err(AllocError);
     }
     Ok(())
