@@ -20,7 +20,7 @@ pub use entry::{Entry, read_entries, read_list};
 pub use fault::ReadFault;
 pub use items::{read_exactly, read_index, read_name, read_text};
 pub use laws::numbers_are_read_again;
-pub use number::{push_i32, push_i64, push_number, push_u32};
+pub use number::{number_len, push_i32, push_i64, push_number, push_u32, signed_len};
 pub use reader::Reader;
 pub use spell::{Spell, write_entries, write_framed, write_list, write_name};
 pub use step::{Step, read_steps};

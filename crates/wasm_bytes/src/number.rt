@@ -1,6 +1,6 @@
 //! Numbers in their shortest form (WebAssembly core specification, 5.2.2).
 
-ghost use Rattle.std.specs.Prelude.{◌≡◌, ◌+◌, ◌^◌, ◌<◌, ◌++◌, OnOk};
+ghost use Rattle.std.specs.Prelude.{◌≡◌, ◌+◌, ◌^◌, ◌<◌, ◌≤◌, ◌++◌, length, OnOk};
 ghost use Rattle.wasm_bytes.specs.Numbers.{shortest, number_bytes};
 ghost use Rattle.std.specs.Prelude.{pos};
 ghost use Rattle.std.specs.Int.{int_div_euclid};
@@ -61,6 +61,46 @@ fn push_signed(out: &mut Vec<u8>, more: u32, value: i64) -> Result<(), AllocErro
     }
     out.push(low_bits(value) + 128)?;
     push_signed(out, more - 1, high_bits(value))
+}
+
+/// How many bytes the shortest form of a number of 64 bits has.
+#[tactic(auto, unfolding(crate::specs::Numbers::number_bytes))]
+pub fn number_len(value: u64) -> u8
+    ensures len { result ≡ length (number_bytes value) }
+    ensures bound { result ≤ 10 }
+{
+    shortest_len(9, value)
+}
+
+fn shortest_len(more: u8, value: u64) -> u8
+    requires { more ≤ 9 }
+    ensures len { result ≡ length (shortest more value) }
+    ensures bound { result ≤ more + 1 }
+{
+    if more == 0 || value < 128 {
+        return 1;
+    }
+    1 + shortest_len(more - 1, value / 128)
+}
+
+/// How many bytes the shortest form of a signed number of 64 bits has.
+#[tactic(auto, unfolding(crate::specs::Signed::signed_bytes))]
+pub fn signed_len(value: i64) -> u8
+    ensures len { result ≡ length (signed_bytes value) }
+    ensures bound { result ≤ 10 }
+{
+    shortest_signed_len(9, value)
+}
+
+fn shortest_signed_len(more: u8, value: i64) -> u8
+    requires { more ≤ 9 }
+    ensures len { result ≡ length (shortest_signed more value) }
+    ensures bound { result ≤ more + 1 }
+{
+    if more == 0 || is_digit(value) {
+        return 1;
+    }
+    1 + shortest_signed_len(more - 1, high_bits(value))
 }
 
 /// The low seven bits.

@@ -241,6 +241,13 @@ impl<'a> Reader<'a> {
         found
     }
 
+    /// The bytes that are left, which stay to be read.
+    pub fn left(&self) -> &'a [u8]
+        ensures { result.now ≡ self.now.bytes }
+    {
+        self.bytes
+    }
+
     /// How many bytes are left.
     pub fn len(&self) -> usize
         ensures { result ≡ length self.now.bytes }

@@ -7,3 +7,4 @@ pub mod Large
 pub mod Named
 pub mod Joined
 pub mod Collected
+pub mod Nameless

@@ -108,7 +108,7 @@ impl<'a> Edges<'a> {
         ensures { OnOk result (out.new.items ≡ out.old.items ++ flat_map (body_op_names self.now) ops.now) }
     {
         let mut walk = ops.walk();
-        while let Some(op) = walk.next()? {
+        while let Some(op) = walk.next_other()? {
             self.push_body_op(out, &op)?;
         }
         Ok(())

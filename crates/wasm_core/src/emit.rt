@@ -6,6 +6,7 @@ ghost use Rattle.wasm_file.specs.Spelling.{section_bytes, counted_section, list_
 ghost use Rattle.wasm_core.specs.Emission.{live, filed_at, some_bytes, file_start, file_names, file_customs, producer_customs, some_count, filed_by, section_contents, bytes_of, first_too_large, too_large};
 ghost use Rattle.wasm_core.specs.declared.faults.EmitFault.TheVariants as refusals;
 
+use crate::content::SectionContent;
 use crate::faults::EmitFault;
 use crate::lists::{
     Bodies, Elems, Exports, FileList, Functions, Globals, Imports, Memories, Plan, Segments,
@@ -16,7 +17,7 @@ use crate::names::push_names;
 use std::alloc::{AllocError, Global};
 use values::Seq;
 use wasm_bytes::{push_number, push_u32, write_list, write_name};
-use wasm_file::{Custom, Segment, write_custom, write_section};
+use wasm_file::{Custom, Segment, write_custom};
 use wasm_ops::number_at;
 
 /// The eight bytes at the head of a module.
@@ -26,7 +27,7 @@ const PREAMBLE: [u8; 8] = [0x00, 0x61, 0x73, 0x6D, 0x01, 0x00, 0x00, 0x00];
 const LONGEST_CONTENT: usize = 4_294_967_295;
 
 /// Ids and contents of sections.
-pub(crate) type Sections = Seq<(u8, Seq<u8>)>;
+pub(crate) type Sections = Seq<SectionContent>;
 
 impl Module {
     /// The bytes of the module (WebAssembly core specification, 5.5): a section for each list that has live entries, a
@@ -43,7 +44,7 @@ impl Module {
         let contents = self.section_contents(alloc)?;
         let mut out = Vec::new(alloc);
         out.extend_from_slice(&PREAMBLE)?;
-        emit_sections(&mut out, LONGEST_CONTENT, contents.as_slice())?;
+        emit_sections(&mut out, LONGEST_CONTENT, contents)?;
         Ok(out)
     }
 
@@ -145,7 +146,7 @@ impl<'a> Plan<'a> {
     {
         let mut bytes = Vec::new(self.alloc);
         let count = write_items::<L>(items, self, &mut bytes)?;
-        push_counted(self.alloc, id, count, &bytes, out)
+        push_counted(self.alloc, id, count, bytes, out)
     }
 
     /// The section of the start function, none without one.
@@ -158,7 +159,7 @@ impl<'a> Plan<'a> {
             Some(func) => {
                 let mut bytes = Vec::new(self.alloc);
                 push_u32(&mut bytes, number_at(&self.numbers.funcs, func.0))?;
-                out.push((8, Seq::from_vec(bytes)))
+                out.push(SectionContent::new(self.alloc, 8, bytes))
             }
             None => Ok(()),
         }
@@ -176,7 +177,7 @@ impl<'a> Plan<'a> {
         let mut bytes = Vec::new(self.alloc);
         write_name(&mut bytes, "producers")?;
         write_list(&module.producers, &mut bytes)?;
-        out.push((0, Seq::from_vec(bytes)))
+        out.push(SectionContent::new(self.alloc, 0, bytes))
     }
 }
 
@@ -216,18 +217,15 @@ fn push_counted(
     alloc: Global,
     id: u8,
     count: usize,
-    entries: &[u8],
+    entries: Vec<u8>,
     out: &mut Sections,
 ) -> Result<(), AllocError>
-    ensures { OnOk result (out.new ≡ out.old ++ counted_section id count entries.now) }
+    ensures { OnOk result (out.new ≡ out.old ++ counted_section id count entries.items) }
 {
     if count == 0 {
         return Ok(());
     }
-    let mut bytes = Vec::new(alloc);
-    push_number(&mut bytes, count as u64)?;
-    bytes.extend_from_slice(entries)?;
-    out.push((id, Seq::from_vec(bytes)))
+    out.push(SectionContent::counted(alloc, id, count, entries)?)
 }
 
 /// The number of items that are there.
@@ -251,7 +249,7 @@ fn push_data_count(
     }
     let mut bytes = Vec::new(alloc);
     push_number(&mut bytes, count as u64)?;
-    out.push((12, Seq::from_vec(bytes)))
+    out.push(SectionContent::new(alloc, 12, bytes))
 }
 
 /// The other custom sections.
@@ -261,34 +259,40 @@ fn push_others(alloc: Global, customs: &[Custom], out: &mut Sections) -> Result<
     for custom in customs {
         let mut bytes = Vec::new(alloc);
         write_custom(&mut bytes, custom)?;
-        out.push((0, Seq::from_vec(bytes)))?;
+        out.push(SectionContent::new(alloc, 0, bytes))?;
     }
     Ok(())
 }
 
 /// Appends a section. `TooLarge` where its content has more bytes than so many.
-fn emit_section(out: &mut Vec<u8>, longest: usize, id: u8, content: &[u8]) -> Result<(), EmitFault>
-    ensures ok { OnOk result ((out.new.items ≡ out.old.items ++ section_bytes (id, content.now)) × (length content.now ≤ longest)) }
-    ensures err { (s : ℕ) → result ≡ Err (refusals.TooLarge s) → (s ≡ id) × (longest < length content.now) }
+fn emit_section(
+    out: &mut Vec<u8>,
+    longest: usize,
+    section: &SectionContent,
+) -> Result<(), EmitFault>
+    ensures ok { OnOk result ((out.new.items ≡ out.old.items ++ section_bytes section.now) × (length section.now.1 ≤ longest)) }
+    ensures err { (s : ℕ) → result ≡ Err (refusals.TooLarge s) → (s ≡ section.now.0) × (longest < length section.now.1) }
 {
-    if content.len() > longest {
-        return Err(EmitFault::TooLarge { section: id });
+    if section.len() > longest {
+        return Err(EmitFault::TooLarge {
+            section: section.id(),
+        });
     }
-    write_section(out, id, content)?;
+    section.write(out)?;
     Ok(())
 }
 
-/// Appends sections up to the first whose content has more bytes than so many.
+/// Appends sections up to the first whose content has more bytes than so many. Each is dropped when it is written.
 pub fn emit_sections(
     out: &mut Vec<u8>,
     longest: usize,
-    sections: &[(u8, Seq<u8>)],
+    sections: Seq<SectionContent>,
 ) -> Result<(), EmitFault>
-    ensures ok { OnOk result ((out.new.items ≡ out.old.items ++ flat_map section_bytes sections.now) × (first_too_large longest sections.now ≡ None)) }
-    ensures err { (s : ℕ) → result ≡ Err (refusals.TooLarge s) → first_too_large longest sections.now ≡ Some s }
+    ensures ok { OnOk result ((out.new.items ≡ out.old.items ++ flat_map section_bytes sections) × (first_too_large longest sections ≡ None)) }
+    ensures err { (s : ℕ) → result ≡ Err (refusals.TooLarge s) → first_too_large longest sections ≡ Some s }
 {
-    for section in sections {
-        emit_section(out, longest, section.0, section.1.as_slice())?;
+    for section in sections.into_vec() {
+        emit_section(out, longest, &section)?;
     }
     Ok(())
 }

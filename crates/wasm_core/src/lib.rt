@@ -9,6 +9,7 @@
 mod added;
 mod assemble;
 mod collect;
+mod content;
 mod declarers;
 mod edges;
 mod edits;
@@ -28,6 +29,7 @@ mod segments;
 mod types;
 
 pub use collect::collected_module_is_one;
+pub use content::SectionContent;
 pub use emit::emit_sections;
 pub use faults::{EmitFault, ParseFault};
 pub use module::{LONGEST, Module, sections};

@@ -7,13 +7,13 @@ ghost use Rattle.wasm_bytes.specs.Numbers.{number_bytes};
 ghost use Rattle.wasm_file.specs.Spelling.{custom_section, section_bytes, func_name_bytes, module_name_bytes};
 ghost use Rattle.wasm_core.specs.Emission.{some_bytes, name_at, names_among, func_names, file_names, name_customs};
 
+use crate::content::{SectionContent, write_head};
 use crate::emit::Sections;
 use crate::lists::Plan;
 use crate::types::Func;
 use std::alloc::{AllocError, Global};
 use values::{Seq, Text};
 use wasm_bytes::{push_number, push_u32, write_name};
-use wasm_file::write_section;
 
 /// The id of the subsection that holds the module's name.
 const MODULE_NAME: u8 = 0;
@@ -94,6 +94,7 @@ fn write_all_func_names(
 }
 
 /// Appends the subsection of the module's name, none without one.
+#[tactic(auto, unfolding(wasm_bytes::specs::Spelling::name_bytes, wasm_bytes::specs::Spelling::framed_bytes))]
 fn write_module_name(
     alloc: Global,
     name: &Option<Text>,
@@ -103,30 +104,31 @@ fn write_module_name(
 {
     match name {
         Some(name) => {
-            let mut bytes = Vec::new(alloc);
-            write_name(&mut bytes, name.as_str())?;
-            write_section(out, MODULE_NAME, &bytes)
+            let bytes = name.as_str().as_bytes();
+            let mut head = Vec::new(alloc);
+            push_number(&mut head, bytes.len() as u64)?;
+            write_head(out, MODULE_NAME, &head, bytes)?;
+            out.extend_from_slice(bytes)
         }
         None => Ok(()),
     }
 }
 
-/// Appends the subsection of so many functions' names with these bytes, none without any.
-fn write_counted_names(
+/// The name section: its front, and behind it the subsection of so many functions' names with these bytes, none without
+/// any.
+fn with_func_names(
     alloc: Global,
+    front: Vec<u8>,
     count: usize,
-    names: &[u8],
-    out: &mut Vec<u8>,
-) -> Result<(), AllocError>
-    ensures { OnOk result (out.new.items ≡ out.old.items ++ (if count == 0 then [] else section_bytes (1, number_bytes count ++ names.now))) }
+    names: Vec<u8>,
+) -> Result<SectionContent, AllocError>
+    ensures { IfOk result (λ s. s ≡ (0, front.items ++ (if count == 0 then [] else section_bytes (1, number_bytes count ++ names.items)))) }
 {
     if count == 0 {
-        return Ok(());
+        return Ok(SectionContent::new(alloc, 0, front));
     }
-    let mut bytes = Vec::new(alloc);
-    push_number(&mut bytes, count as u64)?;
-    bytes.extend_from_slice(names)?;
-    write_section(out, FUNCTION_NAMES, &bytes)
+    let names = SectionContent::counted(alloc, FUNCTION_NAMES, count, names)?;
+    SectionContent::around(0, front, names)
 }
 
 /// The name section, where it is wanted and there is a name.
@@ -143,9 +145,8 @@ pub(crate) fn push_names(plan: &Plan<'_>, out: &mut Sections) -> Result<(), Allo
     if module.name.is_none() && count == 0 {
         return Ok(());
     }
-    let mut bytes = Vec::new(plan.alloc);
-    write_name(&mut bytes, "name")?;
-    write_module_name(plan.alloc, &module.name, &mut bytes)?;
-    write_counted_names(plan.alloc, count, &names, &mut bytes)?;
-    out.push((0, Seq::from_vec(bytes)))
+    let mut front = Vec::new(plan.alloc);
+    write_name(&mut front, "name")?;
+    write_module_name(plan.alloc, &module.name, &mut front)?;
+    out.push(with_func_names(plan.alloc, front, count, names)?)
 }

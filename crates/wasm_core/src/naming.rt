@@ -110,7 +110,7 @@ pub(crate) fn push_ops(out: &mut Vec<Thing>, ops: &Ops) -> Result<(), AllocError
     ensures { OnOk result (out.new.items ≡ out.old.items ++ ops_names ops.now) }
 {
     let mut walk = ops.walk();
-    while let Some(op) = walk.next()? {
+    while let Some(op) = walk.next_other()? {
         push_op(out, &op)?;
     }
     Ok(())

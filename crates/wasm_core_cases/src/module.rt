@@ -7,7 +7,8 @@ use std::alloc::{AllocError, Global};
 use std::process::Abort;
 use values::Seq;
 use wasm_core::{
-    EmitFault, ExportId, FuncId, ImportId, Module, ParseConfig, ParseFault, emit_sections, sections,
+    EmitFault, ExportId, FuncId, ImportId, Module, ParseConfig, ParseFault, SectionContent,
+    emit_sections, sections,
 };
 use wasm_inputs::{joined, joined_behind};
 
@@ -571,11 +572,11 @@ fn sections_have_names_and_places(rt: HostRuntime) -> Result<(), ParseFault> {
     )
 }
 
-fn contents_of(alloc: Global, sections: &[(u8, &[u8])]) -> Result<Seq<(u8, Seq<u8>)>, AllocError> {
+fn contents_of(alloc: Global, sections: &[(u8, &[u8])]) -> Result<Seq<SectionContent>, AllocError> {
     let mut contents = Seq::new(alloc);
     for (id, content) in sections {
-        let content = Seq::from_vec(Vec::from_slice(alloc, content)?);
-        contents.push((*id, content))?;
+        let content = Vec::from_slice(alloc, content)?;
+        contents.push(SectionContent::new(alloc, *id, content))?;
     }
     Ok(contents)
 }
@@ -584,7 +585,7 @@ fn contents_of(alloc: Global, sections: &[(u8, &[u8])]) -> Result<Seq<(u8, Seq<u
 fn sections_of_four(alloc: Global, sections: &[(u8, &[u8])]) -> Result<Vec<u8>, EmitFault> {
     let contents = contents_of(alloc, sections)?;
     let mut out = Vec::new(alloc);
-    emit_sections(&mut out, 4, contents.as_slice())?;
+    emit_sections(&mut out, 4, contents)?;
     Ok(out)
 }
 

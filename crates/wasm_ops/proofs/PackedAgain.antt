@@ -1,7 +1,8 @@
 -- What is kept packed is read as what it was.
-use Rattle.std.proofs.Common.{◌≡◌, ℕ, zero, suc, ◌+◌, ◌^◌, ◌<◌, ◌≤◌, List, [], ◌∷◌, ◌++◌, length, Option, Some, None, Result, Ok, Err, refl, sym, ap, subst, append_assoc, append-nil, ◌∙◌, arith}
+use Rattle.std.proofs.Common.{◌≡◌, ℕ, zero, suc, ◌+◌, ◌-◌, ◌^◌, ◌<◌, ◌≤◌, List, [], ◌∷◌, ◌++◌, length, take, drop, get_or, Option, Some, None, Result, Ok, Err, refl, sym, ap, subst, append_assoc, append-nil, ◌∙◌, arith}
 use Rattle.std.specs.List.{flat_map, AllByRecursion}
-use Rattle.std.proofs.lemmas.List.{length-append}
+use Rattle.std.proofs.lemmas.Bool.{lt-ltb}
+use Rattle.std.proofs.lemmas.List.{length-append, length-drop, take_all, take_at, drop_at}
 use Rattle.std.proofs.lemmas.Grind.{flat_map-append}
 use Rattle.wasm_bytes.proofs.ReadFinds.{same_value, same_rest}
 use Rattle.wasm_bytes.specs.Reading.{Input, ◌>>=◌, pure, byte, raw, meant}
@@ -29,7 +30,7 @@ use Rattle.wasm_ops.specs.declared.ops.MemArg.{MemArg}
 use Rattle.wasm_ops.specs.declared.ids.TypeId.{TypeId}
 use Rattle.wasm_ops.specs.declared.ids.MemoryId.{MemoryId}
 use Rattle.wasm_ops.specs.declared.ids.TagId.{TagId}
-use Rattle.wasm_ops.specs.Packed.{packed_type, packed_block, packed_catch, packed_arg, packed_coded, packed_two, number_of, held_bytes, packed_bytes, both, block_kind_of, block_as, unpacked_block, unpacked_catch_as, unpacked_catch, unpacked_arg, unpacked_list, kind_of, held_as, unpacked_op, before, unpacked_within, unpacked, IsWord, HasWordsBlock, HasWordsCatch, HasWordsArg, HasWords, IsPacked}
+use Rattle.wasm_ops.specs.Packed.{packed_type, packed_block, packed_catch, packed_arg, packed_coded, packed_two, number_of, spelled_bytes, behind_length, held_bytes, one_byte, two_bytes, is_spelled, IsNextSpelled, packed_bytes, both, block_kind_of, block_as, unpacked_block, unpacked_catch_as, unpacked_catch, unpacked_arg, unpacked_list, kind_of, held_as, unpacked_op, before, unpacked_within, unpacked, IsWord, HasWordsBlock, HasWordsCatch, HasWordsArg, HasWords, IsPacked}
 
 -- ---- parts
 
@@ -81,6 +82,12 @@ coded_again code n h = both_again (reads_byte code) (number32_again n h)
 two_again : (n m : ℕ) → IsWord n → IsWord m → Reads (both number32 number32) (packed_two n m) (n, m)
 two_again n m h k = both_again (number32_again n h) (number32_again m k)
 
+one_again : (b : ℕ) → Reads one_byte (b ∷ []) tt
+one_again b = record { again = λ place rest. (place + 1, refl) }
+
+two_bytes_again : (b c : ℕ) → Reads two_bytes (b ∷ c ∷ []) tt
+two_bytes_again b c = record { again = λ place rest. (place + 1 + 1, refl) }
+
 -- ---- operators
 
 op_with : (kind : Kind) (x : Op) → kind_of (number_of x) ≡ Some kind → Reads (held_as kind) (held_bytes x) x → Reads unpacked_op (packed_bytes x) x
@@ -88,27 +95,27 @@ unfolding unpacked_op
 op_with kind x is h = reads_bind held_as (reads_meant kind_of (reads_byte (number_of x)) is) h
 
 pub packed_again : (x : Op) → HasWords x → Reads unpacked_op (packed_bytes x) x
-unfolding held_bytes held_as
-packed_again (ops.Plain code) h = op_with kinds.Plain _ refl (reads_end (λ code. ops.Plain code) (reads_byte code))
+unfolding held_bytes spelled_bytes held_as
+packed_again (ops.Plain code) h = op_with kinds.Plain _ refl (reads_bind _ (one_again 1) (reads_end (λ code. ops.Plain code) (reads_byte code)))
 packed_again (ops.Block code ty) h = op_with kinds.Block _ refl (reads_end (λ p. ops.Block p.0 p.1) (both_again (reads_byte code) (block_again ty h)))
 packed_again (ops.Tag code tag) h = op_with kinds.Tag _ refl (reads_end (λ p. ops.Tag p.0 (record { 0 = p.1 })) (coded_again code tag.0 h))
-packed_again (ops.Label code label) h = op_with kinds.Label _ refl (reads_end (λ p. ops.Label p.0 p.1) (coded_again code label h))
+packed_again (ops.Label code label) h = op_with kinds.Label _ refl (reads_bind _ (one_again _) (reads_end (λ p. ops.Label p.0 p.1) (coded_again code label h)))
 packed_again (ops.BrTable labels label) h = op_with kinds.BrTable _ refl (reads_end (λ p. ops.BrTable p.0 p.1) (both_again (list_again IsWord number32_again labels h.0 h.1) (number32_again label h.2)))
 packed_again (ops.Func code func) h = op_with kinds.Func _ refl (reads_end (λ p. ops.Func p.0 (record { 0 = p.1 })) (coded_again code func.0 h))
 packed_again (ops.Indirect code ty table) h = op_with kinds.Indirect _ refl (reads_end (λ p. ops.Indirect p.0 (record { 0 = p.1.0 }) (record { 0 = p.1.1 })) (both_again (reads_byte code) (two_again ty.0 table.0 h.0 h.1)))
 packed_again (ops.Select types) h = op_with kinds.Select _ refl (reads_end (λ types. ops.Select types) (list_again (λ _. Unit {0}) (λ ty _. val_type_again ty) types h (all_any types)))
 packed_again (ops.TryTable ty clauses) h = op_with kinds.TryTable _ refl (reads_end (λ p. ops.TryTable p.0 p.1) (both_again (block_again ty h.0) (list_again HasWordsCatch catch_again clauses h.1 h.2)))
-packed_again (ops.Local code local) h = op_with kinds.Local _ refl (reads_end (λ p. ops.Local p.0 p.1) (coded_again code local h))
+packed_again (ops.Local code local) h = op_with kinds.Local _ refl (reads_bind _ (one_again _) (reads_end (λ p. ops.Local p.0 p.1) (coded_again code local h)))
 packed_again (ops.Global code global) h = op_with kinds.Global _ refl (reads_end (λ p. ops.Global p.0 (record { 0 = p.1 })) (coded_again code global.0 h))
 packed_again (ops.Table code table) h = op_with kinds.Table _ refl (reads_end (λ p. ops.Table p.0 (record { 0 = p.1 })) (coded_again code table.0 h))
 packed_again (ops.Mem code arg) h = op_with kinds.Mem _ refl (reads_end (λ p. ops.Mem p.0 p.1) (both_again (reads_byte code) (arg_again arg h)))
 packed_again (ops.Memory code memory) h = op_with kinds.Memory _ refl (reads_end (λ p. ops.Memory p.0 (record { 0 = p.1 })) (coded_again code memory.0 h))
-packed_again (ops.Const32 n) h = op_with kinds.Const32 _ refl (reads_end (λ n. ops.Const32 n) (signed32_again n h))
-packed_again (ops.Const64 n) h = op_with kinds.Const64 _ refl (reads_end (λ n. ops.Const64 n) (signed64_again n h))
-packed_again (ops.Raw4 bytes) h = op_with kinds.Raw4 _ refl (reads_end (λ bytes. ops.Raw4 bytes) (reads_raw 4 bytes h))
-packed_again (ops.Raw8 bytes) h = op_with kinds.Raw8 _ refl (reads_end (λ bytes. ops.Raw8 bytes) (reads_raw 8 bytes h))
-packed_again (ops.RefNull ty) h = op_with kinds.RefNull _ refl (reads_end (λ ty. ops.RefNull ty) (val_type_again ty))
-packed_again (ops.FcPlain code) h = op_with kinds.FcPlain _ refl (reads_end (λ code. ops.FcPlain code) (number32_again code h))
+packed_again (ops.Const32 n) h = op_with kinds.Const32 _ refl (reads_bind _ (two_bytes_again _ 0x41) (reads_end (λ n. ops.Const32 n) (signed32_again n h)))
+packed_again (ops.Const64 n) h = op_with kinds.Const64 _ refl (reads_bind _ (two_bytes_again _ 0x42) (reads_end (λ n. ops.Const64 n) (signed64_again n h)))
+packed_again (ops.Raw4 bytes) h = op_with kinds.Raw4 _ refl (reads_bind _ (two_bytes_again _ 0x43) (reads_end (λ bytes. ops.Raw4 bytes) (reads_raw 4 bytes h)))
+packed_again (ops.Raw8 bytes) h = op_with kinds.Raw8 _ refl (reads_bind _ (two_bytes_again _ 0x44) (reads_end (λ bytes. ops.Raw8 bytes) (reads_raw 8 bytes h)))
+packed_again (ops.RefNull ty) h = op_with kinds.RefNull _ refl (reads_bind _ (two_bytes_again _ 0xD0) (reads_end (λ ty. ops.RefNull ty) (val_type_again ty)))
+packed_again (ops.FcPlain code) h = op_with kinds.FcPlain _ refl (reads_bind _ (two_bytes_again _ 0xFC) (reads_end (λ code. ops.FcPlain code) (number32_again code h)))
 packed_again (ops.MemoryInit segment memory) h = op_with kinds.MemoryInit _ refl (reads_end (λ p. ops.MemoryInit (record { 0 = p.0 }) (record { 0 = p.1 })) (two_again segment.0 memory.0 h.0 h.1))
 packed_again (ops.DataDrop segment) h = op_with kinds.DataDrop _ refl (reads_end (λ n. ops.DataDrop (record { 0 = n })) (number32_again segment.0 h))
 packed_again (ops.MemoryCopy to from) h = op_with kinds.MemoryCopy _ refl (reads_end (λ p. ops.MemoryCopy (record { 0 = p.0 }) (record { 0 = p.1 })) (two_again to.0 from.0 h.0 h.1))
@@ -117,11 +124,11 @@ packed_again (ops.TableInit elem table) h = op_with kinds.TableInit _ refl (read
 packed_again (ops.ElemDrop elem) h = op_with kinds.ElemDrop _ refl (reads_end (λ n. ops.ElemDrop (record { 0 = n })) (number32_again elem.0 h))
 packed_again (ops.TableCopy to from) h = op_with kinds.TableCopy _ refl (reads_end (λ p. ops.TableCopy (record { 0 = p.0 }) (record { 0 = p.1 })) (two_again to.0 from.0 h.0 h.1))
 packed_again (ops.FcTable code table) h = op_with kinds.FcTable _ refl (reads_end (λ p. ops.FcTable p.0 (record { 0 = p.1 })) (two_again code table.0 h.0 h.1))
-packed_again (ops.Simd code) h = op_with kinds.Simd _ refl (reads_end (λ code. ops.Simd code) (number32_again code h))
+packed_again (ops.Simd code) h = op_with kinds.Simd _ refl (reads_bind _ (two_bytes_again _ 0xFD) (reads_end (λ code. ops.Simd code) (number32_again code h)))
 packed_again (ops.SimdMem code arg) h = op_with kinds.SimdMem _ refl (reads_end (λ p. ops.SimdMem p.0 p.1) (both_again (number32_again code h.0) (arg_again arg h.1)))
 packed_again (ops.SimdMemLane code arg lane) h = op_with kinds.SimdMemLane _ refl (reads_end (λ p. ops.SimdMemLane p.0 p.1.0 p.1.1) (both_again (number32_again code h.0) (both_again (arg_again arg h.1) (reads_byte lane))))
-packed_again (ops.SimdBytes code bytes) h = op_with kinds.SimdBytes _ refl (reads_end (λ p. ops.SimdBytes p.0 p.1) (both_again (number32_again code h.0) (reads_raw 16 bytes h.1)))
-packed_again (ops.SimdLane code lane) h = op_with kinds.SimdLane _ refl (reads_end (λ p. ops.SimdLane p.0 p.1) (both_again (number32_again code h) (reads_byte lane)))
+packed_again (ops.SimdBytes code bytes) h = op_with kinds.SimdBytes _ refl (reads_bind _ (two_bytes_again _ 0xFD) (reads_end (λ p. ops.SimdBytes p.0 p.1) (both_again (number32_again code h.0) (reads_raw 16 bytes h.1))))
+packed_again (ops.SimdLane code lane) h = op_with kinds.SimdLane _ refl (reads_bind _ (two_bytes_again _ 0xFD) (reads_end (λ p. ops.SimdLane p.0 p.1) (both_again (number32_again code h) (reads_byte lane))))
 
 -- ---- lists of operators
 
@@ -163,17 +170,86 @@ packed_more s t x h words is =
     let whole : t.bytes ≡ flat_map packed_bytes (unpacked s ++ x ∷ []) = rw (is, flat_map-append packed_bytes (unpacked s) (x ∷ []), append-nil (packed_bytes x)) (ap (λ bytes. bytes ++ packed_bytes x) h.whole) in
     packed_as (unpacked s ++ x ∷ []) t whole (all_more HasWords (unpacked s) x h.held words)
 
-walked_from : (xs : List Op) (place : ℕ) (t : Input) (x : Op) → AllByRecursion HasWords xs → unpacked_op (record { place = place; bytes = flat_map packed_bytes xs }) ≡ Ok (x, t) → (xs ≡ x ∷ unpacked t) × IsPacked t
+walked_from : (xs : List Op) (place : ℕ) (t u : Input) (x : Op) → AllByRecursion HasWords xs → unpacked_op (record { place = place; bytes = flat_map packed_bytes xs }) ≡ Ok (x, t) → u.bytes ≡ t.bytes → (xs ≡ x ∷ unpacked u) × IsPacked u
 unfolding unpacked_op
-walked_from [] place t x all is = absurd (grind (arith, is))
-walked_from (y ∷ ys) place t x all is =
+walked_from [] place t u x all is left = absurd (grind (arith, is))
+walked_from (y ∷ ys) place t u x all is left =
     let p = (packed_again y all.0).again place (flat_map packed_bytes ys) in
     let after : Input = record { place = p.0; bytes = flat_map packed_bytes ys } in
     let found = sym p.1 ∙ is in
-    rw (← same_value y x after t found, ← same_rest y x after t found) (ap (λ zs. y ∷ zs) (sym (unpacked_again ys p.0 all.1)), is_packed ys p.0 all.1)
+    let here : u.bytes ≡ flat_map packed_bytes ys = left ∙ ap (λ (s : Input). s.bytes) (sym (same_rest y x after t found)) in
+    let kept = packed_as ys u here all.1 in
+    rw (← same_value y x after t found) (ap (λ zs. y ∷ zs) (sym kept.0), kept.1)
 
 -- one step over packed operators
-pub walked : (s t : Input) (x : Op) → IsPacked s → unpacked_op s ≡ Ok (x, t) → (unpacked s ≡ x ∷ unpacked t) × IsPacked t
-walked s t x h is =
+pub walked : (s t u : Input) (x : Op) → IsPacked s → unpacked_op s ≡ Ok (x, t) → u.bytes ≡ t.bytes → (unpacked s ≡ x ∷ unpacked u) × IsPacked u
+walked s t u x h is left =
     let at : s ≡ record { place = s.place; bytes = flat_map packed_bytes (unpacked s) } = ap (λ bytes. record { place = s.place; bytes = bytes }) h.whole in
-    walked_from (unpacked s) s.place t x h.held (subst (λ (from : Input). unpacked_op from ≡ Ok (x, t)) at is)
+    walked_from (unpacked s) s.place t u x h.held (subst (λ (from : Input). unpacked_op from ≡ Ok (x, t)) at is) left
+
+-- ---- operators that are kept as a file has them
+
+held_spelled : (x : Op) → number_of x < 12 → held_bytes x ≡ behind_length (spelled_bytes x)
+unfolding held_bytes
+held_spelled (ops.Plain code) lt = refl
+held_spelled (ops.Label code label) lt = refl
+held_spelled (ops.Local code local) lt = refl
+held_spelled (ops.Const32 n) lt = refl
+held_spelled (ops.Const64 n) lt = refl
+held_spelled (ops.Raw4 bytes) lt = refl
+held_spelled (ops.Raw8 bytes) lt = refl
+held_spelled (ops.RefNull ty) lt = refl
+held_spelled (ops.FcPlain code) lt = refl
+held_spelled (ops.Simd code) lt = refl
+held_spelled (ops.SimdBytes code bytes) lt = refl
+held_spelled (ops.SimdLane code lane) lt = refl
+held_spelled (ops.Block code ty) lt = absurd (omega (arith, lt))
+held_spelled (ops.Tag code tag) lt = absurd (omega (arith, lt))
+held_spelled (ops.BrTable labels label) lt = absurd (omega (arith, lt))
+held_spelled (ops.Func code func) lt = absurd (omega (arith, lt))
+held_spelled (ops.Indirect code ty table) lt = absurd (omega (arith, lt))
+held_spelled (ops.Select types) lt = absurd (omega (arith, lt))
+held_spelled (ops.TryTable ty clauses) lt = absurd (omega (arith, lt))
+held_spelled (ops.Global code global) lt = absurd (omega (arith, lt))
+held_spelled (ops.Table code table) lt = absurd (omega (arith, lt))
+held_spelled (ops.Mem code arg) lt = absurd (omega (arith, lt))
+held_spelled (ops.Memory code memory) lt = absurd (omega (arith, lt))
+held_spelled (ops.MemoryInit segment memory) lt = absurd (omega (arith, lt))
+held_spelled (ops.DataDrop segment) lt = absurd (omega (arith, lt))
+held_spelled (ops.MemoryCopy to from) lt = absurd (omega (arith, lt))
+held_spelled (ops.MemoryFill memory) lt = absurd (omega (arith, lt))
+held_spelled (ops.TableInit elem table) lt = absurd (omega (arith, lt))
+held_spelled (ops.ElemDrop elem) lt = absurd (omega (arith, lt))
+held_spelled (ops.TableCopy to from) lt = absurd (omega (arith, lt))
+held_spelled (ops.FcTable code table) lt = absurd (omega (arith, lt))
+held_spelled (ops.SimdMem code arg) lt = absurd (omega (arith, lt))
+held_spelled (ops.SimdMemLane code arg lane) lt = absurd (omega (arith, lt))
+
+spelled_from : (xs : List Op) (number len : ℕ) (rest : List ℕ) (u : Input) → AllByRecursion HasWords xs → number ∷ len ∷ rest ≡ flat_map packed_bytes xs → number < 12 → u.bytes ≡ drop len rest → IsNextSpelled (Some (take len rest)) xs (unpacked u) × IsPacked u
+spelled_from [] number len rest u all is lt left = absurd (grind (arith, is))
+spelled_from (x ∷ xs) number len rest u all is lt left =
+    let same : number ≡ number_of x = ap (λ bytes. get_or bytes 0 0) is in
+    let low : number_of x < 12 = rw (← same) lt in
+    let behind : len ∷ rest ≡ length (spelled_bytes x) ∷ (spelled_bytes x ++ flat_map packed_bytes xs) = ap (λ bytes. drop 1 bytes) is ∙ ap (λ bytes. bytes ++ flat_map packed_bytes xs) (held_spelled x low) in
+    let count : length (spelled_bytes x) ≡ len = sym (ap (λ bytes. get_or bytes 0 0) behind) in
+    let others : rest ≡ spelled_bytes x ++ flat_map packed_bytes xs = ap (λ bytes. drop 1 bytes) behind in
+    let first : take len rest ≡ spelled_bytes x = rw others (take_at (spelled_bytes x) (flat_map packed_bytes xs) len count) in
+    let after : u.bytes ≡ flat_map packed_bytes xs = left ∙ (rw others (drop_at (spelled_bytes x) (flat_map packed_bytes xs) len count)) in
+    let kept = packed_as xs u after all.1 in
+    ((x, ap (λ ys. x ∷ ys) (sym kept.0), lt-ltb (number_of x) 12 low, first), kept.1)
+
+-- one step over an operator that is kept so
+pub spelled_walked : (s u : Input) (number len : ℕ) (rest : List ℕ) → IsPacked s → s.bytes ≡ number ∷ len ∷ rest → number < 12 → u.bytes ≡ drop len rest → IsNextSpelled (Some (take len rest)) (unpacked s) (unpacked u) × IsPacked u
+spelled_walked s u number len rest h is lt left = spelled_from (unpacked s) number len rest u h.held (sym is ∙ h.whole) lt left
+
+two_first : (bytes : List ℕ) → 2 ≤ length bytes → bytes ≡ get_or bytes 0 0 ∷ get_or bytes 1 0 ∷ drop 2 bytes
+two_first [] le = absurd (omega arith)
+two_first (a ∷ []) le = absurd (omega (arith, le))
+two_first (a ∷ b ∷ rest) le = refl
+
+-- the same of the front that a split gives
+pub spelled_split : (s u : Input) (front : List ℕ) → IsPacked s → 2 ≤ length s.bytes → get_or s.bytes 0 0 < 12 → front ≡ take (get_or s.bytes 1 0) (take (length s.bytes - 2) (drop 2 s.bytes)) → u.bytes ≡ drop (get_or s.bytes 1 0) (take (length s.bytes - 2) (drop 2 s.bytes)) → IsNextSpelled (Some front) (unpacked s) (unpacked u) × IsPacked u
+spelled_split s u front h le lt is left =
+    let rest : take (length s.bytes - 2) (drop 2 s.bytes) ≡ drop 2 s.bytes = take_all (length s.bytes - 2) (drop 2 s.bytes) (omega (arith, length-drop 2 s.bytes)) in
+    let whole = is ∙ ap (λ bytes. take (get_or s.bytes 1 0) bytes) rest in
+    rw whole (spelled_walked s u (get_or s.bytes 0 0) (get_or s.bytes 1 0) (drop 2 s.bytes) h (two_first s.bytes le) lt (left ∙ ap (λ bytes. drop (get_or s.bytes 1 0) bytes) rest))

@@ -1,5 +1,5 @@
 -- Operators as bytes in memory: the number of a variant, and what the variant holds. No file has this form.
-use Rattle.std.specs.Prelude.{◌≡◌, ℕ, zero, suc, ◌^◌, ◌<◌, ⊤, List, [], ◌∷◌, ◌++◌, length, Option, Some, None, Result, Ok, Err, ◌==◌, if◌then◌else◌}
+use Rattle.std.specs.Prelude.{◌≡◌, ℕ, zero, suc, ◌^◌, ◌<◌, nat_lt, ⊤, Bool, true, List, [], ◌∷◌, ◌++◌, length, Option, Some, None, Result, Ok, Err, ◌==◌, if◌then◌else◌}
 use Rattle.std.specs.List.{flat_map, AllByRecursion}
 use Rattle.wasm_bytes.specs.Reading.{Input, followed, ◌>>=◌, pure, fault, byte, raw, entries, meant}
 use Rattle.wasm_bytes.specs.Numbers.{number32, number64, number_bytes}
@@ -47,61 +47,72 @@ packed_two n m = number_bytes n ++ number_bytes m
 -- the number of the variant
 abbrev pub number_of : Op → ℕ
 number_of (ops.Plain code) = 0
-number_of (ops.Block code ty) = 1
-number_of (ops.Tag code tag) = 2
-number_of (ops.Label code label) = 3
-number_of (ops.BrTable labels label) = 4
-number_of (ops.Func code func) = 5
-number_of (ops.Indirect code ty table) = 6
-number_of (ops.Select types) = 7
-number_of (ops.TryTable ty clauses) = 8
-number_of (ops.Local code local) = 9
-number_of (ops.Global code global) = 10
-number_of (ops.Table code table) = 11
-number_of (ops.Mem code arg) = 12
-number_of (ops.Memory code memory) = 13
-number_of (ops.Const32 n) = 14
-number_of (ops.Const64 n) = 15
-number_of (ops.Raw4 bytes) = 16
-number_of (ops.Raw8 bytes) = 17
-number_of (ops.RefNull ty) = 18
-number_of (ops.FcPlain code) = 19
-number_of (ops.MemoryInit segment memory) = 20
-number_of (ops.DataDrop segment) = 21
-number_of (ops.MemoryCopy to from) = 22
-number_of (ops.MemoryFill memory) = 23
-number_of (ops.TableInit elem table) = 24
-number_of (ops.ElemDrop elem) = 25
-number_of (ops.TableCopy to from) = 26
-number_of (ops.FcTable code table) = 27
-number_of (ops.Simd code) = 28
-number_of (ops.SimdMem code arg) = 29
-number_of (ops.SimdMemLane code arg lane) = 30
-number_of (ops.SimdBytes code bytes) = 31
-number_of (ops.SimdLane code lane) = 32
+number_of (ops.Label code label) = 1
+number_of (ops.Local code local) = 2
+number_of (ops.Const32 n) = 3
+number_of (ops.Const64 n) = 4
+number_of (ops.Raw4 bytes) = 5
+number_of (ops.Raw8 bytes) = 6
+number_of (ops.RefNull ty) = 7
+number_of (ops.FcPlain code) = 8
+number_of (ops.Simd code) = 9
+number_of (ops.SimdBytes code bytes) = 10
+number_of (ops.SimdLane code lane) = 11
+number_of (ops.Block code ty) = 12
+number_of (ops.Tag code tag) = 13
+number_of (ops.BrTable labels label) = 14
+number_of (ops.Func code func) = 15
+number_of (ops.Indirect code ty table) = 16
+number_of (ops.Select types) = 17
+number_of (ops.TryTable ty clauses) = 18
+number_of (ops.Global code global) = 19
+number_of (ops.Table code table) = 20
+number_of (ops.Mem code arg) = 21
+number_of (ops.Memory code memory) = 22
+number_of (ops.MemoryInit segment memory) = 23
+number_of (ops.DataDrop segment) = 24
+number_of (ops.MemoryCopy to from) = 25
+number_of (ops.MemoryFill memory) = 26
+number_of (ops.TableInit elem table) = 27
+number_of (ops.ElemDrop elem) = 28
+number_of (ops.TableCopy to from) = 29
+number_of (ops.FcTable code table) = 30
+number_of (ops.SimdMem code arg) = 31
+number_of (ops.SimdMemLane code arg lane) = 32
 
--- what it holds
+-- What an operator that names no entry and has no list is in a file, whatever the numbers of entries are; of others it says nothing.
+unfoldable pub spelled_bytes : Op → List ℕ
+spelled_bytes (ops.Plain code) = code ∷ []
+spelled_bytes (ops.Label code label) = packed_coded code label
+spelled_bytes (ops.Local code local) = packed_coded code local
+spelled_bytes (ops.Const32 n) = 0x41 ∷ signed_bytes n
+spelled_bytes (ops.Const64 n) = 0x42 ∷ signed_bytes n
+spelled_bytes (ops.Raw4 bytes) = 0x43 ∷ bytes
+spelled_bytes (ops.Raw8 bytes) = 0x44 ∷ bytes
+spelled_bytes (ops.RefNull ty) = 0xD0 ∷ packed_type ty
+spelled_bytes (ops.FcPlain code) = packed_coded 0xFC code
+spelled_bytes (ops.Simd code) = packed_coded 0xFD code
+spelled_bytes (ops.SimdBytes code bytes) = packed_coded 0xFD code ++ bytes
+spelled_bytes (ops.SimdLane code lane) = packed_coded 0xFD code ++ lane ∷ []
+spelled_bytes _ = []
+
+-- bytes behind their number
+abbrev pub behind_length : List ℕ → List ℕ
+behind_length bytes = length bytes ∷ bytes
+
+-- What it holds. Where it names no entry and has no list, that is its spelling in a file, which is the same whatever the numbers of entries are.
 unfoldable pub held_bytes : Op → List ℕ
-held_bytes (ops.Plain code) = code ∷ []
 held_bytes (ops.Block code ty) = code ∷ packed_block ty
 held_bytes (ops.Tag code tag) = packed_coded code tag.0
-held_bytes (ops.Label code label) = packed_coded code label
 held_bytes (ops.BrTable labels label) = list_bytes number_bytes labels ++ number_bytes label
 held_bytes (ops.Func code func) = packed_coded code func.0
 held_bytes (ops.Indirect code ty table) = code ∷ packed_two ty.0 table.0
 held_bytes (ops.Select types) = list_bytes packed_type types
 held_bytes (ops.TryTable ty clauses) = packed_block ty ++ list_bytes packed_catch clauses
-held_bytes (ops.Local code local) = packed_coded code local
 held_bytes (ops.Global code global) = packed_coded code global.0
 held_bytes (ops.Table code table) = packed_coded code table.0
 held_bytes (ops.Mem code arg) = code ∷ packed_arg arg
 held_bytes (ops.Memory code memory) = packed_coded code memory.0
-held_bytes (ops.Const32 n) = signed_bytes n
-held_bytes (ops.Const64 n) = signed_bytes n
-held_bytes (ops.Raw4 bytes) = bytes
-held_bytes (ops.Raw8 bytes) = bytes
-held_bytes (ops.RefNull ty) = packed_type ty
-held_bytes (ops.FcPlain code) = number_bytes code
 held_bytes (ops.MemoryInit segment memory) = packed_two segment.0 memory.0
 held_bytes (ops.DataDrop segment) = number_bytes segment.0
 held_bytes (ops.MemoryCopy to from) = packed_two to.0 from.0
@@ -110,11 +121,9 @@ held_bytes (ops.TableInit elem table) = packed_two elem.0 table.0
 held_bytes (ops.ElemDrop elem) = number_bytes elem.0
 held_bytes (ops.TableCopy to from) = packed_two to.0 from.0
 held_bytes (ops.FcTable code table) = packed_two code table.0
-held_bytes (ops.Simd code) = number_bytes code
 held_bytes (ops.SimdMem code arg) = number_bytes code ++ packed_arg arg
 held_bytes (ops.SimdMemLane code arg lane) = number_bytes code ++ (packed_arg arg ++ lane ∷ [])
-held_bytes (ops.SimdBytes code bytes) = number_bytes code ++ bytes
-held_bytes (ops.SimdLane code lane) = number_bytes code ++ lane ∷ []
+held_bytes x = behind_length (spelled_bytes x)
 
 abbrev pub packed_bytes : Op → List ℕ
 packed_bytes x = number_of x ∷ held_bytes x
@@ -176,38 +185,50 @@ unpacked_list item = do
 abbrev pub kind_of : ℕ → Option Kind
 kind_of number =
     if number == 0 then Some kinds.Plain else
-    if number == 1 then Some kinds.Block else
-    if number == 2 then Some kinds.Tag else
-    if number == 3 then Some kinds.Label else
-    if number == 4 then Some kinds.BrTable else
-    if number == 5 then Some kinds.Func else
-    if number == 6 then Some kinds.Indirect else
-    if number == 7 then Some kinds.Select else
-    if number == 8 then Some kinds.TryTable else
-    if number == 9 then Some kinds.Local else
-    if number == 10 then Some kinds.Global else
-    if number == 11 then Some kinds.Table else
-    if number == 12 then Some kinds.Mem else
-    if number == 13 then Some kinds.Memory else
-    if number == 14 then Some kinds.Const32 else
-    if number == 15 then Some kinds.Const64 else
-    if number == 16 then Some kinds.Raw4 else
-    if number == 17 then Some kinds.Raw8 else
-    if number == 18 then Some kinds.RefNull else
-    if number == 19 then Some kinds.FcPlain else
-    if number == 20 then Some kinds.MemoryInit else
-    if number == 21 then Some kinds.DataDrop else
-    if number == 22 then Some kinds.MemoryCopy else
-    if number == 23 then Some kinds.MemoryFill else
-    if number == 24 then Some kinds.TableInit else
-    if number == 25 then Some kinds.ElemDrop else
-    if number == 26 then Some kinds.TableCopy else
-    if number == 27 then Some kinds.FcTable else
-    if number == 28 then Some kinds.Simd else
-    if number == 29 then Some kinds.SimdMem else
-    if number == 30 then Some kinds.SimdMemLane else
-    if number == 31 then Some kinds.SimdBytes else
-    if number == 32 then Some kinds.SimdLane else None
+    if number == 1 then Some kinds.Label else
+    if number == 2 then Some kinds.Local else
+    if number == 3 then Some kinds.Const32 else
+    if number == 4 then Some kinds.Const64 else
+    if number == 5 then Some kinds.Raw4 else
+    if number == 6 then Some kinds.Raw8 else
+    if number == 7 then Some kinds.RefNull else
+    if number == 8 then Some kinds.FcPlain else
+    if number == 9 then Some kinds.Simd else
+    if number == 10 then Some kinds.SimdBytes else
+    if number == 11 then Some kinds.SimdLane else
+    if number == 12 then Some kinds.Block else
+    if number == 13 then Some kinds.Tag else
+    if number == 14 then Some kinds.BrTable else
+    if number == 15 then Some kinds.Func else
+    if number == 16 then Some kinds.Indirect else
+    if number == 17 then Some kinds.Select else
+    if number == 18 then Some kinds.TryTable else
+    if number == 19 then Some kinds.Global else
+    if number == 20 then Some kinds.Table else
+    if number == 21 then Some kinds.Mem else
+    if number == 22 then Some kinds.Memory else
+    if number == 23 then Some kinds.MemoryInit else
+    if number == 24 then Some kinds.DataDrop else
+    if number == 25 then Some kinds.MemoryCopy else
+    if number == 26 then Some kinds.MemoryFill else
+    if number == 27 then Some kinds.TableInit else
+    if number == 28 then Some kinds.ElemDrop else
+    if number == 29 then Some kinds.TableCopy else
+    if number == 30 then Some kinds.FcTable else
+    if number == 31 then Some kinds.SimdMem else
+    if number == 32 then Some kinds.SimdMemLane else None
+
+-- a byte, or two, that is passed over
+abbrev pub one_byte : Input → Result (Unit {0} × Input) ℕ
+one_byte = do
+  _ ← byte
+  pure tt
+
+abbrev pub two_bytes : Input → Result (Unit {0} × Input) ℕ
+two_bytes = do
+  _ ← byte
+  _ ← byte
+  pure tt
 
 -- an operator of what is read
 abbrev pub held_by : {A : Type 0} → (A → Op) → (Input → Result (A × Input) ℕ) → Input → Result (Op × Input) ℕ
@@ -215,26 +236,29 @@ held_by make item = item >>= (λ x. pure (make x))
 
 -- what a variant holds
 unfoldable pub held_as : Kind → Input → Result (Op × Input) ℕ
-held_as kinds.Plain = held_by (λ code. ops.Plain code) byte
+held_as kinds.Plain = one_byte >>= (λ _. held_by (λ code. ops.Plain code) byte)
+held_as kinds.Label = one_byte >>= (λ _. held_by (λ p. ops.Label p.0 p.1) (both byte number32))
+held_as kinds.Local = one_byte >>= (λ _. held_by (λ p. ops.Local p.0 p.1) (both byte number32))
+held_as kinds.Const32 = two_bytes >>= (λ _. held_by (λ n. ops.Const32 n) signed32)
+held_as kinds.Const64 = two_bytes >>= (λ _. held_by (λ n. ops.Const64 n) signed64)
+held_as kinds.Raw4 = two_bytes >>= (λ _. held_by (λ bytes. ops.Raw4 bytes) (raw 4))
+held_as kinds.Raw8 = two_bytes >>= (λ _. held_by (λ bytes. ops.Raw8 bytes) (raw 8))
+held_as kinds.RefNull = two_bytes >>= (λ _. held_by (λ ty. ops.RefNull ty) val_type)
+held_as kinds.FcPlain = two_bytes >>= (λ _. held_by (λ code. ops.FcPlain code) number32)
+held_as kinds.Simd = two_bytes >>= (λ _. held_by (λ code. ops.Simd code) number32)
+held_as kinds.SimdBytes = two_bytes >>= (λ _. held_by (λ p. ops.SimdBytes p.0 p.1) (both number32 (raw 16)))
+held_as kinds.SimdLane = two_bytes >>= (λ _. held_by (λ p. ops.SimdLane p.0 p.1) (both number32 byte))
 held_as kinds.Block = held_by (λ p. ops.Block p.0 p.1) (both byte unpacked_block)
 held_as kinds.Tag = held_by (λ p. ops.Tag p.0 (record { 0 = p.1 })) (both byte number32)
-held_as kinds.Label = held_by (λ p. ops.Label p.0 p.1) (both byte number32)
 held_as kinds.BrTable = held_by (λ p. ops.BrTable p.0 p.1) (both (unpacked_list number32) number32)
 held_as kinds.Func = held_by (λ p. ops.Func p.0 (record { 0 = p.1 })) (both byte number32)
 held_as kinds.Indirect = held_by (λ p. ops.Indirect p.0 (record { 0 = p.1.0 }) (record { 0 = p.1.1 })) (both byte (both number32 number32))
 held_as kinds.Select = held_by (λ types. ops.Select types) (unpacked_list val_type)
 held_as kinds.TryTable = held_by (λ p. ops.TryTable p.0 p.1) (both unpacked_block (unpacked_list unpacked_catch))
-held_as kinds.Local = held_by (λ p. ops.Local p.0 p.1) (both byte number32)
 held_as kinds.Global = held_by (λ p. ops.Global p.0 (record { 0 = p.1 })) (both byte number32)
 held_as kinds.Table = held_by (λ p. ops.Table p.0 (record { 0 = p.1 })) (both byte number32)
 held_as kinds.Mem = held_by (λ p. ops.Mem p.0 p.1) (both byte unpacked_arg)
 held_as kinds.Memory = held_by (λ p. ops.Memory p.0 (record { 0 = p.1 })) (both byte number32)
-held_as kinds.Const32 = held_by (λ n. ops.Const32 n) signed32
-held_as kinds.Const64 = held_by (λ n. ops.Const64 n) signed64
-held_as kinds.Raw4 = held_by (λ bytes. ops.Raw4 bytes) (raw 4)
-held_as kinds.Raw8 = held_by (λ bytes. ops.Raw8 bytes) (raw 8)
-held_as kinds.RefNull = held_by (λ ty. ops.RefNull ty) val_type
-held_as kinds.FcPlain = held_by (λ code. ops.FcPlain code) number32
 held_as kinds.MemoryInit = held_by (λ p. ops.MemoryInit (record { 0 = p.0 }) (record { 0 = p.1 })) (both number32 number32)
 held_as kinds.DataDrop = held_by (λ n. ops.DataDrop (record { 0 = n })) number32
 held_as kinds.MemoryCopy = held_by (λ p. ops.MemoryCopy (record { 0 = p.0 }) (record { 0 = p.1 })) (both number32 number32)
@@ -243,11 +267,8 @@ held_as kinds.TableInit = held_by (λ p. ops.TableInit (record { 0 = p.0 }) (rec
 held_as kinds.ElemDrop = held_by (λ n. ops.ElemDrop (record { 0 = n })) number32
 held_as kinds.TableCopy = held_by (λ p. ops.TableCopy (record { 0 = p.0 }) (record { 0 = p.1 })) (both number32 number32)
 held_as kinds.FcTable = held_by (λ p. ops.FcTable p.0 (record { 0 = p.1 })) (both number32 number32)
-held_as kinds.Simd = held_by (λ code. ops.Simd code) number32
 held_as kinds.SimdMem = held_by (λ p. ops.SimdMem p.0 p.1) (both number32 unpacked_arg)
 held_as kinds.SimdMemLane = held_by (λ p. ops.SimdMemLane p.0 p.1.0 p.1.1) (both number32 (both unpacked_arg byte))
-held_as kinds.SimdBytes = held_by (λ p. ops.SimdBytes p.0 p.1) (both number32 (raw 16))
-held_as kinds.SimdLane = held_by (λ p. ops.SimdLane p.0 p.1) (both number32 byte)
 
 unfoldable pub unpacked_op : Input → Result (Op × Input) ℕ
 unpacked_op = meant kind_of byte >>= held_as
@@ -290,25 +311,28 @@ HasWordsArg arg = IsWord arg.align × IsWord arg.memory.0 × (arg.offset < 2 ^ 6
 -- The numbers that it holds have the widths of their types, its raw bytes are as many as there have to be, and 32 bits count its lists.
 abbrev pub HasWords : Op → Type 0
 HasWords (ops.Plain code) = ⊤
-HasWords (ops.Block code ty) = HasWordsBlock ty
-HasWords (ops.Tag code tag) = IsWord tag.0
 HasWords (ops.Label code label) = IsWord label
-HasWords (ops.BrTable labels label) = IsWord (length labels) × AllByRecursion IsWord labels × IsWord label
-HasWords (ops.Func code func) = IsWord func.0
-HasWords (ops.Indirect code ty table) = IsWord ty.0 × IsWord table.0
-HasWords (ops.Select types) = IsWord (length types)
-HasWords (ops.TryTable ty clauses) = HasWordsBlock ty × IsWord (length clauses) × AllByRecursion HasWordsCatch clauses
 HasWords (ops.Local code local) = IsWord local
-HasWords (ops.Global code global) = IsWord global.0
-HasWords (ops.Table code table) = IsWord table.0
-HasWords (ops.Mem code arg) = HasWordsArg arg
-HasWords (ops.Memory code memory) = IsWord memory.0
 HasWords (ops.Const32 n) = IsWithin (2 ^ 31) n
 HasWords (ops.Const64 n) = IsWithin (2 ^ 63) n
 HasWords (ops.Raw4 bytes) = length bytes ≡ 4
 HasWords (ops.Raw8 bytes) = length bytes ≡ 8
 HasWords (ops.RefNull ty) = ⊤
 HasWords (ops.FcPlain code) = IsWord code
+HasWords (ops.Simd code) = IsWord code
+HasWords (ops.SimdBytes code bytes) = IsWord code × (length bytes ≡ 16)
+HasWords (ops.SimdLane code lane) = IsWord code
+HasWords (ops.Block code ty) = HasWordsBlock ty
+HasWords (ops.Tag code tag) = IsWord tag.0
+HasWords (ops.BrTable labels label) = IsWord (length labels) × AllByRecursion IsWord labels × IsWord label
+HasWords (ops.Func code func) = IsWord func.0
+HasWords (ops.Indirect code ty table) = IsWord ty.0 × IsWord table.0
+HasWords (ops.Select types) = IsWord (length types)
+HasWords (ops.TryTable ty clauses) = HasWordsBlock ty × IsWord (length clauses) × AllByRecursion HasWordsCatch clauses
+HasWords (ops.Global code global) = IsWord global.0
+HasWords (ops.Table code table) = IsWord table.0
+HasWords (ops.Mem code arg) = HasWordsArg arg
+HasWords (ops.Memory code memory) = IsWord memory.0
 HasWords (ops.MemoryInit segment memory) = IsWord segment.0 × IsWord memory.0
 HasWords (ops.DataDrop segment) = IsWord segment.0
 HasWords (ops.MemoryCopy to from) = IsWord to.0 × IsWord from.0
@@ -317,11 +341,8 @@ HasWords (ops.TableInit elem table) = IsWord elem.0 × IsWord table.0
 HasWords (ops.ElemDrop elem) = IsWord elem.0
 HasWords (ops.TableCopy to from) = IsWord to.0 × IsWord from.0
 HasWords (ops.FcTable code table) = IsWord code × IsWord table.0
-HasWords (ops.Simd code) = IsWord code
 HasWords (ops.SimdMem code arg) = IsWord code × HasWordsArg arg
 HasWords (ops.SimdMemLane code arg lane) = IsWord code × HasWordsArg arg
-HasWords (ops.SimdBytes code bytes) = IsWord code × (length bytes ≡ 16)
-HasWords (ops.SimdLane code lane) = IsWord code
 
 -- the bytes are those of their operators
 pub record IsPacked (s : Input) : Type 0 where
@@ -332,3 +353,24 @@ pub record IsPacked (s : Input) : Type 0 where
 abbrev pub IsNextOp : Option Op → List Op → List Op → Type 0
 IsNextOp None from to = (from ≡ []) × (to ≡ [])
 IsNextOp (Some x) from to = from ≡ x ∷ to
+
+-- the operators that are kept as a file has them
+abbrev pub is_spelled : Op → Bool
+is_spelled x = nat_lt (number_of x) 12
+
+-- What a walk gives where the first operator is kept as a file has it: its bytes there. Else the walk stays where it is.
+abbrev pub IsNextSpelled : Option (List ℕ) → List Op → List Op → Type 0
+IsNextSpelled None from to = to ≡ from
+IsNextSpelled (Some bytes) from to = (x : Op) × (from ≡ x ∷ to) × (is_spelled x ≡ true) × (bytes ≡ spelled_bytes x)
+
+-- such operators stand before what is left
+pub record Passes (from to : List Op) : Type 0 where
+  pub over : List Op
+  pub whole : from ≡ over ++ to
+  pub spelled : AllByRecursion (λ x. is_spelled x ≡ true) over
+
+-- what a walk gives that passes over such operators first
+pub record IsNextOther (found : Option Op) (from to : List Op) : Type 0 where
+  pub rest : List Op
+  pub passes : Passes from rest
+  pub next : IsNextOp found rest to

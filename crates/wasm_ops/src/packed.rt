@@ -1,7 +1,8 @@
 //! Operators that are kept as bytes.
 
 ghost use Rattle.std.specs.Prelude.{◌≡◌, ◌∷◌, ◌++◌, [], IfOk, IfErr, OnOk, OnErr};
-ghost use Rattle.wasm_ops.specs.Packed.{IsNextOp};
+ghost use Rattle.std.specs.Option.{option_copied};
+ghost use Rattle.wasm_ops.specs.Packed.{IsNextOp, IsNextSpelled, IsNextOther};
 
 use crate::ops::Op;
 use crate::packing::pack_op;
@@ -90,7 +91,7 @@ impl Ops {
         ensures { result ≡ self.now }
     {
         Walk {
-            reader: Reader::new(&self.bytes),
+            bytes: &self.bytes,
             alloc: *self.bytes.allocator(),
         }
     }
@@ -111,7 +112,7 @@ impl Debug for Ops {
 /// The operators that are still to come. A contract sees their list.
 #[derive(Drop)]
 pub struct Walk<'a> {
-    reader: Reader<'a>,
+    bytes: &'a [u8],
     alloc: Global,
 }
 
@@ -122,9 +123,9 @@ impl<'a> Model for Walk<'a> {
 
     ghost Value = { List Op };
 
-    ghost view = { λ walk. unpacked walk.reader };
+    ghost view = { λ walk. unpacked (record { place = 0; bytes = walk.bytes.now }) };
 
-    ghost invariant = { λ walk. IsPacked walk.reader };
+    ghost invariant = { λ walk. IsPacked (record { place = 0; bytes = walk.bytes.now }) };
 }
 
 impl<'a> Walk<'a> {
@@ -134,14 +135,45 @@ impl<'a> Walk<'a> {
         ensures ok { IfOk result (λ found. IsNextOp found self.old self.new) }
         ensures err { IfErr result (λ e. self.new ≡ []) }
     {
-        if self.reader.len() == 0 {
+        if self.bytes.is_empty() {
             return Ok(None);
         }
-        match read_packed(&mut self.reader, self.alloc) {
-            Ok(op) => Ok(Some(op)),
+        let mut reader = Reader::new(self.bytes);
+        match read_packed(&mut reader, self.alloc) {
+            Ok(op) => {
+                self.bytes = reader.left();
+                Ok(Some(op))
+            }
             Err(_) => {
-                self.reader = Reader::new(&[]);
+                self.bytes = &[];
                 Err(AllocError)
+            }
+        }
+    }
+
+    /// What the next operator is in a file, where it is kept so: that of an operator that names no entry and has no list. Else the walk stays where it is.
+    #[tactic(auto, using(crate::proofs::PackedAgain::spelled_walked))]
+    pub fn next_spelled(&mut self) -> Option<&'a [u8]>
+        ensures { IsNextSpelled (option_copied result) self.old self.new }
+    {
+        match self.bytes {
+            [number, len, rest @ ..] if *number < 12 && *len as usize <= rest.len() => {
+                let (spelled, left) = rest.split_at(*len as usize);
+                self.bytes = left;
+                Some(spelled)
+            }
+            _ => None,
+        }
+    }
+
+    /// The next operator that isn't kept as a file has it; those before it are passed over, none of which names an entry.
+    pub fn next_other(&mut self) -> Result<Option<Op>, AllocError>
+        ensures { IfOk result (λ found. IsNextOther found self.old self.new) }
+    {
+        loop {
+            match self.next_spelled() {
+                Some(_) => {}
+                None => return self.next(),
             }
         }
     }

@@ -1,10 +1,10 @@
 //! Writing what is kept packed.
 
-ghost use Rattle.std.specs.Prelude.{◌≡◌, ◌∷◌, ◌++◌, [], OnOk};
+ghost use Rattle.std.specs.Prelude.{◌≡◌, ◌≤◌, ◌∷◌, ◌++◌, [], length, OnOk};
 ghost use Rattle.wasm_bytes.specs.Numbers.{number_bytes};
 ghost use Rattle.wasm_bytes.specs.Signed.{signed_bytes};
 ghost use Rattle.wasm_ops.specs.declared.ops.Op.TheVariants as ops;
-ghost use Rattle.wasm_ops.specs.Packed.{packed_block, packed_catch, packed_arg, packed_coded, packed_two, packed_bytes, HasWordsBlock, HasWordsCatch, HasWordsArg, HasWords, IsWord};
+ghost use Rattle.wasm_ops.specs.Packed.{behind_length, packed_block, packed_catch, packed_arg, packed_coded, packed_two, packed_bytes, HasWordsBlock, HasWordsCatch, HasWordsArg, HasWords, IsWord};
 
 use crate::lists::pack_list;
 use crate::ops::{BlockType, Catch, MemArg, Op};
@@ -13,7 +13,7 @@ use crate::spelling::{
 };
 use crate::types::ValType;
 use std::alloc::AllocError;
-use wasm_bytes::{push_number, push_u32};
+use wasm_bytes::{number_len, push_number, push_u32, signed_len};
 
 #[tactic(auto, unfolding(crate::specs::Packed::packed_block, crate::specs::Packed::packed_type))]
 fn pack_block(out: &mut Vec<u8>, ty: BlockType) -> Result<(), AllocError>
@@ -127,13 +127,53 @@ fn pack_numbered_arg(
     out.extend_from_slice(lane)
 }
 
+/// Appends a byte, and a byte and a number behind their length.
+fn pack_spelled(out: &mut Vec<u8>, number: u8, code: u8, n: u32) -> Result<(), AllocError>
+    ensures words { IsWord n }
+    ensures bytes { OnOk result (out.new.items ≡ out.old.items ++ number ∷ behind_length (packed_coded code n)) }
+{
+    out.push(number)?;
+    out.push(1 + number_len(n as u64))?;
+    push_coded(out, code, n)
+}
+
+/// Appends a byte, and a byte and a number with a sign behind their length.
+fn pack_signed(out: &mut Vec<u8>, number: u8, code: u8, value: i64) -> Result<(), AllocError>
+    ensures { OnOk result (out.new.items ≡ out.old.items ++ number ∷ behind_length (code ∷ signed_bytes value)) }
+{
+    out.push(number)?;
+    out.push(1 + signed_len(value))?;
+    push_coded_signed(out, code, value)
+}
+
+/// Appends a byte, and a byte and raw bytes behind their length.
+fn pack_raw(out: &mut Vec<u8>, number: u8, code: u8, bytes: &[u8]) -> Result<(), AllocError>
+    requires few { length bytes.now ≤ 8 }
+    ensures bytes { OnOk result (out.new.items ≡ out.old.items ++ number ∷ behind_length (code ∷ bytes.now)) }
+{
+    out.push(number)?;
+    out.push(1 + bytes.len() as u8)?;
+    push_bytes(out, code, bytes)
+}
+
+/// Appends a byte, and the prefix of vector operators, a number and raw bytes behind their length.
+fn pack_vector(out: &mut Vec<u8>, number: u8, code: u32, bytes: &[u8]) -> Result<(), AllocError>
+    requires few { length bytes.now ≤ 16 }
+    ensures words { IsWord code }
+    ensures bytes { OnOk result (out.new.items ≡ out.old.items ++ number ∷ behind_length (packed_coded 0xFD code ++ bytes.now)) }
+{
+    out.push(number)?;
+    out.push(1 + number_len(code as u64) + bytes.len() as u8)?;
+    push_coded_bytes(out, 0xFD, code, bytes)
+}
+
 /// Appends a branch by a table of labels.
 #[tactic(auto, unfolding(crate::specs::Packed::held_bytes))]
 fn pack_br_table(out: &mut Vec<u8>, labels: &[u32], label: u32) -> Result<(), AllocError>
     ensures bytes { OnOk result (out.new.items ≡ out.old.items ++ packed_bytes (ops.BrTable labels.now label)) }
     ensures words { OnOk result (HasWords (ops.BrTable labels.now label)) }
 {
-    out.push(4)?;
+    out.push(14)?;
     pack_list(labels, out)?;
     push_u32(out, label)
 }
@@ -144,7 +184,7 @@ fn pack_select(out: &mut Vec<u8>, types: &[ValType]) -> Result<(), AllocError>
     ensures bytes { OnOk result (out.new.items ≡ out.old.items ++ packed_bytes (ops.Select types.now)) }
     ensures words { OnOk result (HasWords (ops.Select types.now)) }
 {
-    out.push(7)?;
+    out.push(17)?;
     pack_list(types, out)
 }
 
@@ -154,50 +194,50 @@ fn pack_try_table(out: &mut Vec<u8>, ty: BlockType, clauses: &[Catch]) -> Result
     ensures bytes { OnOk result (out.new.items ≡ out.old.items ++ packed_bytes (ops.TryTable ty clauses.now)) }
     ensures words { OnOk result (HasWords (ops.TryTable ty clauses.now)) }
 {
-    out.push(8)?;
+    out.push(18)?;
     pack_block(out, ty)?;
     pack_list(clauses, out)
 }
 
 /// Appends an operator.
-#[tactic(auto, unfolding(crate::specs::Packed::held_bytes, crate::specs::Packed::packed_type))]
+#[tactic(auto, unfolding(crate::specs::Packed::held_bytes, crate::specs::Packed::spelled_bytes, crate::specs::Packed::packed_type))]
 pub(crate) fn pack_op(out: &mut Vec<u8>, op: &Op) -> Result<(), AllocError>
     ensures bytes { OnOk result (out.new.items ≡ out.old.items ++ packed_bytes op.now) }
     ensures words { OnOk result (HasWords op.now) }
 {
     match *op {
-        Op::Plain(code) => push_bytes(out, 0, &[code]),
-        Op::Block(code, ty) => pack_coded_block(out, 1, code, ty),
-        Op::Tag(code, tag) => pack_coded(out, 2, code, tag.0),
-        Op::Label(code, label) => pack_coded(out, 3, code, label),
+        Op::Plain(code) => push_bytes(out, 0, &[1, code]),
+        Op::Label(code, label) => pack_spelled(out, 1, code, label),
+        Op::Local(code, local) => pack_spelled(out, 2, code, local),
+        Op::Const32(value) => pack_signed(out, 3, 0x41, value as i64),
+        Op::Const64(value) => pack_signed(out, 4, 0x42, value),
+        Op::Raw4(ref bytes) => pack_raw(out, 5, 0x43, bytes),
+        Op::Raw8(ref bytes) => pack_raw(out, 6, 0x44, bytes),
+        Op::RefNull(ty) => push_bytes(out, 7, &[2, 0xD0, ty.code()]),
+        Op::FcPlain(code) => pack_spelled(out, 8, 0xFC, code),
+        Op::Simd(code) => pack_spelled(out, 9, 0xFD, code),
+        Op::SimdBytes(code, ref bytes) => pack_vector(out, 10, code, bytes),
+        Op::SimdLane(code, lane) => pack_vector(out, 11, code, &[lane]),
+        Op::Block(code, ty) => pack_coded_block(out, 12, code, ty),
+        Op::Tag(code, tag) => pack_coded(out, 13, code, tag.0),
         Op::BrTable(ref labels, label) => pack_br_table(out, labels.as_slice(), label),
-        Op::Func(code, func) => pack_coded(out, 5, code, func.0),
-        Op::Indirect(code, ty, table) => pack_coded_two(out, 6, code, ty.0, table.0),
+        Op::Func(code, func) => pack_coded(out, 15, code, func.0),
+        Op::Indirect(code, ty, table) => pack_coded_two(out, 16, code, ty.0, table.0),
         Op::Select(ref types) => pack_select(out, types.as_slice()),
         Op::TryTable(ty, ref clauses) => pack_try_table(out, ty, clauses.as_slice()),
-        Op::Local(code, local) => pack_coded(out, 9, code, local),
-        Op::Global(code, global) => pack_coded(out, 10, code, global.0),
-        Op::Table(code, table) => pack_coded(out, 11, code, table.0),
-        Op::Mem(code, arg) => pack_coded_arg(out, 12, code, arg),
-        Op::Memory(code, memory) => pack_coded(out, 13, code, memory.0),
-        Op::Const32(value) => push_coded_signed(out, 14, value as i64),
-        Op::Const64(value) => push_coded_signed(out, 15, value),
-        Op::Raw4(ref bytes) => push_bytes(out, 16, bytes),
-        Op::Raw8(ref bytes) => push_bytes(out, 17, bytes),
-        Op::RefNull(ty) => push_bytes(out, 18, &[ty.code()]),
-        Op::FcPlain(code) => push_coded(out, 19, code),
-        Op::MemoryInit(segment, memory) => pack_two(out, 20, segment.0, memory.0),
-        Op::DataDrop(segment) => pack_number(out, 21, segment.0),
-        Op::MemoryCopy(to, from) => pack_two(out, 22, to.0, from.0),
-        Op::MemoryFill(memory) => pack_number(out, 23, memory.0),
-        Op::TableInit(elem, table) => pack_two(out, 24, elem.0, table.0),
-        Op::ElemDrop(elem) => pack_number(out, 25, elem.0),
-        Op::TableCopy(to, from) => pack_two(out, 26, to.0, from.0),
-        Op::FcTable(code, table) => pack_two(out, 27, code, table.0),
-        Op::Simd(code) => push_coded(out, 28, code),
-        Op::SimdMem(code, arg) => pack_numbered_arg(out, 29, code, arg, &[]),
-        Op::SimdMemLane(code, arg, lane) => pack_numbered_arg(out, 30, code, arg, &[lane]),
-        Op::SimdBytes(code, ref bytes) => push_coded_bytes(out, 31, code, bytes),
-        Op::SimdLane(code, lane) => push_coded_bytes(out, 32, code, &[lane]),
+        Op::Global(code, global) => pack_coded(out, 19, code, global.0),
+        Op::Table(code, table) => pack_coded(out, 20, code, table.0),
+        Op::Mem(code, arg) => pack_coded_arg(out, 21, code, arg),
+        Op::Memory(code, memory) => pack_coded(out, 22, code, memory.0),
+        Op::MemoryInit(segment, memory) => pack_two(out, 23, segment.0, memory.0),
+        Op::DataDrop(segment) => pack_number(out, 24, segment.0),
+        Op::MemoryCopy(to, from) => pack_two(out, 25, to.0, from.0),
+        Op::MemoryFill(memory) => pack_number(out, 26, memory.0),
+        Op::TableInit(elem, table) => pack_two(out, 27, elem.0, table.0),
+        Op::ElemDrop(elem) => pack_number(out, 28, elem.0),
+        Op::TableCopy(to, from) => pack_two(out, 29, to.0, from.0),
+        Op::FcTable(code, table) => pack_two(out, 30, code, table.0),
+        Op::SimdMem(code, arg) => pack_numbered_arg(out, 31, code, arg, &[]),
+        Op::SimdMemLane(code, arg, lane) => pack_numbered_arg(out, 32, code, arg, &[lane]),
     }
 }

@@ -344,10 +344,15 @@ fn write_each_op(out: &mut Vec<u8>, numbers: &Numbering, ops: &Ops) -> Result<()
     ensures { OnOk result (out.new.items ≡ out.old.items ++ flat_map op_bytes (renumbered_ops numbers.now ops.now)) }
 {
     let mut walk = ops.walk();
-    while let Some(op) = walk.next()? {
-        write_op(out, numbers, &op)?;
+    loop {
+        match walk.next_spelled() {
+            Some(bytes) => out.extend_from_slice(bytes)?,
+            None => match walk.next()? {
+                Some(op) => write_op(out, numbers, &op)?,
+                None => return Ok(()),
+            },
+        }
     }
-    Ok(())
 }
 
 /// Appends operators with the numbers of what they name, and the one that ends them.

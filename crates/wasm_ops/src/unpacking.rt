@@ -5,7 +5,7 @@ ghost use Rattle.wasm_bytes.specs.Gives.{Gives};
 ghost use Rattle.wasm_bytes.specs.Reading.{byte, raw};
 ghost use Rattle.wasm_bytes.specs.Numbers.{number32, number64};
 ghost use Rattle.wasm_ops.specs.Entries.{val_type};
-ghost use Rattle.wasm_ops.specs.Packed.{both, block_as, unpacked_block, unpacked_catch_as, unpacked_catch, unpacked_arg, unpacked_list, held_as, unpacked_op};
+ghost use Rattle.wasm_ops.specs.Packed.{both, one_byte, two_bytes, block_as, unpacked_block, unpacked_catch_as, unpacked_catch, unpacked_arg, unpacked_list, held_as, unpacked_op};
 
 use crate::ids::{DataId, ElemId, FuncId, GlobalId, MemoryId, TableId, TagId, TypeId};
 use crate::kinds::{BlockKind, Kind, block_kind_of, kind_of};
@@ -42,6 +42,23 @@ fn read_coded_two(reader: &mut Reader<'_>) -> Result<(u8, (u32, u32)), ReadFault
     let code = reader.byte()?;
     let two = read_two(reader)?;
     Ok((code, two))
+}
+
+/// Passes over a byte.
+fn skip_byte(reader: &mut Reader<'_>) -> Result<(), ReadFault>
+    ensures { Gives result reader.new (one_byte reader.old) }
+{
+    reader.byte()?;
+    Ok(())
+}
+
+/// Passes over two bytes.
+fn skip_two(reader: &mut Reader<'_>) -> Result<(), ReadFault>
+    ensures { Gives result reader.new (two_bytes reader.old) }
+{
+    reader.byte()?;
+    reader.byte()?;
+    Ok(())
 }
 
 /// A value type.
@@ -207,10 +224,56 @@ fn read_as(reader: &mut Reader<'_>, alloc: Global, kind: Kind) -> Result<Op, Rea
     ensures { Gives result reader.new (held_as kind reader.old) }
 {
     match kind {
-        Kind::Plain => reader.byte().map(Op::Plain),
+        Kind::Plain => {
+            skip_byte(reader)?;
+            reader.byte().map(Op::Plain)
+        }
+        Kind::Label => {
+            skip_byte(reader)?;
+            read_coded(reader).map(|p| Op::Label(p.0, p.1))
+        }
+        Kind::Local => {
+            skip_byte(reader)?;
+            read_coded(reader).map(|p| Op::Local(p.0, p.1))
+        }
+        Kind::Const32 => {
+            skip_two(reader)?;
+            reader.signed32().map(Op::Const32)
+        }
+        Kind::Const64 => {
+            skip_two(reader)?;
+            reader.signed64().map(Op::Const64)
+        }
+        Kind::Raw4 => {
+            skip_two(reader)?;
+            read_array(reader).map(Op::Raw4)
+        }
+        Kind::Raw8 => {
+            skip_two(reader)?;
+            read_array(reader).map(Op::Raw8)
+        }
+        Kind::RefNull => {
+            skip_two(reader)?;
+            read_val_type(reader).map(Op::RefNull)
+        }
+        Kind::FcPlain => {
+            skip_two(reader)?;
+            reader.number32().map(Op::FcPlain)
+        }
+        Kind::Simd => {
+            skip_two(reader)?;
+            reader.number32().map(Op::Simd)
+        }
+        Kind::SimdBytes => {
+            skip_two(reader)?;
+            read_numbered_bytes(reader).map(|p| Op::SimdBytes(p.0, p.1))
+        }
+        Kind::SimdLane => {
+            skip_two(reader)?;
+            read_numbered_lane(reader).map(|p| Op::SimdLane(p.0, p.1))
+        }
         Kind::Block => read_coded_block(reader).map(|p| Op::Block(p.0, p.1)),
         Kind::Tag => read_coded(reader).map(|p| Op::Tag(p.0, TagId(p.1))),
-        Kind::Label => read_coded(reader).map(|p| Op::Label(p.0, p.1)),
         Kind::BrTable => {
             let p = read_br_table(reader, alloc)?;
             Ok(Op::BrTable(p.0, p.1))
@@ -224,17 +287,10 @@ fn read_as(reader: &mut Reader<'_>, alloc: Global, kind: Kind) -> Result<Op, Rea
             let p = read_try_table(reader, alloc)?;
             Ok(Op::TryTable(p.0, p.1))
         }
-        Kind::Local => read_coded(reader).map(|p| Op::Local(p.0, p.1)),
         Kind::Global => read_coded(reader).map(|p| Op::Global(p.0, GlobalId(p.1))),
         Kind::Table => read_coded(reader).map(|p| Op::Table(p.0, TableId(p.1))),
         Kind::Mem => read_coded_arg(reader).map(|p| Op::Mem(p.0, p.1)),
         Kind::Memory => read_coded(reader).map(|p| Op::Memory(p.0, MemoryId(p.1))),
-        Kind::Const32 => reader.signed32().map(Op::Const32),
-        Kind::Const64 => reader.signed64().map(Op::Const64),
-        Kind::Raw4 => read_array(reader).map(Op::Raw4),
-        Kind::Raw8 => read_array(reader).map(Op::Raw8),
-        Kind::RefNull => read_val_type(reader).map(Op::RefNull),
-        Kind::FcPlain => reader.number32().map(Op::FcPlain),
         Kind::MemoryInit => { read_two(reader).map(|p| Op::MemoryInit(DataId(p.0), MemoryId(p.1))) }
         Kind::DataDrop => reader.number32().map(|n| Op::DataDrop(DataId(n))),
         Kind::MemoryCopy => {
@@ -245,13 +301,10 @@ fn read_as(reader: &mut Reader<'_>, alloc: Global, kind: Kind) -> Result<Op, Rea
         Kind::ElemDrop => reader.number32().map(|n| Op::ElemDrop(ElemId(n))),
         Kind::TableCopy => read_two(reader).map(|p| Op::TableCopy(TableId(p.0), TableId(p.1))),
         Kind::FcTable => read_two(reader).map(|p| Op::FcTable(p.0, TableId(p.1))),
-        Kind::Simd => reader.number32().map(Op::Simd),
         Kind::SimdMem => read_numbered_arg(reader).map(|p| Op::SimdMem(p.0, p.1)),
         Kind::SimdMemLane => {
             read_numbered_arg_lane(reader).map(|p| Op::SimdMemLane(p.0, p.1.0, p.1.1))
         }
-        Kind::SimdBytes => read_numbered_bytes(reader).map(|p| Op::SimdBytes(p.0, p.1)),
-        Kind::SimdLane => read_numbered_lane(reader).map(|p| Op::SimdLane(p.0, p.1)),
     }
 }
 

@@ -1,8 +1,11 @@
-use Rattle.std.proofs.Common.{◌++◌, sym, ap, ◌∙◌, Some}
+use Rattle.std.proofs.Common.{◌≡◌, ◌++◌, [], sym, ap, ◌∙◌, Some, arith}
 use Rattle.std.specs.List.{flat_map}
-use Rattle.std.proofs.lemmas.List.{take_all}
+use Rattle.std.specs.Vec.Iter.{into_iter_items}
+use Rattle.std.proofs.lemmas.Grind.{common_steps}
+use Rattle.std.proofs.lemmas.List.{append-nil}
 use Rattle.std.proofs.lemmas.Result.{err_from_is_err_and}
 use Rattle.wasm_file.specs.Spelling.{section_bytes}
+use Rattle.wasm_core.specs.Emission.{first_too_large}
 use Rattle.wasm_core.proofs.Large.{large_here, large_later, large_none, one_more}
 use Rattle.wasm_core.proofs.emit.emit_sections.Goals as goal
 
@@ -10,16 +13,24 @@ pub returns-in_err-emit_section-clause-err : goal.returns-in_err-emit_section-cl
 returns-in_err-emit_section-clause-err c = λ s h.
     let p = err_from_is_err_and c.from_residual.result c.from_residual.ensures.1 in
     let told = c.in_err-emit_section.ensures.err s (sym (rw p.2 at p.1) ∙ h) in
-    sym c.loop-section.invariant.large ∙ large_here c.args.longest c.args.sections.now c.loop-section.section-index c.section-item.result c.as_slice.result.now c.loop-section-test.true c.section-item.is c.as_slice.ensures told.1 ∙ ap Some (sym told.0)
+    let left = into_iter_items c.next.new.self in
+    sym c.loop-section.invariant.3 ∙ ap (first_too_large c.args.longest) c.in-Some.ensures.steps.0 ∙ large_here c.args.longest c.in-Some.section left told.1 ∙ ap Some (sym told.0)
 
 pub loop-section-preserved : goal.loop-section-preserved
-loop-section-preserved c = record {
-  bytes = one_more c.args.sections.now c.loop-section.section-index c.section-item.result c.as_slice.result.now c.args.out.now.items c.loop-section.out.items c.emit_section.new.out.items c.loop-section-test.true c.section-item.is c.as_slice.ensures c.loop-section.invariant.bytes c.in_ok-emit_section.ensures.ok.0;
-  large = sym (large_later c.args.longest c.args.sections.now c.loop-section.section-index c.section-item.result c.as_slice.result.now c.loop-section-test.true c.section-item.is c.as_slice.ensures c.in_ok-emit_section.ensures.ok.1) ∙ c.loop-section.invariant.large;
-}
+loop-section-preserved c =
+    let left = into_iter_items c.next.new.self in
+    let section = c.in-Some.section in
+    let so_far = sym (ap (λ ss. c.loop-section.out.items ++ flat_map section_bytes ss) c.in-Some.ensures.steps.0) ∙ c.loop-section.invariant.2 in
+    let large = sym (ap (first_too_large c.args.longest) c.in-Some.ensures.steps.0) ∙ c.loop-section.invariant.3 in (
+      tt,
+      tt,
+      one_more section left c.loop-section.out.items c.emit_section.new.out.items (c.args.out.now.items ++ flat_map section_bytes c.args.sections) so_far c.in_ok-emit_section.ensures.ok.0,
+      sym (large_later c.args.longest section left c.in_ok-emit_section.ensures.ok.1) ∙ large,
+    )
 
 pub returns-clause-ok : goal.returns-clause-ok
-returns-clause-ok c = (
-  c.loop-section.invariant.bytes ∙ ap (λ ss. c.args.out.now.items ++ flat_map section_bytes ss) (take_all c.loop-section.section-index c.args.sections.now c.loop-section-test.false),
-  sym c.loop-section.invariant.large ∙ large_none c.args.longest c.args.sections.now c.loop-section.section-index c.loop-section-test.false,
-)
+returns-clause-ok c =
+    let none : into_iter_items c.loop-section.section-iterator ≡ [] = grind (arith, common_steps) in (
+      sym (append-nil c.loop-section.out.items) ∙ sym (ap (λ ss. c.loop-section.out.items ++ flat_map section_bytes ss) none) ∙ c.loop-section.invariant.2,
+      sym c.loop-section.invariant.3 ∙ ap (first_too_large c.args.longest) none ∙ large_none c.args.longest,
+    )

@@ -1,11 +1,12 @@
-use Rattle.std.proofs.Common.{◌≡◌, ◌++◌, take, drop}
+use Rattle.std.proofs.Common.{◌≡◌, ◌++◌}
 use Rattle.std.specs.List.{flat_map}
+use Rattle.std.specs.Vec.Iter.{into_iter_items}
 use Rattle.wasm_file.specs.Spelling.{section_bytes}
 use Rattle.wasm_core.specs.Emission.{first_too_large}
 use Rattle.wasm_core.proofs.emit.emit_sections.Given as goal
 
 abbrev pub invariant-loop-section : goal.invariant-loop-section
-invariant-loop-section l = record {
-  bytes : l.out.items ≡ l.fn.out.items ++ flat_map section_bytes (take l.section-index l.sections);
-  large : first_too_large l.longest (drop l.section-index l.sections) ≡ first_too_large l.longest l.sections;
-}
+invariant-loop-section l = goal.iterator-loop-section.can_next l.section-iterator
+    × goal.iterator-loop-section.is_finite l.section-iterator
+    × (l.out.items ++ flat_map section_bytes (into_iter_items l.section-iterator) ≡ l.fn.out.items ++ flat_map section_bytes l.fn.sections)
+    × (first_too_large l.longest (into_iter_items l.section-iterator) ≡ first_too_large l.longest l.fn.sections)

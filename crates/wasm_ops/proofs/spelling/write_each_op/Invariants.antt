@@ -4,8 +4,8 @@ use Rattle.wasm_ops.specs.Numbers.{renumbered_op}
 use Rattle.wasm_ops.specs.Spelling.{op_bytes}
 use Rattle.wasm_ops.proofs.spelling.write_each_op.Given as goal
 
-abbrev pub invariant-loop-op : goal.invariant-loop-op
-invariant-loop-op l = l.out.items ++ flat_map (λ op. op_bytes (renumbered_op l.numbers op)) l.walk ≡ l.fn.out.items ++ flat_map (λ op. op_bytes (renumbered_op l.numbers op)) l.ops
+abbrev pub invariant-loop-bytes : goal.invariant-loop-bytes
+invariant-loop-bytes l = l.out.items ++ flat_map (λ op. op_bytes (renumbered_op l.numbers op)) l.walk ≡ l.fn.out.items ++ flat_map (λ op. op_bytes (renumbered_op l.numbers op)) l.ops
 
-abbrev pub decreases-loop-op : goal.decreases-loop-op
-decreases-loop-op l = length l.walk
+abbrev pub decreases-loop-bytes : goal.decreases-loop-bytes
+decreases-loop-bytes l = length l.walk
