@@ -10,7 +10,7 @@ use Rattle.std.proofs.lemmas.Option.{same_Some, slice_get_cases}
 use Rattle.wasm_core.specs.Contents.{IsEntry, IsLive}
 use Rattle.wasm_core.specs.Edits.{with_export, with_func, without_start, IsLiveItem, func_added, is_entry_alike}
 use Rattle.wasm_core.specs.entries.Export.{Export}
-use Rattle.wasm_core.specs.ops.Body.{Body}
+use Rattle.wasm_core.specs.body.Body.{Body}
 use Rattle.wasm_core.specs.ids.FuncId.{FuncId}
 use Rattle.wasm_core.specs.ids.GlobalId.{GlobalId}
 use Rattle.wasm_core.specs.entries.ExportItem.{ExportItem}

@@ -3,7 +3,7 @@ use Rattle.std.specs.Prelude.{ℕ, Bool, true, false, List, [], ◌∷◌, lengt
 use Rattle.wasm_core.specs.ids.ImportId.{ImportId}
 use Rattle.wasm_core.specs.ids.FuncId.{FuncId}
 use Rattle.wasm_core.specs.ids.GlobalId.{GlobalId}
-use Rattle.wasm_core.specs.ops.Body.{Body}
+use Rattle.wasm_core.specs.body.Body.{Body}
 use Rattle.wasm_core.specs.ops.Op.TheVariants as op
 use Rattle.wasm_core.specs.types.FuncType.{FuncType}
 use Rattle.wasm_core.specs.types.ValType.TheVariants.{I32}

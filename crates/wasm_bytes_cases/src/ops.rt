@@ -1,12 +1,12 @@
 use crate::compare::{assert_bytes, assert_case, assert_told, debugged};
+use packed_ops::Ops;
 use std::alloc::{AllocError, Global};
 use std::process::Abort;
 use values::Seq;
 use wasm_bytes::{Counts, ReadFault, Reader, push_number};
-use wasm_ops::{
-    Body, Numbering, Ops, ValType, number_at, read_code_entry, read_initial, read_initials,
-    write_code, write_expression,
-};
+use wasm_code::{Body, read_code_entry, read_initial, read_initials, write_code, write_expression};
+use wasm_ops::{Numbering, number_at};
+use wasm_types::ValType;
 
 const COUNTS: Counts = Counts {
     types: 3,

@@ -1,12 +1,11 @@
 //! Operators that are kept packed are given back as they were.
 use crate::compare::{assert_told, debugged};
+use packed_ops::Ops;
 use std::alloc::{AllocError, Global};
 use std::process::Abort;
 use values::Seq;
-use wasm_ops::{
-    BlockType, Catch, DataId, ElemId, FuncId, GlobalId, MemArg, MemoryId, Op, Ops, TableId, TagId,
-    TypeId, ValType,
-};
+use wasm_ops::{BlockType, Catch, MemArg, Op};
+use wasm_types::{DataId, ElemId, FuncId, GlobalId, MemoryId, TableId, TagId, TypeId, ValType};
 
 const MAX: u32 = u32::MAX;
 

@@ -5,7 +5,7 @@ use Rattle.std.proofs.lemmas.Bool.{cases_eq}
 use Rattle.std.proofs.lemmas.List.{length-set, length-map, get_or-map, get_or-set_same, get_or-set_other, same_lists}
 use Rattle.std.proofs.lemmas.Option.{slice_get-get_or}
 use Rattle.std.proofs.lemmas.List.FromFn.{length-enumerate_from, get_or-enumerate_from}
-use Rattle.wasm_ops.specs.declared.ids.FuncId.{FuncId}
+use Rattle.wasm_types.specs.declared.ids.FuncId.{FuncId}
 use Rattle.wasm_core.specs.declared.types.Func.{Func}
 use Rattle.wasm_core.specs.Parsing.{later, last_name, with_name, with_names, renamed, name_given}
 

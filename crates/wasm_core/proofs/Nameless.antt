@@ -3,7 +3,7 @@ use Rattle.std.proofs.Common.{◌≡◌, true, List, [], refl, arith}
 use Rattle.wasm_reach.specs.declared.things.Thing.{Thing}
 use Rattle.wasm_ops.specs.declared.ops.Op.{Op}
 use Rattle.wasm_ops.specs.declared.ops.Op.TheVariants as ops
-use Rattle.wasm_ops.specs.Packed.{is_spelled}
+use Rattle.packed_ops.specs.Packed.{is_spelled}
 use Rattle.wasm_core.specs.Contents.{Contents}
 use Rattle.wasm_core.specs.Reach.{op_names, body_op_names}
 

@@ -1,7 +1,7 @@
 -- A module by ids: an id is a place in a list, and what is dropped leaves its place empty.
 use Rattle.std.specs.Prelude.{ℕ, List, Option, Some, None, slice_get}
-use Rattle.wasm_ops.specs.declared.ids.FuncId.{FuncId}
-use Rattle.wasm_ops.specs.declared.types.FuncType.{FuncType}
+use Rattle.wasm_types.specs.declared.ids.FuncId.{FuncId}
+use Rattle.wasm_types.specs.declared.types.FuncType.{FuncType}
 use Rattle.wasm_file.specs.declared.entries.Export.{Export}
 use Rattle.wasm_file.specs.declared.entries.Custom.{Custom}
 use Rattle.wasm_core.specs.declared.types.Func.{Func}

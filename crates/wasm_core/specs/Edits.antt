@@ -7,10 +7,10 @@ use Rattle.wasm_file.specs.declared.entries.Custom.{Custom}
 use Rattle.wasm_core.specs.declared.types.Import.{Import}
 use Rattle.wasm_file.specs.declared.entries.ProducerField.{ProducerField}
 use Rattle.wasm_file.specs.declared.entries.ProducerValue.{ProducerValue}
-use Rattle.wasm_ops.specs.declared.ops.Body.{Body}
-use Rattle.wasm_ops.specs.declared.types.FuncType.{FuncType}
-use Rattle.wasm_ops.specs.declared.types.ValType.{ValType}
-use Rattle.wasm_ops.specs.Types.{code_of}
+use Rattle.wasm_code.specs.declared.body.Body.{Body}
+use Rattle.wasm_types.specs.declared.types.FuncType.{FuncType}
+use Rattle.wasm_types.specs.declared.types.ValType.{ValType}
+use Rattle.wasm_types.specs.Types.{code_of}
 use Rattle.wasm_file.specs.declared.entries.ExportItem.{ExportItem}
 use Rattle.wasm_file.specs.declared.entries.ExportItem.TheVariants as items
 use Rattle.wasm_file.specs.Customs.{is_same_text, lists_feature}

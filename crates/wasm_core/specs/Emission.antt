@@ -2,15 +2,16 @@
 use Rattle.std.specs.Prelude.{ℕ, ◌==◌, ◌&&◌, ◌||◌, Bool, true, false, not, List, [], ◌∷◌, ◌++◌, length, map, count_by, codes, Option, Some, None, is_some, slice_get, nat_lt, if◌then◌else◌}
 use Rattle.std.specs.List.{flat_map, filter_map, enumerate_from}
 use Rattle.wasm_bytes.specs.Spelling.{list_bytes}
-use Rattle.wasm_ops.specs.Numbers.{number_at, renumbered_ops, renumbered_body}
-use Rattle.wasm_ops.specs.declared.ids.FuncId.{FuncId}
-use Rattle.wasm_ops.specs.declared.ids.ImportId.{ImportId}
-use Rattle.wasm_ops.specs.declared.ids.MemoryId.{MemoryId}
-use Rattle.wasm_ops.specs.declared.ids.TypeId.{TypeId}
-use Rattle.wasm_ops.specs.declared.ops.Body.{Body}
+use Rattle.wasm_ops.specs.Numbers.{number_at}
+use Rattle.wasm_code.specs.Numbers.{renumbered_ops, renumbered_body}
+use Rattle.wasm_types.specs.declared.ids.FuncId.{FuncId}
+use Rattle.wasm_types.specs.declared.ids.ImportId.{ImportId}
+use Rattle.wasm_types.specs.declared.ids.MemoryId.{MemoryId}
+use Rattle.wasm_types.specs.declared.ids.TypeId.{TypeId}
+use Rattle.wasm_code.specs.declared.body.Body.{Body}
 use Rattle.wasm_ops.specs.declared.ops.Numbering.{Numbering}
 use Rattle.wasm_ops.specs.declared.ops.Op.{Op}
-use Rattle.wasm_ops.specs.declared.types.Limits.{Limits}
+use Rattle.wasm_types.specs.declared.types.Limits.{Limits}
 use Rattle.wasm_file.specs.Frames.{preamble_bytes}
 use Rattle.wasm_file.specs.Spelling.{field_bytes, names_bytes, section_bytes, part_sections}
 use Rattle.wasm_file.specs.declared.entries.Custom.{Custom}

@@ -3,11 +3,11 @@ use Rattle.std.specs.Prelude.{ℕ, ◌+◌, ◌==◌, Bool, true, false, not, �
 use Rattle.std.specs.List.{filter, filter_map, flat_map, enumerate_from, starts_with}
 use Rattle.wasm_bytes.specs.declared.fault.ReadFault.{ReadFault}
 use Rattle.wasm_bytes.specs.declared.fault.ReadFault.TheVariants as below
-use Rattle.wasm_ops.specs.declared.ids.FuncId.{FuncId}
-use Rattle.wasm_ops.specs.declared.ids.ImportId.{ImportId}
-use Rattle.wasm_ops.specs.declared.ids.TypeId.{TypeId}
-use Rattle.wasm_ops.specs.declared.ops.Body.{Body}
-use Rattle.wasm_ops.specs.declared.types.Limits.{Limits}
+use Rattle.wasm_types.specs.declared.ids.FuncId.{FuncId}
+use Rattle.wasm_types.specs.declared.ids.ImportId.{ImportId}
+use Rattle.wasm_types.specs.declared.ids.TypeId.{TypeId}
+use Rattle.wasm_code.specs.declared.body.Body.{Body}
+use Rattle.wasm_types.specs.declared.types.Limits.{Limits}
 use Rattle.wasm_file.specs.Customs.{names_of, producers_of}
 use Rattle.wasm_file.specs.Grammar.{parts_of}
 use Rattle.wasm_file.specs.declared.entries.Custom.{Custom}

@@ -8,7 +8,8 @@ use crate::module::Module;
 use crate::types::Func;
 use std::alloc::{AllocError, Global};
 use values::Text;
-use wasm_ops::{Body, FuncId, FuncType, TypeId};
+use wasm_code::Body;
+use wasm_types::{FuncId, FuncType, TypeId};
 
 impl Module {
     /// Adds a function with this name and body, the last one. Its type is the first that is alike; without one the type is

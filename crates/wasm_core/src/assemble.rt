@@ -7,13 +7,15 @@ ghost use Rattle.wasm_core.specs.Parsing.{imports_behind, places_of, kind_at, br
 
 use crate::numbering::take_next;
 use crate::types::{Func, GlobalVar, Import, ImportKind, Memory, Table, Tag};
+use packed_ops::Ops;
 use std::alloc::{AllocError, Global};
 use values::{Seq, Text};
+use wasm_code::Body;
 use wasm_file::{
     Custom, FileGlobal, FileImport, ImportType, Names, ProducerField, TableType, read_names,
     read_producers,
 };
-use wasm_ops::{Body, FuncId, GlobalId, ImportId, Limits, MemoryId, Ops, TableId, TagId, TypeId};
+use wasm_types::{FuncId, GlobalId, ImportId, Limits, MemoryId, TableId, TagId, TypeId};
 
 /// The next places of items, by their kinds.
 #[derive(Clone, Copy)]
@@ -73,7 +75,7 @@ pub(crate) fn add_imports(
 /// What an import can bring in.
 pub(crate) trait Imported: Sized + Drop {
     ghost use Rattle.std.specs.Prelude.{Option, ◌≡◌};
-    ghost use Rattle.wasm_ops.specs.declared.ids.ImportId.{ImportId};
+    ghost use Rattle.wasm_types.specs.declared.ids.ImportId.{ImportId};
     ghost use Rattle.wasm_file.specs.declared.entries.ImportType.{ImportType};
 
     /// What an import of this type brings in, none where it asks for another kind.

@@ -11,12 +11,14 @@ use crate::module::Module;
 use crate::naming::{push_elem, push_op, push_ops, push_segment, push_thing};
 use crate::rows::{row_at, segment_rows};
 use crate::types::{GlobalVar, Tag};
+use packed_ops::Ops;
 use std::alloc::{AllocError, Global};
 use std::marker::Model;
 use values::Seq;
 use wasm_file::{Elem, Segment};
-use wasm_ops::{FuncId, Op, Ops};
+use wasm_ops::Op;
 use wasm_reach::{Graph, Thing};
+use wasm_types::FuncId;
 
 /// A module, with what of its references is known beforehand. A contract sees the module.
 #[derive(Drop)]

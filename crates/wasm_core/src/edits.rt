@@ -14,7 +14,7 @@ use crate::types::{ImportKind, Tag};
 use std::alloc::{AllocError, Global};
 use values::Text;
 use wasm_file::{Custom, Export, ExportItem, lists_feature};
-use wasm_ops::{ExportId, FuncId, ImportId};
+use wasm_types::{ExportId, FuncId, ImportId};
 
 impl Module {
     /// Gives an import this module and name. Without memory nothing is changed.

@@ -13,8 +13,9 @@ use crate::module::Module;
 use crate::types::ParseConfig;
 use std::alloc::{AllocError, Global};
 use values::Seq;
+use wasm_code::Body;
 use wasm_file::{Custom, Elem, Export, FileGlobal, FileImport, Names, Parts, Segment, TableType};
-use wasm_ops::{Body, FuncId, FuncType, Limits, TypeId};
+use wasm_types::{FuncId, FuncType, Limits, TypeId};
 
 impl Module {
     /// The module of a file's lists.

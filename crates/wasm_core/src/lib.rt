@@ -33,12 +33,15 @@ pub use content::SectionContent;
 pub use emit::emit_sections;
 pub use faults::{EmitFault, ParseFault};
 pub use module::{LONGEST, Module, sections};
+pub use packed_ops::{Ops, Walk};
 pub use types::{Func, GlobalVar, Import, ImportKind, Memory, ParseConfig, Table, Tag};
 pub use wasm_bytes::push_u32;
+pub use wasm_code::Body;
 pub use wasm_file::{
     Custom, Elem, ElemPlace, Export, ExportItem, ProducerField, ProducerValue, Section, Segment,
 };
-pub use wasm_ops::{
-    BlockType, Body, Catch, DataId, ElemId, ExportId, FuncId, FuncType, GlobalId, ImportId, Limits,
-    MemArg, MemoryId, Op, Ops, TableId, TagId, TypeId, ValType, Walk,
+pub use wasm_ops::{BlockType, Catch, MemArg, Op};
+pub use wasm_types::{
+    DataId, ElemId, ExportId, FuncId, FuncType, GlobalId, ImportId, Limits, MemoryId, TableId,
+    TagId, TypeId, ValType,
 };

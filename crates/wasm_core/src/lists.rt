@@ -3,24 +3,25 @@
 
 ghost use Rattle.std.specs.Prelude.{◌≡◌, [], Some};
 ghost use Rattle.std.specs.Option.{option_copied};
-ghost use Rattle.wasm_ops.specs.Spelling.{func_type_bytes, code_bytes};
+ghost use Rattle.wasm_types.specs.Spelling.{func_type_bytes};
+ghost use Rattle.wasm_code.specs.Spelling.{code_bytes};
 ghost use Rattle.wasm_file.specs.Spelling.{import_bytes, type_id_bytes, table_bytes, limits_bytes, tag_bytes, global_bytes, export_bytes, elem_bytes, segment_bytes};
 ghost use Rattle.wasm_core.specs.Emission.{import_asked, func_asked, table_asked, memory_asked, global_asked, tag_asked, file_import, file_type, own_type, own_body, own_table, own_memory, own_tag, own_global, file_export, file_item, file_elem, file_segment};
 
 use crate::module::Module;
 use crate::segments::{write_elem, write_segment};
 use crate::types::{Func, GlobalVar, Import, ImportKind, Memory, Table, Tag};
+use packed_ops::Ops;
 use std::alloc::{AllocError, Global};
 use values::Seq;
 use wasm_bytes::{Spell, push_u32, write_name};
+use wasm_code::{Body, write_code, write_expression};
 use wasm_file::{
     Elem, Export, ExportItem, FileGlobal, FileImport, ImportType, Segment, TableType,
     write_global_type, write_limits, write_tag,
 };
-use wasm_ops::{
-    Body, FuncId, FuncType, GlobalId, Limits, MemoryId, Numbering, Ops, TableId, TagId, TypeId,
-    number_at, write_code, write_expression,
-};
+use wasm_ops::{Numbering, number_at};
+use wasm_types::{FuncId, FuncType, GlobalId, Limits, MemoryId, TableId, TagId, TypeId};
 
 /// The module that is written, and the numbers of its entries.
 #[derive(Clone, Copy)]

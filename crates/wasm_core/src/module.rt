@@ -12,7 +12,7 @@ use std::alloc::Global;
 use std::marker::Model;
 use values::Text;
 use wasm_file::{Custom, Elem, Export, ProducerField, Section, Segment, read_frames, read_parts};
-use wasm_ops::{FuncId, FuncType};
+use wasm_types::{FuncId, FuncType};
 
 /// The greatest length of a module that is read, in bytes.
 pub const LONGEST: usize = 268_435_456;

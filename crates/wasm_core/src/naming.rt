@@ -4,10 +4,12 @@ ghost use Rattle.std.specs.Prelude.{◌≡◌, ◌++◌, ◌∷◌, [], map, OnO
 ghost use Rattle.std.specs.List.{flat_map};
 ghost use Rattle.wasm_core.specs.Reach.{block_names, catch_names, op_names, ops_names, func_thing, content_names, elem_place_names, segment_place_names};
 
+use packed_ops::Ops;
 use std::alloc::AllocError;
 use wasm_file::{Elem, ElemPlace, Segment};
-use wasm_ops::{BlockType, Catch, FuncId, Op, Ops};
+use wasm_ops::{BlockType, Catch, Op};
 use wasm_reach::Thing;
+use wasm_types::FuncId;
 
 /// Appends one thing.
 pub(crate) fn push_thing(out: &mut Vec<Thing>, thing: Thing) -> Result<(), AllocError>

@@ -8,7 +8,8 @@ use crate::types::{Func, GlobalVar, Memory, Table, Tag};
 use std::alloc::{AllocError, Global};
 use values::Seq;
 use wasm_file::{Elem, Segment};
-use wasm_ops::{FuncType, Numbering};
+use wasm_ops::Numbering;
+use wasm_types::FuncType;
 
 /// What has numbers: of its kind the imported entries have the first ones.
 pub(crate) trait Numbered {

@@ -8,8 +8,8 @@ use crate::edges::{Edges, entry_at};
 use crate::naming::push_thing;
 use std::alloc::AllocError;
 use wasm_file::{Export, ExportItem};
-use wasm_ops::FuncId;
 use wasm_reach::Thing;
+use wasm_types::FuncId;
 
 impl<'a> Edges<'a> {
     /// Appends the items of the exports, the start function, the roots, and the active segments of imported tables and

@@ -2,16 +2,19 @@
 
 ghost use Rattle.std.specs.Prelude.{◌≡◌, ◌++◌, map, OnOk};
 ghost use Rattle.std.specs.List.{flat_map};
-ghost use Rattle.wasm_ops.specs.Numbers.{renumbered_ops};
-ghost use Rattle.wasm_ops.specs.Spelling.{expression_bytes};
+ghost use Rattle.wasm_code.specs.Numbers.{renumbered_ops};
+ghost use Rattle.wasm_code.specs.Spelling.{expression_bytes};
 ghost use Rattle.wasm_file.specs.Spelling.{is_func_ref, has_exprs, place_flag, elem_flag, place_bytes, elem_kind_bytes, elem_entries_bytes, elem_bytes, segment_bytes, segment_place_bytes, func_id_bytes};
 ghost use Rattle.wasm_core.specs.Emission.{file_func, file_place, file_elem, file_segment_place, file_segment};
 
+use packed_ops::Ops;
 use std::alloc::AllocError;
 use values::Seq;
 use wasm_bytes::{push_number, push_u32, write_framed};
+use wasm_code::write_expression;
 use wasm_file::{Elem, ElemPlace, Segment};
-use wasm_ops::{FuncId, Numbering, Ops, TableId, ValType, number_at, write_expression};
+use wasm_ops::{Numbering, number_at};
+use wasm_types::{FuncId, TableId, ValType};
 
 /// Whether the type is that of functions.
 fn is_func_ref(ty: ValType) -> bool

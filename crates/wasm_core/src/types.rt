@@ -1,8 +1,8 @@
 //! What a module holds, by ids (WebAssembly core specification, 2.5).
+use packed_ops::Ops;
 use values::{Seq, Text};
-use wasm_ops::{
-    Body, FuncId, GlobalId, ImportId, Limits, MemoryId, Ops, TableId, TagId, TypeId, ValType,
-};
+use wasm_code::Body;
+use wasm_types::{FuncId, GlobalId, ImportId, Limits, MemoryId, TableId, TagId, TypeId, ValType};
 
 /// A function. It has an import or a body.
 #[derive(Debug, Drop)]

@@ -6,10 +6,10 @@ use Rattle.std.specs.List.{position_from}
 use Rattle.std.proofs.lemmas.Bool.{cases_Bool, true≢false, and_parts}
 use Rattle.std.proofs.lemmas.List.{length-append}
 use Rattle.std.proofs.lemmas.Option.{none-some, same_Some}
-use Rattle.wasm_ops.specs.declared.ids.ImportId.{ImportId}
-use Rattle.wasm_ops.specs.declared.ops.Body.{Body}
-use Rattle.wasm_ops.specs.declared.types.FuncType.{FuncType}
-use Rattle.wasm_ops.specs.declared.types.ValType.{ValType}
+use Rattle.wasm_types.specs.declared.ids.ImportId.{ImportId}
+use Rattle.wasm_code.specs.declared.body.Body.{Body}
+use Rattle.wasm_types.specs.declared.types.FuncType.{FuncType}
+use Rattle.wasm_types.specs.declared.types.ValType.{ValType}
 use Rattle.wasm_ops_laws.specs.Fits.{FitsBody}
 use Rattle.wasm_file.specs.Parts.{params_of}
 use Rattle.wasm_file_laws.specs.FileFits.{FitsName, FitsFuncType}

@@ -3,15 +3,16 @@ use Rattle.std.proofs.Common.{◌≡◌, ℕ, Bool, true, false, List, [], ◌�
 use Rattle.std.specs.Prelude.{is_some, if◌then◌else◌}
 use Rattle.std.specs.List.{AllByRecursion, filter, enumerate_from}
 use Rattle.std.proofs.lemmas.List.{length-map}
-use Rattle.wasm_ops.specs.Locals.{joined_runs}
-use Rattle.wasm_ops.specs.Numbers.{number_at, renumbered_ops}
-use Rattle.wasm_ops.specs.declared.ids.FuncId.{FuncId}
-use Rattle.wasm_ops.specs.declared.ids.ImportId.{ImportId}
-use Rattle.wasm_ops.specs.declared.ids.TypeId.{TypeId}
-use Rattle.wasm_ops.specs.declared.ops.Body.{Body}
+use Rattle.wasm_code.specs.Locals.{joined_runs}
+use Rattle.wasm_ops.specs.Numbers.{number_at}
+use Rattle.wasm_code.specs.Numbers.{renumbered_ops}
+use Rattle.wasm_types.specs.declared.ids.FuncId.{FuncId}
+use Rattle.wasm_types.specs.declared.ids.ImportId.{ImportId}
+use Rattle.wasm_types.specs.declared.ids.TypeId.{TypeId}
+use Rattle.wasm_code.specs.declared.body.Body.{Body}
 use Rattle.wasm_ops.specs.declared.ops.Numbering.{Numbering}
 use Rattle.wasm_ops.specs.declared.ops.Op.{Op}
-use Rattle.wasm_ops.specs.declared.types.FuncType.{FuncType}
+use Rattle.wasm_types.specs.declared.types.FuncType.{FuncType}
 use Rattle.wasm_file.specs.declared.entries.ImportType.{ImportType}
 use Rattle.wasm_file.specs.declared.entries.ImportType.TheVariants as asked
 use Rattle.wasm_file.specs.declared.entries.Parts.{Parts}

@@ -7,12 +7,13 @@ use Rattle.std.proofs.lemmas.List.{append-nil, length_push}
 use Rattle.std.proofs.lemmas.List.Elements.{filter_map-append}
 use Rattle.std.proofs.lemmas.List.Sums.{sum_by-cons}
 use Rattle.std.proofs.lemmas.Option.{none-some, same_Some}
-use Rattle.wasm_ops.specs.Numbers.{number_at, renumbered_ops, renumbered_body}
-use Rattle.wasm_ops.specs.declared.ids.ImportId.{ImportId}
-use Rattle.wasm_ops.specs.declared.ids.TypeId.{TypeId}
-use Rattle.wasm_ops.specs.declared.ops.Body.{Body}
+use Rattle.wasm_ops.specs.Numbers.{number_at}
+use Rattle.wasm_code.specs.Numbers.{renumbered_ops, renumbered_body}
+use Rattle.wasm_types.specs.declared.ids.ImportId.{ImportId}
+use Rattle.wasm_types.specs.declared.ids.TypeId.{TypeId}
+use Rattle.wasm_code.specs.declared.body.Body.{Body}
 use Rattle.wasm_ops.specs.declared.ops.Op.{Op}
-use Rattle.wasm_ops.specs.declared.types.FuncType.{FuncType}
+use Rattle.wasm_types.specs.declared.types.FuncType.{FuncType}
 use Rattle.wasm_ops_laws.specs.Fits.{joined_body}
 use Rattle.wasm_file.specs.declared.entries.FileImport.{FileImport}
 use Rattle.wasm_file.specs.declared.entries.ImportType.{ImportType}

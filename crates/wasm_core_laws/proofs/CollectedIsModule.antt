@@ -7,8 +7,8 @@ use Rattle.std.proofs.lemmas.List.Elements.{filter-append}
 use Rattle.std.proofs.lemmas.Option.{none-some, cond_some}
 use Rattle.values.specs.Lists.{IsIn}
 use Rattle.values.proofs.Members.{in_left, in_right, in_either}
-use Rattle.wasm_ops.specs.declared.ids.FuncId.{FuncId}
-use Rattle.wasm_ops.specs.declared.ops.Body.{Body}
+use Rattle.wasm_types.specs.declared.ids.FuncId.{FuncId}
+use Rattle.wasm_code.specs.declared.body.Body.{Body}
 use Rattle.wasm_ops.specs.declared.ops.Op.{Op}
 use Rattle.wasm_file.specs.declared.entries.Export.{Export}
 use Rattle.wasm_file.specs.declared.entries.ExportItem.{ExportItem}

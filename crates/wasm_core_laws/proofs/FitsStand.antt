@@ -3,12 +3,12 @@ use Rattle.std.proofs.Common.{ℕ, ◌<◌, Bool, false, List, [], ◌∷◌, ma
 use Rattle.std.specs.List.{AllByRecursion, flat_map}
 use Rattle.std.proofs.lemmas.Bool.{cases_Bool}
 use Rattle.wasm_bytes.specs.declared.counts.Counts.{Counts}
-use Rattle.wasm_ops.specs.Code.{labels_after}
-use Rattle.wasm_ops.specs.declared.ids.FuncId.{FuncId}
-use Rattle.wasm_ops.specs.declared.ids.MemoryId.{MemoryId}
+use Rattle.wasm_code.specs.Code.{labels_after}
+use Rattle.wasm_types.specs.declared.ids.FuncId.{FuncId}
+use Rattle.wasm_types.specs.declared.ids.MemoryId.{MemoryId}
 use Rattle.wasm_ops.specs.declared.ops.BlockType.{BlockType}
 use Rattle.wasm_ops.specs.declared.ops.BlockType.TheVariants as blocks
-use Rattle.wasm_ops.specs.declared.ops.Body.{Body}
+use Rattle.wasm_code.specs.declared.body.Body.{Body}
 use Rattle.wasm_ops.specs.declared.ops.Catch.{Catch}
 use Rattle.wasm_ops.specs.declared.ops.Catch.TheVariants as catches
 use Rattle.wasm_ops.specs.declared.ops.Op.{Op}

@@ -5,12 +5,12 @@ use Rattle.std.specs.List.{AllByRecursion, filter_map, cons_option}
 use Rattle.std.specs.Option.{option_map}
 use Rattle.std.proofs.lemmas.Bool.{false≢true}
 use Rattle.std.proofs.lemmas.List.Elements.{filter_map-append}
-use Rattle.wasm_ops.specs.declared.ids.FuncId.{FuncId}
-use Rattle.wasm_ops.specs.declared.ids.GlobalId.{GlobalId}
-use Rattle.wasm_ops.specs.declared.ids.ImportId.{ImportId}
-use Rattle.wasm_ops.specs.declared.ids.MemoryId.{MemoryId}
-use Rattle.wasm_ops.specs.declared.ids.TableId.{TableId}
-use Rattle.wasm_ops.specs.declared.ids.TagId.{TagId}
+use Rattle.wasm_types.specs.declared.ids.FuncId.{FuncId}
+use Rattle.wasm_types.specs.declared.ids.GlobalId.{GlobalId}
+use Rattle.wasm_types.specs.declared.ids.ImportId.{ImportId}
+use Rattle.wasm_types.specs.declared.ids.MemoryId.{MemoryId}
+use Rattle.wasm_types.specs.declared.ids.TableId.{TableId}
+use Rattle.wasm_types.specs.declared.ids.TagId.{TagId}
 use Rattle.wasm_ops.specs.declared.ops.Numbering.{Numbering}
 use Rattle.wasm_file.specs.Parts.{number_of, is_func, is_table, is_memory, is_global, is_tag}
 use Rattle.wasm_file.specs.declared.entries.FileImport.{FileImport}

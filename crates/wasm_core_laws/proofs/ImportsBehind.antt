@@ -5,7 +5,7 @@ use Rattle.std.specs.List.{AllByRecursion, filter_map, cons_option, enumerate_fr
 use Rattle.std.specs.Option.{option_map}
 use Rattle.std.proofs.lemmas.List.Sums.{sum_by_push}
 use Rattle.std.proofs.lemmas.Option.{none-some, same_Some}
-use Rattle.wasm_ops.specs.declared.ids.ImportId.{ImportId}
+use Rattle.wasm_types.specs.declared.ids.ImportId.{ImportId}
 use Rattle.wasm_file.specs.declared.entries.FileImport.{FileImport}
 use Rattle.wasm_file.specs.declared.entries.ImportType.{ImportType}
 use Rattle.wasm_file_laws.proofs.EachItem.{all_weaker}

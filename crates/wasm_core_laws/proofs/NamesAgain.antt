@@ -5,7 +5,7 @@ use Rattle.std.proofs.lemmas.Bool.{cases_Bool, not-true}
 use Rattle.std.proofs.lemmas.List.Elements.{filter_map-append}
 use Rattle.std.proofs.lemmas.Option.{none-some, same_Some}
 use Rattle.wasm_ops.specs.Numbers.{number_at}
-use Rattle.wasm_ops.specs.declared.ids.FuncId.{FuncId}
+use Rattle.wasm_types.specs.declared.ids.FuncId.{FuncId}
 use Rattle.wasm_file.specs.Customs.{rise_from}
 use Rattle.wasm_file_laws.specs.CustomFits.{IsName, FitsFuncName, FitsNames}
 use Rattle.wasm_file_laws.proofs.EachItem.{all_both, all_weaker}

@@ -8,12 +8,12 @@ use Rattle.std.proofs.lemmas.List.{map-append, length-map, length_push}
 use Rattle.std.proofs.lemmas.Option.{slice_get-map}
 use Rattle.std.proofs.lemmas.List.FromFn.{length-range_with_len}
 use Rattle.wasm_bytes.specs.declared.counts.Counts.{Counts}
-use Rattle.wasm_ops.specs.Numbers.{renumbered_ops}
-use Rattle.wasm_ops.specs.declared.ids.FuncId.{FuncId}
-use Rattle.wasm_ops.specs.declared.ids.ImportId.{ImportId}
-use Rattle.wasm_ops.specs.declared.ids.TypeId.{TypeId}
-use Rattle.wasm_ops.specs.declared.ops.Body.{Body}
-use Rattle.wasm_ops.specs.declared.types.FuncType.{FuncType}
+use Rattle.wasm_code.specs.Numbers.{renumbered_ops}
+use Rattle.wasm_types.specs.declared.ids.FuncId.{FuncId}
+use Rattle.wasm_types.specs.declared.ids.ImportId.{ImportId}
+use Rattle.wasm_types.specs.declared.ids.TypeId.{TypeId}
+use Rattle.wasm_code.specs.declared.body.Body.{Body}
+use Rattle.wasm_types.specs.declared.types.FuncType.{FuncType}
 use Rattle.wasm_ops_laws.specs.Fits.{FitsBody}
 use Rattle.wasm_file.specs.Grammar.{parts_of}
 use Rattle.wasm_file.specs.Parts.{number_of, counts_of, params_of, is_plain, func_type_of, imported_func_types, func_types, named_type, is_func, is_table, is_memory, is_global, is_tag}

@@ -2,7 +2,7 @@
 use Rattle.std.proofs.Common.{◌≡◌, ℕ, suc, ◌+◌, Bool, true, false, List, [], ◌∷◌, ◌++◌, map, length, fold, Option, Some, None, refl, sym, ap, ◌∙◌, arith, eqb, zero-add}
 use Rattle.std.specs.Prelude.{codes, if◌then◌else◌}
 use Rattle.std.specs.List.{AllByRecursion, filter_map, enumerate_from}
-use Rattle.wasm_ops.specs.declared.ids.FuncId.{FuncId}
+use Rattle.wasm_types.specs.declared.ids.FuncId.{FuncId}
 use Rattle.wasm_file.specs.Customs.{names_of, producers_of}
 use Rattle.wasm_file.specs.declared.entries.Custom.{Custom}
 use Rattle.wasm_file.specs.declared.entries.Names.{Names}

@@ -3,13 +3,14 @@ use Rattle.std.proofs.Common.{◌≡◌, ℕ, ◌<◌, ◌^◌, Bool, List, [], 
 use Rattle.std.specs.List.{AllByRecursion, flat_map}
 use Rattle.std.proofs.lemmas.List.{length-map}
 use Rattle.wasm_bytes.specs.declared.counts.Counts.{Counts}
-use Rattle.wasm_ops.specs.Numbers.{renumbered_block_type, renumbered_catch, renumbered_op, renumbered_ops, renumbered_body}
-use Rattle.wasm_ops.specs.Code.{labels_after}
+use Rattle.wasm_ops.specs.Numbers.{renumbered_block_type, renumbered_catch, renumbered_op}
+use Rattle.wasm_code.specs.Numbers.{renumbered_ops, renumbered_body}
+use Rattle.wasm_code.specs.Code.{labels_after}
 use Rattle.wasm_ops.specs.declared.ops.Op.{Op}
 use Rattle.wasm_ops.specs.declared.ops.Op.TheVariants as ops
 use Rattle.wasm_ops.specs.declared.ops.Catch.{Catch}
 use Rattle.wasm_ops.specs.declared.ops.Catch.TheVariants as catches
-use Rattle.wasm_ops.specs.declared.ops.Body.{Body}
+use Rattle.wasm_code.specs.declared.body.Body.{Body}
 use Rattle.wasm_ops.specs.declared.ops.Numbering.{Numbering}
 use Rattle.wasm_ops.specs.declared.ops.BlockType.{BlockType}
 use Rattle.wasm_ops.specs.declared.ops.BlockType.TheVariants as blocks

@@ -1,9 +1,10 @@
 -- What names things whose numbers are their places is the same with new numbers.
 use Rattle.std.proofs.Common.{◌≡◌, List, [], ◌∷◌, map, Option, Some, None, refl, ap, ◌∙◌}
 use Rattle.std.specs.List.{AllByRecursion, flat_map}
-use Rattle.wasm_ops.specs.Numbers.{number_at, renumbered_block_type, renumbered_catch, renumbered_table, renumbered_memory, renumbered_op, renumbered_ops}
-use Rattle.wasm_ops.specs.declared.ids.FuncId.{FuncId}
-use Rattle.wasm_ops.specs.declared.ids.MemoryId.{MemoryId}
+use Rattle.wasm_ops.specs.Numbers.{number_at, renumbered_block_type, renumbered_catch, renumbered_table, renumbered_memory, renumbered_op}
+use Rattle.wasm_code.specs.Numbers.{renumbered_ops}
+use Rattle.wasm_types.specs.declared.ids.FuncId.{FuncId}
+use Rattle.wasm_types.specs.declared.ids.MemoryId.{MemoryId}
 use Rattle.wasm_ops.specs.declared.ops.BlockType.{BlockType}
 use Rattle.wasm_ops.specs.declared.ops.BlockType.TheVariants as blocks
 use Rattle.wasm_ops.specs.declared.ops.Catch.{Catch}

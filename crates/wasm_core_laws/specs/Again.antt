@@ -2,9 +2,10 @@
 use Rattle.std.specs.Prelude.{◌≡◌, ℕ, ◌≤◌, Bool, not, List, [], ◌++◌, map, length, Option, Some, None, if◌then◌else◌}
 use Rattle.std.specs.List.{filter}
 use Rattle.wasm_ops_laws.specs.Fits.{joined_body}
-use Rattle.wasm_ops.specs.Numbers.{number_at, renumbered_ops, renumbered_body}
-use Rattle.wasm_ops.specs.declared.ids.ImportId.{ImportId}
-use Rattle.wasm_ops.specs.declared.ops.Body.{Body}
+use Rattle.wasm_ops.specs.Numbers.{number_at}
+use Rattle.wasm_code.specs.Numbers.{renumbered_ops, renumbered_body}
+use Rattle.wasm_types.specs.declared.ids.ImportId.{ImportId}
+use Rattle.wasm_code.specs.declared.body.Body.{Body}
 use Rattle.wasm_ops.specs.declared.ops.Numbering.{Numbering}
 use Rattle.wasm_file_laws.specs.FileFits.{AreFewEntries}
 use Rattle.wasm_core.specs.declared.types.Func.{Func}

@@ -8,8 +8,8 @@ ghost use Rattle.wasm_core_laws.specs.ModuleFits.{IsModule, AllStand, id_counts}
 ghost use Rattle.wasm_file.specs.declared.entries.ExportItem.{ExportItem};
 ghost use Rattle.wasm_file_laws.specs.FileFits.{FitsName, FitsFuncType};
 ghost use Rattle.wasm_ops_laws.specs.Fits.{FitsBody};
-ghost use Rattle.wasm_ops.specs.declared.ops.Body.{Body};
-ghost use Rattle.wasm_ops.specs.declared.types.FuncType.{FuncType};
+ghost use Rattle.wasm_code.specs.declared.body.Body.{Body};
+ghost use Rattle.wasm_types.specs.declared.types.FuncType.{FuncType};
 
 /// What each editing call makes of a module is a module, where what it is given fits.
 pub fn edited_module_is_one()

@@ -4,7 +4,7 @@ use Rattle.std.specs.Prelude.{slice_get}
 use Rattle.std.specs.List.{cons_option}
 use Rattle.std.proofs.lemmas.List.Sums.{count_by-le-length}
 use Rattle.std.proofs.lemmas.List.Recursion.{is_count_by}
-use Rattle.wasm_ops.specs.declared.ids.TypeId.{TypeId}
+use Rattle.wasm_types.specs.declared.ids.TypeId.{TypeId}
 use Rattle.wasm_file.specs.declared.entries.FileImport.{FileImport}
 use Rattle.wasm_file.specs.declared.entries.ImportType.{ImportType}
 use Rattle.wasm_file.specs.declared.entries.ImportType.TheVariants as asked

@@ -5,7 +5,7 @@ use Rattle.std.specs.Cmp.Lexicographic.{pointwise}
 use Rattle.wasm_bytes.specs.Reading.{Input, followed, ◌>>=◌, pure, byte, allowed, frame, within, remaining, nothing_left, entries, until_end}
 use Rattle.wasm_bytes.specs.Numbers.{number32}
 use Rattle.wasm_bytes.specs.Items.{name, index}
-use Rattle.wasm_ops.specs.declared.ids.FuncId.{FuncId}
+use Rattle.wasm_types.specs.declared.ids.FuncId.{FuncId}
 use Rattle.wasm_file.specs.declared.customs.Subsections.{Subsections}
 use Rattle.wasm_file.specs.declared.entries.Names.{Names}
 use Rattle.wasm_file.specs.declared.entries.ProducerField.{ProducerField}

@@ -4,16 +4,16 @@ use Rattle.wasm_bytes.specs.declared.counts.Counts.{Counts}
 use Rattle.wasm_bytes.specs.Reading.{Input, followed, ◌>>=◌, pure, fault, byte, raw, allowed, entries, remaining}
 use Rattle.wasm_bytes.specs.Numbers.{number32, number64}
 use Rattle.wasm_bytes.specs.Items.{name, exactly}
-use Rattle.wasm_ops.specs.Entries.{val_type, ref_type, type_index, func_index, table_index, memory_index, global_index, tag_index}
-use Rattle.wasm_ops.specs.Code.{initial}
-use Rattle.wasm_ops.specs.declared.ids.TypeId.{TypeId}
-use Rattle.wasm_ops.specs.declared.ids.FuncId.{FuncId}
-use Rattle.wasm_ops.specs.declared.ids.TableId.{TableId}
-use Rattle.wasm_ops.specs.declared.ids.MemoryId.{MemoryId}
+use Rattle.wasm_types.specs.Entries.{val_type, ref_type, type_index, func_index, table_index, memory_index, global_index, tag_index}
+use Rattle.wasm_code.specs.Code.{initial}
+use Rattle.wasm_types.specs.declared.ids.TypeId.{TypeId}
+use Rattle.wasm_types.specs.declared.ids.FuncId.{FuncId}
+use Rattle.wasm_types.specs.declared.ids.TableId.{TableId}
+use Rattle.wasm_types.specs.declared.ids.MemoryId.{MemoryId}
 use Rattle.wasm_ops.specs.declared.ops.Op.{Op}
-use Rattle.wasm_ops.specs.declared.types.Limits.{Limits}
-use Rattle.wasm_ops.specs.declared.types.ValType.{ValType}
-use Rattle.wasm_ops.specs.declared.types.ValType.TheVariants.{FuncRef}
+use Rattle.wasm_types.specs.declared.types.Limits.{Limits}
+use Rattle.wasm_types.specs.declared.types.ValType.{ValType}
+use Rattle.wasm_types.specs.declared.types.ValType.TheVariants.{FuncRef}
 use Rattle.wasm_file.specs.declared.entries.Custom.{Custom}
 use Rattle.wasm_file.specs.declared.entries.Elem.{Elem}
 use Rattle.wasm_file.specs.declared.entries.ElemPlace.{ElemPlace}

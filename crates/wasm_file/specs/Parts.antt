@@ -3,8 +3,8 @@ use Rattle.std.specs.Prelude.{◌≡◌, ℕ, ◌+◌, ◌≤◌, Bool, true, fa
 use Rattle.std.specs.List.{count_by, filter_map}
 use Rattle.wasm_bytes.specs.declared.counts.Counts.{Counts}
 use Rattle.wasm_ops.specs.Numbers.{or_zero}
-use Rattle.wasm_ops.specs.declared.ids.TypeId.{TypeId}
-use Rattle.wasm_ops.specs.declared.types.FuncType.{FuncType}
+use Rattle.wasm_types.specs.declared.ids.TypeId.{TypeId}
+use Rattle.wasm_types.specs.declared.types.FuncType.{FuncType}
 use Rattle.wasm_file.specs.declared.entries.FileImport.{FileImport}
 use Rattle.wasm_file.specs.declared.entries.ImportType.{ImportType}
 use Rattle.wasm_file.specs.declared.entries.ImportType.TheVariants as asked

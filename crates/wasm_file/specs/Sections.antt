@@ -4,12 +4,12 @@ use Rattle.wasm_bytes.specs.declared.counts.Counts.{Counts}
 use Rattle.wasm_bytes.specs.Reading.{Input, ◌>>=◌, pure, allowed, entries, for_each}
 use Rattle.wasm_bytes.specs.Numbers.{number32}
 use Rattle.wasm_bytes.specs.Items.{listed}
-use Rattle.wasm_ops.specs.Entries.{func_type, type_index, func_index}
-use Rattle.wasm_ops.specs.Code.{code_entry}
-use Rattle.wasm_ops.specs.declared.ids.FuncId.{FuncId}
-use Rattle.wasm_ops.specs.declared.ids.TypeId.{TypeId}
-use Rattle.wasm_ops.specs.declared.ops.Body.{Body}
-use Rattle.wasm_ops.specs.declared.types.FuncType.{FuncType}
+use Rattle.wasm_types.specs.Entries.{func_type, type_index, func_index}
+use Rattle.wasm_code.specs.Code.{code_entry}
+use Rattle.wasm_types.specs.declared.ids.FuncId.{FuncId}
+use Rattle.wasm_types.specs.declared.ids.TypeId.{TypeId}
+use Rattle.wasm_code.specs.declared.body.Body.{Body}
+use Rattle.wasm_types.specs.declared.types.FuncType.{FuncType}
 use Rattle.wasm_file.specs.Entries.{table_type, memory_type, tag_type, «import», «export», global_entry, elem, segment, custom}
 use Rattle.wasm_file.specs.Parts.{most, number_of, is_func, is_table, is_memory, is_global, is_tag, counts_of, func_types, named_type, is_plain, params_of}
 use Rattle.wasm_file.specs.declared.entries.Parts.{Parts}

@@ -3,15 +3,16 @@ use Rattle.std.specs.Prelude.{ℕ, ◌+◌, ◌*◌, ◌==◌, Bool, true, false
 use Rattle.std.specs.List.{flat_map}
 use Rattle.wasm_bytes.specs.Numbers.{number_bytes}
 use Rattle.wasm_bytes.specs.Spelling.{list_bytes, name_bytes, framed_bytes}
-use Rattle.wasm_ops.specs.Types.{code_of}
-use Rattle.wasm_ops.specs.Spelling.{func_type_bytes, expression_bytes, code_bytes}
-use Rattle.wasm_ops.specs.declared.ids.FuncId.{FuncId}
-use Rattle.wasm_ops.specs.declared.ids.MemoryId.{MemoryId}
-use Rattle.wasm_ops.specs.declared.ids.TypeId.{TypeId}
+use Rattle.wasm_types.specs.Types.{code_of}
+use Rattle.wasm_types.specs.Spelling.{func_type_bytes}
+use Rattle.wasm_code.specs.Spelling.{expression_bytes, code_bytes}
+use Rattle.wasm_types.specs.declared.ids.FuncId.{FuncId}
+use Rattle.wasm_types.specs.declared.ids.MemoryId.{MemoryId}
+use Rattle.wasm_types.specs.declared.ids.TypeId.{TypeId}
 use Rattle.wasm_ops.specs.declared.ops.Op.{Op}
-use Rattle.wasm_ops.specs.declared.types.Limits.{Limits}
-use Rattle.wasm_ops.specs.declared.types.ValType.{ValType}
-use Rattle.wasm_ops.specs.declared.types.ValType.TheVariants.{FuncRef}
+use Rattle.wasm_types.specs.declared.types.Limits.{Limits}
+use Rattle.wasm_types.specs.declared.types.ValType.{ValType}
+use Rattle.wasm_types.specs.declared.types.ValType.TheVariants.{FuncRef}
 use Rattle.wasm_file.specs.declared.entries.Custom.{Custom}
 use Rattle.wasm_file.specs.declared.entries.Elem.{Elem}
 use Rattle.wasm_file.specs.declared.entries.ElemPlace.{ElemPlace}

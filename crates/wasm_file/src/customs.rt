@@ -14,7 +14,7 @@ use wasm_bytes::{
     Counts, Entry, ReadFault, Reader, Step, read_entries, read_index, read_name, read_steps,
     read_text,
 };
-use wasm_ops::FuncId;
+use wasm_types::FuncId;
 
 /// What an entry that names nothing is read with.
 const NO_COUNTS: Counts = Counts {

@@ -1,8 +1,8 @@
 //! Entries as a file has them, and the lists of its sections (WebAssembly core specification, 5.5).
+use packed_ops::Ops;
 use values::{Seq, Text};
-use wasm_ops::{
-    Body, FuncId, FuncType, GlobalId, Limits, MemoryId, Ops, TableId, TagId, TypeId, ValType,
-};
+use wasm_code::Body;
+use wasm_types::{FuncId, FuncType, GlobalId, Limits, MemoryId, TableId, TagId, TypeId, ValType};
 
 /// What an import asks for.
 #[derive(Clone, Copy, Debug)]

@@ -10,12 +10,13 @@ use crate::entries::{
     Custom, Elem, ElemPlace, Export, ExportItem, FileGlobal, FileImport, ImportType, Segment,
     TableType,
 };
+use packed_ops::Ops;
 use std::alloc::Global;
 use values::Seq;
 use wasm_bytes::{Counts, Entry, ReadFault, Reader, read_entries, read_exactly, read_name};
-use wasm_ops::{
-    FuncId, GlobalId, Limits, MemoryId, Ops, TableId, TagId, TypeId, ValType, read_initial,
-    read_initials, read_ref_type,
+use wasm_code::{read_initial, read_initials};
+use wasm_types::{
+    FuncId, GlobalId, Limits, MemoryId, TableId, TagId, TypeId, ValType, read_ref_type,
 };
 
 /// The greatest limit of a memory.

@@ -18,7 +18,8 @@ use std::alloc::Global;
 use std::marker::Model;
 use values::Seq;
 use wasm_bytes::{Counts, Entry, ReadFault, Reader, read_entries, read_list};
-use wasm_ops::{Body, FuncId, FuncType, TypeId, read_code_entry};
+use wasm_code::{Body, read_code_entry};
+use wasm_types::{FuncId, FuncType, TypeId};
 
 /// The lists of the sections so far, and how many items of each kind are imported.
 #[derive(Drop)]

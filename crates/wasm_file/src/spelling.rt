@@ -7,7 +7,7 @@ ghost use Rattle.wasm_file.specs.Spelling.{truth_bit, has_max, limits_flag, limi
 use crate::entries::{Custom, ExportItem, ImportType, ProducerField, ProducerValue, TableType};
 use std::alloc::AllocError;
 use wasm_bytes::{Spell, push_number, push_u32, write_framed, write_list, write_name};
-use wasm_ops::{Limits, TypeId, ValType};
+use wasm_types::{Limits, TypeId, ValType};
 
 /// The flag of limits: a bit for a maximum, one for a shared one, one for a wide one.
 fn limits_flag(limits: &Limits) -> u8

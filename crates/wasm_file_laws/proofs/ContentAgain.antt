@@ -9,12 +9,13 @@ use Rattle.wasm_bytes.specs.Numbers.{number_bytes}
 use Rattle.wasm_bytes.specs.Spelling.{list_bytes, framed_bytes}
 use Rattle.wasm_bytes.specs.Reads.{Reads}
 use Rattle.wasm_bytes.proofs.ReadAgain.{reads_pure, reads_bind, reads_end, reads_allowed, reads_entries, number32_again}
-use Rattle.wasm_ops.specs.Spelling.{func_type_bytes, body_bytes, code_bytes}
-use Rattle.wasm_ops.specs.declared.ids.FuncId.{FuncId}
-use Rattle.wasm_ops.specs.declared.ids.TypeId.{TypeId}
-use Rattle.wasm_ops.specs.declared.ops.Body.{Body}
-use Rattle.wasm_ops.specs.declared.types.FuncType.{FuncType}
-use Rattle.wasm_ops.specs.declared.types.Limits.{Limits}
+use Rattle.wasm_types.specs.Spelling.{func_type_bytes}
+use Rattle.wasm_code.specs.Spelling.{body_bytes, code_bytes}
+use Rattle.wasm_types.specs.declared.ids.FuncId.{FuncId}
+use Rattle.wasm_types.specs.declared.ids.TypeId.{TypeId}
+use Rattle.wasm_code.specs.declared.body.Body.{Body}
+use Rattle.wasm_types.specs.declared.types.FuncType.{FuncType}
+use Rattle.wasm_types.specs.declared.types.Limits.{Limits}
 use Rattle.wasm_ops_laws.specs.Fits.{IsShort, joined_body}
 use Rattle.wasm_ops_laws.proofs.CodeAgain.{code_again}
 use Rattle.wasm_file.specs.Entries.{memory_type, memory_limit}

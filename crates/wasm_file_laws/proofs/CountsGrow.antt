@@ -3,8 +3,8 @@ use Rattle.std.proofs.Common.{ℕ, ◌+◌, ◌≤◌, Bool, false, List, [], �
 use Rattle.std.specs.List.{sum_by}
 use Rattle.std.proofs.lemmas.Bool.{cases_Bool}
 use Rattle.wasm_bytes.specs.declared.counts.Counts.{Counts}
-use Rattle.wasm_ops.specs.Code.{labels_after}
-use Rattle.wasm_ops.specs.declared.ids.MemoryId.{MemoryId}
+use Rattle.wasm_code.specs.Code.{labels_after}
+use Rattle.wasm_types.specs.declared.ids.MemoryId.{MemoryId}
 use Rattle.wasm_ops.specs.declared.ops.Op.{Op}
 use Rattle.wasm_ops.specs.declared.ops.Op.TheVariants as ops
 use Rattle.wasm_ops.specs.declared.ops.BlockType.{BlockType}
@@ -12,7 +12,7 @@ use Rattle.wasm_ops.specs.declared.ops.BlockType.TheVariants as block_types
 use Rattle.wasm_ops.specs.declared.ops.Catch.{Catch}
 use Rattle.wasm_ops.specs.declared.ops.Catch.TheVariants as catches
 use Rattle.wasm_ops.specs.declared.ops.MemArg.{MemArg}
-use Rattle.wasm_ops.specs.declared.ops.Body.{Body}
+use Rattle.wasm_code.specs.declared.body.Body.{Body}
 use Rattle.wasm_ops_laws.specs.Fits.{IsIndex, FitsBlockType, FitsCatch, FitsMemArg, FitsOp, FitsOps, FitsInitial, FitsBody}
 use Rattle.wasm_file.specs.Spelling.{has_exprs}
 use Rattle.wasm_file.specs.declared.entries.Elem.{Elem}

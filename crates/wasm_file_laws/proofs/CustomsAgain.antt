@@ -9,7 +9,7 @@ use Rattle.wasm_bytes.specs.Items.{index}
 use Rattle.wasm_bytes.specs.Spelling.{list_bytes, name_bytes, framed_bytes}
 use Rattle.wasm_bytes.specs.Reads.{Reads}
 use Rattle.wasm_bytes.proofs.ReadAgain.{reads_bind, reads_end, reads_byte, reads_allowed, reads_entries, reads_list, number32_again}
-use Rattle.wasm_ops.specs.declared.ids.FuncId.{FuncId}
+use Rattle.wasm_types.specs.declared.ids.FuncId.{FuncId}
 use Rattle.wasm_ops_laws.specs.Fits.{IsIndex}
 use Rattle.wasm_file.specs.Customs.{func_name, rise_from, func_names, subsection_names, subsection, no_names, all_names, names_of, producer_value, producer_field, producers, producers_of}
 use Rattle.wasm_file.specs.Spelling.{section_bytes, func_name_bytes, module_name_bytes, func_names_bytes, names_bytes, value_bytes, field_bytes}

@@ -11,18 +11,20 @@ use Rattle.wasm_bytes.specs.Items.{name, exactly}
 use Rattle.wasm_bytes.specs.Spelling.{list_bytes, name_bytes, framed_bytes}
 use Rattle.wasm_bytes.specs.Reads.{Reads}
 use Rattle.wasm_bytes.proofs.ReadAgain.{reads_pure, reads_bind, reads_end, reads_byte, reads_raw, reads_allowed, reads_entries, number32_again, number64_again}
-use Rattle.wasm_ops.specs.Types.{code_of, is_reference}
-use Rattle.wasm_ops.specs.Entries.{val_type, func_type, type_index, func_index}
-use Rattle.wasm_ops.specs.Spelling.{val_type_bytes, func_type_bytes, expression_bytes}
-use Rattle.wasm_ops.specs.declared.ids.FuncId.{FuncId}
-use Rattle.wasm_ops.specs.declared.ids.MemoryId.{MemoryId}
-use Rattle.wasm_ops.specs.declared.ids.TableId.{TableId}
-use Rattle.wasm_ops.specs.declared.ids.TypeId.{TypeId}
+use Rattle.wasm_types.proofs.TypesAgain.{val_type_again}
+use Rattle.wasm_types.specs.Types.{code_of, is_reference}
+use Rattle.wasm_types.specs.Entries.{val_type, func_type, type_index, func_index}
+use Rattle.wasm_types.specs.Spelling.{val_type_bytes, func_type_bytes}
+use Rattle.wasm_code.specs.Spelling.{expression_bytes}
+use Rattle.wasm_types.specs.declared.ids.FuncId.{FuncId}
+use Rattle.wasm_types.specs.declared.ids.MemoryId.{MemoryId}
+use Rattle.wasm_types.specs.declared.ids.TableId.{TableId}
+use Rattle.wasm_types.specs.declared.ids.TypeId.{TypeId}
 use Rattle.wasm_ops.specs.declared.ops.Op.{Op}
-use Rattle.wasm_ops.specs.declared.types.FuncType.{FuncType}
-use Rattle.wasm_ops.specs.declared.types.Limits.{Limits}
-use Rattle.wasm_ops.specs.declared.types.ValType.{ValType}
-use Rattle.wasm_ops.specs.declared.types.ValType.TheVariants.{I32, I64, F32, F64, V128, FuncRef, ExternRef, ExnRef}
+use Rattle.wasm_types.specs.declared.types.FuncType.{FuncType}
+use Rattle.wasm_types.specs.declared.types.Limits.{Limits}
+use Rattle.wasm_types.specs.declared.types.ValType.{ValType}
+use Rattle.wasm_types.specs.declared.types.ValType.TheVariants.{I32, I64, F32, F64, V128, FuncRef, ExternRef, ExnRef}
 use Rattle.wasm_ops_laws.specs.Fits.{IsIndex}
 use Rattle.wasm_ops_laws.proofs.OpAgain as ops
 use Rattle.wasm_ops_laws.proofs.InitialAgain.{initial_again}
@@ -76,7 +78,7 @@ kind_again read kind h = record { again = λ place rest. (h place).again (place 
 -- ---- types
 
 types_again : (xs : List ValType) → Reads (entries (length xs) val_type) (flat_map val_type_bytes xs) xs
-types_again xs = reads_entries (λ _. Unit {0}) (λ ty _. ops.val_type_again ty) xs (all_each (λ _. Unit {0}) (λ _. tt) xs)
+types_again xs = reads_entries (λ _. Unit {0}) (λ ty _. val_type_again ty) xs (all_each (λ _. Unit {0}) (λ _. tt) xs)
 
 pub func_type_again : (counts : Counts) (ty : FuncType) → FitsFuncType ty → Reads (func_type counts) (func_type_bytes ty) ty
 unfolding func_type func_type_bytes list_bytes
@@ -167,7 +169,7 @@ unfolding import_type import_of import_type_bytes memory_type global_type_bytes 
 import_type_again counts (asked.Func ty) h = kind_again (import_of counts) 0 (λ place. reads_end (λ ty. asked.Func ty) (ops.type_again counts ty h))
 import_type_again counts (asked.Table elem limits) h = kind_again (import_of counts) 1 (λ place. reads_end (λ (table : TableType). asked.Table table.elem table.limits) (table_again (record { elem = elem; limits = limits }) h))
 import_type_again counts (asked.Memory limits) h = kind_again (import_of counts) 2 (λ place. reads_end (λ size. asked.Memory size) (limits_again memory_limit limits h))
-import_type_again counts (asked.Global ty mutable) h = kind_again (import_of counts) 3 (λ place. reads_bind _ (ops.val_type_again ty) (reads_end (λ mutable. asked.Global ty mutable) (mutability_again mutable)))
+import_type_again counts (asked.Global ty mutable) h = kind_again (import_of counts) 3 (λ place. reads_bind _ (val_type_again ty) (reads_end (λ mutable. asked.Global ty mutable) (mutability_again mutable)))
 import_type_again counts (asked.Tag ty) h = kind_again (import_of counts) 4 (λ place. reads_end (λ ty. asked.Tag ty) (tag_again counts ty h))
 
 pub import_again : (counts : Counts) (i : FileImport) → FitsImport counts i → Reads («import» counts) (import_bytes i) i
@@ -194,7 +196,7 @@ export_again counts e h = reads_bind _ (name_again e.name h.name_fits) (reads_en
 pub global_again : (counts : Counts) (g : FileGlobal) → FitsGlobal counts g → Reads (global_entry counts) (global_bytes g) g
 unfolding global_entry global_bytes global_type_bytes val_type_bytes
 global_again counts g h =
-    reads_bind _ (ops.val_type_again g.ty)
+    reads_bind _ (val_type_again g.ty)
     (reads_bind _ (mutability_again g.mutable)
     (reads_end (λ init. record { ty = g.ty; mutable = g.mutable; init = init }) (initial_again counts g.init h)))
 

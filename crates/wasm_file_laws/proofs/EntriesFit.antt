@@ -9,12 +9,12 @@ use Rattle.wasm_bytes.specs.Numbers.{number32}
 use Rattle.wasm_bytes.specs.Items.{listed, name, exactly}
 use Rattle.wasm_bytes.specs.Reads.{AreBytes, Finds}
 use Rattle.wasm_bytes.proofs.ReadFinds.{steps_of, finds_pure, finds_fault, finds_bind, finds_if, finds_weaker, finds_byte, finds_allowed, finds_raw, finds_entries, finds_number32, finds_number64}
-use Rattle.wasm_ops.specs.Types.{is_reference}
-use Rattle.wasm_ops.specs.Entries.{func_type}
-use Rattle.wasm_ops.specs.declared.ids.FuncId.{FuncId}
+use Rattle.wasm_types.specs.Types.{is_reference}
+use Rattle.wasm_types.specs.Entries.{func_type}
+use Rattle.wasm_types.specs.declared.ids.FuncId.{FuncId}
 use Rattle.wasm_ops.specs.declared.ops.Op.{Op}
-use Rattle.wasm_ops.specs.declared.types.ValType.{ValType}
-use Rattle.wasm_ops.specs.declared.types.ValType.TheVariants.{FuncRef}
+use Rattle.wasm_types.specs.declared.types.ValType.{ValType}
+use Rattle.wasm_types.specs.declared.types.ValType.TheVariants.{FuncRef}
 use Rattle.wasm_ops_laws.specs.Fits.{IsIndex}
 use Rattle.wasm_ops_laws.proofs.OpFinds.{type_found, func_found, table_found, memory_found, global_found, tag_found, val_type_found, ref_type_found}
 use Rattle.wasm_ops_laws.proofs.InitialFinds.{initial_found}

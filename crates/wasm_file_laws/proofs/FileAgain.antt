@@ -8,8 +8,9 @@ use Rattle.wasm_bytes.specs.Numbers.{number_bytes}
 use Rattle.wasm_bytes.specs.Items.{exactly}
 use Rattle.wasm_bytes.specs.Reads.{Reads}
 use Rattle.wasm_bytes.proofs.ReadAgain.{reads_pure, reads_bind, reads_byte, reads_allowed}
-use Rattle.wasm_ops.specs.Spelling.{func_type_bytes, code_bytes}
-use Rattle.wasm_ops.specs.declared.ids.FuncId.{FuncId}
+use Rattle.wasm_types.specs.Spelling.{func_type_bytes}
+use Rattle.wasm_code.specs.Spelling.{code_bytes}
+use Rattle.wasm_types.specs.declared.ids.FuncId.{FuncId}
 use Rattle.wasm_ops_laws.specs.Fits.{joined_body}
 use Rattle.wasm_file.specs.Frames.{preamble, preamble_of, preamble_bytes}
 use Rattle.wasm_file.specs.Grammar.{at_start, all_sections, whole, parts_of}

@@ -6,9 +6,9 @@ use Rattle.wasm_bytes.specs.declared.counts.Counts.{Counts}
 use Rattle.wasm_bytes.specs.Reading.{Input, end_of, value_of}
 use Rattle.wasm_bytes.specs.Reads.{AreBytes, Finds}
 use Rattle.wasm_bytes.proofs.ReadFinds.{finds_pure, finds_fault, finds_bind}
-use Rattle.wasm_ops.specs.declared.ids.TypeId.{TypeId}
-use Rattle.wasm_ops.specs.declared.ops.Body.{Body}
-use Rattle.wasm_ops.specs.declared.types.FuncType.{FuncType}
+use Rattle.wasm_types.specs.declared.ids.TypeId.{TypeId}
+use Rattle.wasm_code.specs.declared.body.Body.{Body}
+use Rattle.wasm_types.specs.declared.types.FuncType.{FuncType}
 use Rattle.wasm_file.specs.Frames.{preamble_of, preamble_bytes, preamble}
 use Rattle.wasm_file.specs.Grammar.{Progress, at_start, all_sections, is_complete, whole, parts_of}
 use Rattle.wasm_file.specs.Parts.{no_parts, is_func, is_table, is_memory, is_global, is_tag, counts_of}

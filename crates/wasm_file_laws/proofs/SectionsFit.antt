@@ -8,12 +8,12 @@ use Rattle.wasm_bytes.specs.declared.counts.Counts.{Counts}
 use Rattle.wasm_bytes.specs.Reading.{Input, for_each}
 use Rattle.wasm_bytes.specs.Reads.{Finds}
 use Rattle.wasm_bytes.proofs.ReadFinds.{finds_pure, finds_bind, finds_if, finds_byte, finds_allowed, finds_filled, finds_entries, finds_number32}
-use Rattle.wasm_ops.specs.Locals.{most_locals, joined_runs}
+use Rattle.wasm_code.specs.Locals.{most_locals, joined_runs}
 use Rattle.wasm_ops.specs.Numbers.{or_zero}
-use Rattle.wasm_ops.specs.declared.ids.FuncId.{FuncId}
-use Rattle.wasm_ops.specs.declared.ids.TypeId.{TypeId}
-use Rattle.wasm_ops.specs.declared.ops.Body.{Body}
-use Rattle.wasm_ops.specs.declared.types.FuncType.{FuncType}
+use Rattle.wasm_types.specs.declared.ids.FuncId.{FuncId}
+use Rattle.wasm_types.specs.declared.ids.TypeId.{TypeId}
+use Rattle.wasm_code.specs.declared.body.Body.{Body}
+use Rattle.wasm_types.specs.declared.types.FuncType.{FuncType}
 use Rattle.wasm_ops_laws.proofs.OpFinds.{type_found, func_found}
 use Rattle.wasm_ops_laws.proofs.CodeFinds.{code_found}
 use Rattle.wasm_file.specs.Entries.{memory_limit}

@@ -2,7 +2,7 @@
 use Rattle.std.specs.Prelude.{◌≡◌, ℕ, ⊤, true, List, Option, Some, None}
 use Rattle.std.specs.List.{AllByRecursion}
 use Rattle.wasm_ops_laws.specs.Fits.{IsIndex}
-use Rattle.wasm_ops.specs.declared.ids.FuncId.{FuncId}
+use Rattle.wasm_types.specs.declared.ids.FuncId.{FuncId}
 use Rattle.wasm_file.specs.Customs.{rise_from}
 use Rattle.wasm_file.specs.declared.entries.Names.{Names}
 use Rattle.wasm_file.specs.declared.entries.ProducerField.{ProducerField}

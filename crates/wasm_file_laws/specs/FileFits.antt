@@ -3,16 +3,16 @@ use Rattle.std.specs.Prelude.{◌≡◌, ℕ, ◌+◌, ◌^◌, ◌<◌, ◌≤�
 use Rattle.std.specs.List.{AllByRecursion, flat_map}
 use Rattle.std.specs.Str.{is_utf8}
 use Rattle.wasm_bytes.specs.declared.counts.Counts.{Counts}
-use Rattle.wasm_ops.specs.Types.{is_reference}
+use Rattle.wasm_types.specs.Types.{is_reference}
 use Rattle.wasm_ops_laws.specs.Fits.{IsIndex, FitsInitial, FitsBody, joined_body}
-use Rattle.wasm_ops.specs.Locals.{joined_runs}
-use Rattle.wasm_ops.specs.declared.ids.FuncId.{FuncId}
-use Rattle.wasm_ops.specs.declared.ids.MemoryId.{MemoryId}
-use Rattle.wasm_ops.specs.declared.ids.TypeId.{TypeId}
-use Rattle.wasm_ops.specs.declared.ops.Body.{Body}
+use Rattle.wasm_code.specs.Locals.{joined_runs}
+use Rattle.wasm_types.specs.declared.ids.FuncId.{FuncId}
+use Rattle.wasm_types.specs.declared.ids.MemoryId.{MemoryId}
+use Rattle.wasm_types.specs.declared.ids.TypeId.{TypeId}
+use Rattle.wasm_code.specs.declared.body.Body.{Body}
 use Rattle.wasm_ops.specs.declared.ops.Op.{Op}
-use Rattle.wasm_ops.specs.declared.types.FuncType.{FuncType}
-use Rattle.wasm_ops.specs.declared.types.Limits.{Limits}
+use Rattle.wasm_types.specs.declared.types.FuncType.{FuncType}
+use Rattle.wasm_types.specs.declared.types.Limits.{Limits}
 use Rattle.wasm_file.specs.Entries.{any_limit, memory_limit}
 use Rattle.wasm_file.specs.Frames.{preamble_bytes}
 use Rattle.wasm_file.specs.Parts.{most, number_of, is_func, is_table, is_memory, is_global, is_tag, counts_of, params_of, is_plain}

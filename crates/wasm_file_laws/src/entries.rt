@@ -3,12 +3,12 @@
 ghost use Rattle.std.specs.Prelude.{◌≡◌, ℕ, List, [], Ok};
 ghost use Rattle.wasm_bytes.specs.declared.counts.Counts.{Counts};
 ghost use Rattle.wasm_bytes.specs.Reads.{Reads};
-ghost use Rattle.wasm_ops.specs.Entries.{func_type, type_index, func_index};
-ghost use Rattle.wasm_ops.specs.Spelling.{func_type_bytes};
-ghost use Rattle.wasm_ops.specs.declared.ids.FuncId.{FuncId};
-ghost use Rattle.wasm_ops.specs.declared.ids.TypeId.{TypeId};
-ghost use Rattle.wasm_ops.specs.declared.types.FuncType.{FuncType};
-ghost use Rattle.wasm_ops.specs.declared.types.Limits.{Limits};
+ghost use Rattle.wasm_types.specs.Entries.{func_type, type_index, func_index};
+ghost use Rattle.wasm_types.specs.Spelling.{func_type_bytes};
+ghost use Rattle.wasm_types.specs.declared.ids.FuncId.{FuncId};
+ghost use Rattle.wasm_types.specs.declared.ids.TypeId.{TypeId};
+ghost use Rattle.wasm_types.specs.declared.types.FuncType.{FuncType};
+ghost use Rattle.wasm_types.specs.declared.types.Limits.{Limits};
 ghost use Rattle.wasm_file.specs.Entries.{limits, table_type, tag_type, «import», «export», global_entry, elem, segment, custom};
 ghost use Rattle.wasm_file.specs.Spelling.{type_id_bytes, func_id_bytes, limits_bytes, table_bytes, tag_bytes, import_bytes, export_bytes, global_bytes, elem_bytes, segment_bytes, custom_bytes};
 ghost use Rattle.wasm_file.specs.declared.entries.Custom.{Custom};

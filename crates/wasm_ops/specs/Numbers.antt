@@ -1,13 +1,13 @@
 -- The numbers that entries have in the file that is written.
 use Rattle.std.specs.Prelude.{ℕ, List, map, Option, Some, None, slice_get}
-use Rattle.wasm_ops.specs.declared.ids.TypeId.{TypeId}
-use Rattle.wasm_ops.specs.declared.ids.FuncId.{FuncId}
-use Rattle.wasm_ops.specs.declared.ids.TableId.{TableId}
-use Rattle.wasm_ops.specs.declared.ids.MemoryId.{MemoryId}
-use Rattle.wasm_ops.specs.declared.ids.GlobalId.{GlobalId}
-use Rattle.wasm_ops.specs.declared.ids.TagId.{TagId}
-use Rattle.wasm_ops.specs.declared.ids.ElemId.{ElemId}
-use Rattle.wasm_ops.specs.declared.ids.DataId.{DataId}
+use Rattle.wasm_types.specs.declared.ids.TypeId.{TypeId}
+use Rattle.wasm_types.specs.declared.ids.FuncId.{FuncId}
+use Rattle.wasm_types.specs.declared.ids.TableId.{TableId}
+use Rattle.wasm_types.specs.declared.ids.MemoryId.{MemoryId}
+use Rattle.wasm_types.specs.declared.ids.GlobalId.{GlobalId}
+use Rattle.wasm_types.specs.declared.ids.TagId.{TagId}
+use Rattle.wasm_types.specs.declared.ids.ElemId.{ElemId}
+use Rattle.wasm_types.specs.declared.ids.DataId.{DataId}
 use Rattle.wasm_ops.specs.declared.ops.Op.{Op}
 use Rattle.wasm_ops.specs.declared.ops.Op.TheVariants as ops
 use Rattle.wasm_ops.specs.declared.ops.BlockType.{BlockType}
@@ -15,7 +15,6 @@ use Rattle.wasm_ops.specs.declared.ops.BlockType.TheVariants as block_types
 use Rattle.wasm_ops.specs.declared.ops.Catch.{Catch}
 use Rattle.wasm_ops.specs.declared.ops.Catch.TheVariants as catches
 use Rattle.wasm_ops.specs.declared.ops.MemArg.{MemArg}
-use Rattle.wasm_ops.specs.declared.ops.Body.{Body}
 use Rattle.wasm_ops.specs.declared.ops.Numbering.{Numbering}
 
 -- a number, 0 where there is none
@@ -99,9 +98,3 @@ renumbered_op numbers (ops.SimdMem code arg) = ops.SimdMem code (renumbered_arg 
 renumbered_op numbers (ops.SimdMemLane code arg lane) = ops.SimdMemLane code (renumbered_arg numbers arg) lane
 renumbered_op numbers (ops.SimdBytes code bytes) = ops.SimdBytes code bytes
 renumbered_op numbers (ops.SimdLane code lane) = ops.SimdLane code lane
-
-abbrev pub renumbered_ops : Numbering → List Op → List Op
-renumbered_ops numbers ops = map (renumbered_op numbers) ops
-
-abbrev pub renumbered_body : Numbering → Body → Body
-renumbered_body numbers b = record b { ops = renumbered_ops numbers b.ops }

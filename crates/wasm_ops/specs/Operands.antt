@@ -6,8 +6,8 @@ use Rattle.wasm_bytes.specs.Reading.{Input, ◌>>=◌, pure, byte, raw, allowed,
 use Rattle.wasm_bytes.specs.Numbers.{number32, number64}
 use Rattle.wasm_bytes.specs.Signed.{signed32, signed33, signed64}
 use Rattle.wasm_bytes.specs.Items.{index}
-use Rattle.wasm_ops.specs.Types.{val_type_of}
-use Rattle.wasm_ops.specs.Entries.{val_type, ref_type, type_index, func_index, table_index, memory_index, global_index, tag_index, elem_index, data_index}
+use Rattle.wasm_types.specs.Types.{val_type_of}
+use Rattle.wasm_types.specs.Entries.{val_type, ref_type, type_index, func_index, table_index, memory_index, global_index, tag_index, elem_index, data_index}
 use Rattle.wasm_ops.specs.Shapes.{simd_shape}
 use Rattle.wasm_ops.specs.declared.ops.Op.{Op}
 use Rattle.wasm_ops.specs.declared.ops.Op.TheVariants as ops

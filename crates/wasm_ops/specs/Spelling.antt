@@ -1,13 +1,10 @@
--- The one spelling of types and of code that is written.
+-- The one spelling of operators that is written.
 use Rattle.std.specs.Prelude.{ℕ, ◌+◌, pos, List, [], ◌∷◌, ◌++◌, ◌==◌, if◌then◌else◌}
-use Rattle.std.specs.List.{flat_map}
 use Rattle.wasm_bytes.specs.Numbers.{number_bytes}
 use Rattle.wasm_bytes.specs.Signed.{signed_bytes}
-use Rattle.wasm_bytes.specs.Spelling.{list_bytes, framed_bytes}
-use Rattle.wasm_ops.specs.Types.{code_of}
-use Rattle.wasm_ops.specs.Locals.{joined_runs}
-use Rattle.wasm_ops.specs.declared.types.ValType.{ValType}
-use Rattle.wasm_ops.specs.declared.types.FuncType.{FuncType}
+use Rattle.wasm_bytes.specs.Spelling.{list_bytes}
+use Rattle.wasm_types.specs.Types.{code_of}
+use Rattle.wasm_types.specs.Spelling.{val_type_bytes}
 use Rattle.wasm_ops.specs.declared.ops.Op.{Op}
 use Rattle.wasm_ops.specs.declared.ops.Op.TheVariants as ops
 use Rattle.wasm_ops.specs.declared.ops.BlockType.{BlockType}
@@ -15,13 +12,6 @@ use Rattle.wasm_ops.specs.declared.ops.BlockType.TheVariants as block_types
 use Rattle.wasm_ops.specs.declared.ops.Catch.{Catch}
 use Rattle.wasm_ops.specs.declared.ops.Catch.TheVariants as catches
 use Rattle.wasm_ops.specs.declared.ops.MemArg.{MemArg}
-use Rattle.wasm_ops.specs.declared.ops.Body.{Body}
-
-unfoldable pub val_type_bytes : ValType → List ℕ
-val_type_bytes ty = code_of ty ∷ []
-
-unfoldable pub func_type_bytes : FuncType → List ℕ
-func_type_bytes ty = 0x60 ∷ (list_bytes val_type_bytes ty.params ++ list_bytes val_type_bytes ty.results)
 
 -- nothing, one value, or the index of a type as a signed number
 unfoldable pub block_type_bytes : BlockType → List ℕ
@@ -76,19 +66,3 @@ op_bytes (ops.SimdMem code arg) = coded 0xFD code ++ mem_arg_bytes arg
 op_bytes (ops.SimdMemLane code arg lane) = coded 0xFD code ++ (mem_arg_bytes arg ++ lane ∷ [])
 op_bytes (ops.SimdBytes code bytes) = coded 0xFD code ++ bytes
 op_bytes (ops.SimdLane code lane) = coded 0xFD code ++ lane ∷ []
-
--- operators, and the one that ends them
-unfoldable pub expression_bytes : List Op → List ℕ
-expression_bytes ops = flat_map op_bytes ops ++ 0x0B ∷ []
-
--- how many locals, and their type
-unfoldable pub run_bytes : ℕ × ValType → List ℕ
-run_bytes r = number_bytes r.0 ++ code_of r.1 ∷ []
-
--- the runs of locals, joined, and the operators
-unfoldable pub body_bytes : Body → List ℕ
-body_bytes b = list_bytes run_bytes (joined_runs b.locals) ++ expression_bytes b.ops
-
--- a body behind its length
-unfoldable pub code_bytes : Body → List ℕ
-code_bytes b = framed_bytes (body_bytes b)

@@ -1,37 +1,22 @@
-//! Operators of WebAssembly, the types and indices that they name, and the bodies and initial expressions that they make
-//! (WebAssembly core specification, 5.3 to 5.5): how they are read and how they are written.
+//! Operators of WebAssembly, one by one (WebAssembly core specification, 5.4): which operands follow an opcode, how they are read
+//! and how an operator is written.
 //!
-//! A reader gives exactly what the grammar in `specs/` gives, with the place of the first fault, unless memory runs out. Open
-//! blocks are a list, so a body may nest as deeply as its bytes allow. What is written is exactly the spelling in `specs/`:
-//! numbers in their shortest form, runs of locals joined, entries by the numbers that a `Numbering` gives them.
+//! `read_operands` gives exactly what the grammar in `specs/` gives, with the place of the first fault, unless memory runs out.
+//! What `write_op` writes is exactly the spelling in `specs/`: numbers in their shortest form, entries by the numbers that a
+//! `Numbering` gives them.
 //!
-//! The operators of a body or an expression are kept packed (`Ops`), as the bytes of each variant and of what it holds. A contract
-//! sees their list: what is pushed stands behind the others (`push`), and a walk gives one after another (`Walk::next`).
-//!
-//! It stands on `wasm_bytes` and `values`.
+//! It stands on `wasm_types`, `wasm_bytes` and `values`.
 #![tactic(auto)]
 
-mod code;
-mod entries;
-mod ids;
-mod kinds;
-mod lists;
-mod locals;
 mod operands;
 mod ops;
-mod packed;
-mod packing;
 mod shapes;
 mod spelling;
-mod types;
-mod unpacking;
 
-pub use code::{read_code_entry, read_initial, read_initials};
-pub use entries::read_ref_type;
-pub use ids::{
-    DataId, ElemId, ExportId, FuncId, GlobalId, ImportId, MemoryId, TableId, TagId, TypeId,
+pub use operands::{read_array, read_operands};
+pub use ops::{BlockType, Catch, MemArg, Numbering, Op};
+pub use shapes::{Shape, initial_shape, named_blocks, shape_within};
+pub use spelling::{
+    number_at, push_bytes, push_coded, push_coded_bytes, push_coded_pair, push_coded_signed,
+    write_op,
 };
-pub use ops::{BlockType, Body, Catch, MemArg, Numbering, Op};
-pub use packed::{Ops, Walk};
-pub use spelling::{number_at, write_code, write_expression};
-pub use types::{FuncType, Limits, ValType};

@@ -5,18 +5,18 @@ ghost use Rattle.wasm_bytes.specs.Gives.{Gives};
 ghost use Rattle.wasm_bytes.specs.Reading.{followed, pure, entries, raw};
 ghost use Rattle.wasm_bytes.specs.Numbers.{number32};
 ghost use Rattle.wasm_bytes.specs.Items.{index};
-ghost use Rattle.wasm_ops.specs.Entries.{val_type};
+ghost use Rattle.wasm_types.specs.Entries.{val_type};
 ghost use Rattle.wasm_ops.specs.Operands.{short_block_type, numbered_type, block_type, block_type_from, labels, catch_after, catch_clause, names_memory, align_field, mem_arg, bulk, bulk_after, simd, simd_after, const128, br_table, indirect, select, try_table, operands};
 ghost use Rattle.wasm_ops.specs.declared.ops.Op.TheVariants as ops;
 
-use crate::entries::read_ref_type;
-use crate::ids::{DataId, ElemId, FuncId, GlobalId, MemoryId, TableId, TagId, TypeId};
 use crate::ops::{BlockType, Catch, MemArg, Op};
 use crate::shapes::{Shape, SimdShape, simd_shape};
-use crate::types::ValType;
 use std::alloc::Global;
 use values::Seq;
 use wasm_bytes::{Counts, Entry, ReadFault, Reader, read_entries, read_index};
+use wasm_types::{
+    DataId, ElemId, FuncId, GlobalId, MemoryId, TableId, TagId, TypeId, ValType, read_ref_type,
+};
 
 /// The block type of one byte, where it stands for one.
 fn short_block_type(code: u8) -> Option<BlockType>
@@ -203,7 +203,7 @@ fn read_mem_arg(
 }
 
 /// Raw bytes, as many as the array holds.
-pub(crate) fn read_array<const N: usize>(reader: &mut Reader<'_>) -> Result<[u8; N], ReadFault>
+pub fn read_array<const N: usize>(reader: &mut Reader<'_>) -> Result<[u8; N], ReadFault>
     ensures { Gives result reader.new (raw N reader.old) }
 {
     let bytes = reader.raw(N)?;

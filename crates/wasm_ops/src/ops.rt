@@ -1,10 +1,8 @@
 //! Operators (WebAssembly core specification, 5.4): a variant for each shape of what follows the opcode.
 //! A number that stands first is the opcode, for the prefixes `FC` and `FD` the number after the prefix.
 
-use crate::ids::{DataId, ElemId, FuncId, GlobalId, MemoryId, TableId, TagId, TypeId};
-use crate::packed::Ops;
-use crate::types::ValType;
 use values::Seq;
+use wasm_types::{DataId, ElemId, FuncId, GlobalId, MemoryId, TableId, TagId, TypeId, ValType};
 
 /// What a block takes and gives.
 #[derive(Clone, Copy, Debug, PartialEq, Eq)]
@@ -70,13 +68,6 @@ pub enum Op {
     SimdMemLane(u32, MemArg, u8),
     SimdBytes(u32, [u8; 16]),
     SimdLane(u32, u8),
-}
-
-/// The body of a function: runs of locals of one type, and operators without the last 0B.
-#[derive(Debug, Drop)]
-pub struct Body {
-    pub locals: Seq<(u32, ValType)>,
-    pub ops: Ops,
 }
 
 /// The number that each place of a module's lists has in the file that is written.

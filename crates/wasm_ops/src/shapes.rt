@@ -44,7 +44,7 @@ pub enum SimdShape {
 }
 
 /// What follows the number of a vector operator.
-pub fn simd_shape(code: u32) -> SimdShape
+pub(crate) fn simd_shape(code: u32) -> SimdShape
     ensures { result ≡ simd_shape code }
 {
     match code {

@@ -1,43 +1,19 @@
-//! Writing types and code (WebAssembly core specification, 5.3 and 5.4).
+//! Writing operators (WebAssembly core specification, 5.4).
 
 ghost use Rattle.std.specs.Prelude.{◌≡◌, ◌∷◌, ◌++◌, map, OnOk};
 ghost use Rattle.std.specs.List.{flat_map};
 ghost use Rattle.wasm_bytes.specs.Numbers.{number_bytes};
 ghost use Rattle.wasm_bytes.specs.Signed.{signed_bytes};
 ghost use Rattle.wasm_bytes.specs.Spelling.{list_bytes};
-ghost use Rattle.wasm_ops.specs.Locals.{joined_runs};
-ghost use Rattle.wasm_ops.specs.Numbers.{renumbered_block_type, renumbered_catch, renumbered_arg, renumbered_op, renumbered_ops, renumbered_body, number_at};
-ghost use Rattle.wasm_ops.specs.Spelling.{val_type_bytes, func_type_bytes, block_type_bytes, catch_bytes, mem_arg_bytes, coded, op_bytes, run_bytes, expression_bytes, code_bytes};
+ghost use Rattle.wasm_types.specs.Spelling.{val_type_bytes};
+ghost use Rattle.wasm_ops.specs.Numbers.{renumbered_block_type, renumbered_catch, renumbered_arg, renumbered_op, number_at};
+ghost use Rattle.wasm_ops.specs.Spelling.{block_type_bytes, catch_bytes, mem_arg_bytes, coded, op_bytes};
 
-use crate::ids::{TableId, TypeId};
-use crate::locals::join_runs;
-use crate::ops::{BlockType, Body, Catch, MemArg, Numbering, Op};
-use crate::packed::Ops;
-use crate::types::{FuncType, ValType};
-use std::alloc::{AllocError, Global};
+use crate::ops::{BlockType, Catch, MemArg, Numbering, Op};
+use std::alloc::AllocError;
 use values::Seq;
-use wasm_bytes::{Spell, push_i64, push_number, push_u32, write_framed, write_list};
-
-impl Spell for ValType {
-    ghost spelled = { val_type_bytes };
-
-    #[tactic(auto, unfolding(crate::specs::Spelling::val_type_bytes))]
-    fn write(&self, out: &mut Vec<u8>) -> Result<(), AllocError> {
-        out.push(self.code())?;
-        Ok(())
-    }
-}
-
-impl Spell for FuncType {
-    ghost spelled = { func_type_bytes };
-
-    #[tactic(auto, unfolding(crate::specs::Spelling::func_type_bytes))]
-    fn write(&self, out: &mut Vec<u8>) -> Result<(), AllocError> {
-        out.push(0x60)?;
-        write_list(self.params.as_slice(), out)?;
-        write_list(self.results.as_slice(), out)
-    }
-}
+use wasm_bytes::{push_i64, push_number, push_u32, write_list};
+use wasm_types::{TableId, TypeId, ValType};
 
 /// The number of a place, 0 where there is none.
 pub fn number_at(numbers: &Seq<u32>, place: u32) -> u32
@@ -50,7 +26,7 @@ pub fn number_at(numbers: &Seq<u32>, place: u32) -> u32
 }
 
 /// Appends a byte and a number.
-pub(crate) fn push_coded(out: &mut Vec<u8>, code: u8, number: u32) -> Result<(), AllocError>
+pub fn push_coded(out: &mut Vec<u8>, code: u8, number: u32) -> Result<(), AllocError>
     ensures { OnOk result (out.new.items ≡ out.old.items ++ coded code number) }
 {
     out.push(code)?;
@@ -58,7 +34,7 @@ pub(crate) fn push_coded(out: &mut Vec<u8>, code: u8, number: u32) -> Result<(),
 }
 
 /// Appends a byte and two numbers.
-pub(crate) fn push_coded_pair(
+pub fn push_coded_pair(
     out: &mut Vec<u8>,
     code: u8,
     first: u32,
@@ -184,7 +160,7 @@ fn write_simd_mem(
 }
 
 /// Appends a byte, a number and raw bytes.
-pub(crate) fn push_coded_bytes(
+pub fn push_coded_bytes(
     out: &mut Vec<u8>,
     code: u8,
     number: u32,
@@ -197,7 +173,7 @@ pub(crate) fn push_coded_bytes(
 }
 
 /// Appends a byte and raw bytes.
-pub(crate) fn push_bytes(out: &mut Vec<u8>, code: u8, bytes: &[u8]) -> Result<(), AllocError>
+pub fn push_bytes(out: &mut Vec<u8>, code: u8, bytes: &[u8]) -> Result<(), AllocError>
     ensures { OnOk result (out.new.items ≡ out.old.items ++ code ∷ bytes.now) }
 {
     out.push(code)?;
@@ -275,7 +251,7 @@ fn write_mem(
 }
 
 /// Appends an opcode and a number with a sign.
-pub(crate) fn push_coded_signed(out: &mut Vec<u8>, code: u8, value: i64) -> Result<(), AllocError>
+pub fn push_coded_signed(out: &mut Vec<u8>, code: u8, value: i64) -> Result<(), AllocError>
     ensures { OnOk result (out.new.items ≡ out.old.items ++ code ∷ signed_bytes value) }
 {
     out.push(code)?;
@@ -283,8 +259,8 @@ pub(crate) fn push_coded_signed(out: &mut Vec<u8>, code: u8, value: i64) -> Resu
 }
 
 /// Appends an operator with the numbers of what it names.
-#[tactic(auto, unfolding(crate::specs::Spelling::op_bytes, crate::specs::Spelling::val_type_bytes, crate::specs::Numbers::renumbered_op))]
-fn write_op(out: &mut Vec<u8>, numbers: &Numbering, op: &Op) -> Result<(), AllocError>
+#[tactic(auto, unfolding(crate::specs::Spelling::op_bytes, wasm_types::specs::Spelling::val_type_bytes, crate::specs::Numbers::renumbered_op))]
+pub fn write_op(out: &mut Vec<u8>, numbers: &Numbering, op: &Op) -> Result<(), AllocError>
     ensures { OnOk result (out.new.items ≡ out.old.items ++ op_bytes (renumbered_op numbers.now op.now)) }
 {
     match *op {
@@ -337,75 +313,4 @@ fn write_op(out: &mut Vec<u8>, numbers: &Numbering, op: &Op) -> Result<(), Alloc
         Op::SimdBytes(code, ref bytes) => push_coded_bytes(out, 0xFD, code, bytes),
         Op::SimdLane(code, lane) => push_coded_bytes(out, 0xFD, code, &[lane]),
     }
-}
-
-/// Appends operators with the numbers of what they name, one after another.
-fn write_each_op(out: &mut Vec<u8>, numbers: &Numbering, ops: &Ops) -> Result<(), AllocError>
-    ensures { OnOk result (out.new.items ≡ out.old.items ++ flat_map op_bytes (renumbered_ops numbers.now ops.now)) }
-{
-    let mut walk = ops.walk();
-    loop {
-        match walk.next_spelled() {
-            Some(bytes) => out.extend_from_slice(bytes)?,
-            None => match walk.next()? {
-                Some(op) => write_op(out, numbers, &op)?,
-                None => return Ok(()),
-            },
-        }
-    }
-}
-
-/// Appends operators with the numbers of what they name, and the one that ends them.
-#[tactic(auto, unfolding(crate::specs::Spelling::expression_bytes))]
-pub fn write_expression(out: &mut Vec<u8>, numbers: &Numbering, ops: &Ops) -> Result<(), AllocError>
-    ensures { OnOk result (out.new.items ≡ out.old.items ++ expression_bytes (renumbered_ops numbers.now ops.now)) }
-{
-    write_each_op(out, numbers, ops)?;
-    out.push(0x0B)?;
-    Ok(())
-}
-
-/// Appends a run of locals of one type.
-#[tactic(auto, unfolding(crate::specs::Spelling::run_bytes))]
-fn write_run(out: &mut Vec<u8>, run: (u32, ValType)) -> Result<(), AllocError>
-    ensures { OnOk result (out.new.items ≡ out.old.items ++ run_bytes run) }
-{
-    push_u32(out, run.0)?;
-    out.push(run.1.code())?;
-    Ok(())
-}
-
-fn write_each_run(out: &mut Vec<u8>, runs: &[(u32, ValType)]) -> Result<(), AllocError>
-    ensures { OnOk result (out.new.items ≡ out.old.items ++ flat_map run_bytes runs.now) }
-{
-    for run in runs {
-        write_run(out, *run)?;
-    }
-    Ok(())
-}
-
-/// Appends a list of runs of locals, where neighbours of one type are joined.
-#[tactic(auto, unfolding(wasm_bytes::specs::Spelling::list_bytes))]
-fn write_runs(out: &mut Vec<u8>, alloc: Global, runs: &[(u32, ValType)]) -> Result<(), AllocError>
-    ensures { OnOk result (out.new.items ≡ out.old.items ++ list_bytes run_bytes (joined_runs runs.now)) }
-{
-    let joined = join_runs(alloc, runs)?;
-    push_number(out, joined.len() as u64)?;
-    write_each_run(out, joined.as_slice())
-}
-
-/// Appends a body behind its length, with the numbers of what it names.
-#[tactic(auto, unfolding(crate::specs::Spelling::code_bytes, crate::specs::Spelling::body_bytes))]
-pub fn write_code(
-    out: &mut Vec<u8>,
-    alloc: Global,
-    numbers: &Numbering,
-    body: &Body,
-) -> Result<(), AllocError>
-    ensures { OnOk result (out.new.items ≡ out.old.items ++ code_bytes (renumbered_body numbers.now body.now)) }
-{
-    let mut content = Vec::new(alloc);
-    write_runs(&mut content, alloc, body.locals.as_slice())?;
-    write_expression(&mut content, numbers, &body.ops)?;
-    write_framed(out, content.as_slice())
 }

@@ -10,18 +10,21 @@ use Rattle.wasm_bytes.specs.Numbers.{number_bytes}
 use Rattle.wasm_bytes.specs.Spelling.{list_bytes, framed_bytes}
 use Rattle.wasm_bytes.specs.Reads.{Reads}
 use Rattle.wasm_bytes.proofs.ReadAgain.{reads_pure, reads_bind, reads_end, reads_allowed, reads_filled, number32_again}
-use Rattle.wasm_ops.specs.declared.types.ValType.{ValType}
+use Rattle.wasm_types.specs.declared.types.ValType.{ValType}
 use Rattle.wasm_ops.specs.declared.shapes.Shape.TheVariants as shapes
 use Rattle.wasm_ops.specs.declared.ops.Op.{Op}
 use Rattle.wasm_ops.specs.declared.ops.Op.TheVariants as ops
-use Rattle.wasm_ops.specs.declared.ops.Body.{Body}
+use Rattle.wasm_code.specs.declared.body.Body.{Body}
 use Rattle.wasm_ops.specs.Operands.{operands}
-use Rattle.wasm_ops.specs.Locals.{Runs, run, runs, most_locals, joined_runs}
-use Rattle.wasm_ops.specs.Code.{op, labels_after, next_op, expression, body, code_entry}
-use Rattle.wasm_ops.specs.Spelling.{val_type_bytes, op_bytes, expression_bytes, run_bytes, body_bytes, code_bytes}
+use Rattle.wasm_code.specs.Locals.{Runs, run, runs, most_locals, joined_runs}
+use Rattle.wasm_code.specs.Code.{op, labels_after, next_op, expression, body, code_entry}
+use Rattle.wasm_types.specs.Spelling.{val_type_bytes}
+use Rattle.wasm_ops.specs.Spelling.{op_bytes}
+use Rattle.wasm_code.specs.Spelling.{expression_bytes, run_bytes, body_bytes, code_bytes}
 use Rattle.wasm_ops_laws.specs.Fits.{FitsOp, FitsOps, FitsBody, IsShort, joined_body}
 use Rattle.wasm_ops_laws.proofs.JoinedAgain.{joined_runs_again, sum_of_joined_runs, few_runs}
-use Rattle.wasm_ops_laws.proofs.OpAgain.{op_with, op_again, val_type_again}
+use Rattle.wasm_types.proofs.TypesAgain.{val_type_again}
+use Rattle.wasm_ops_laws.proofs.OpAgain.{op_with, op_again}
 
 -- ---- operators up to the end
 

@@ -9,8 +9,8 @@ use Rattle.wasm_bytes.specs.declared.counts.Counts.{Counts}
 use Rattle.wasm_bytes.specs.Reading.{Input, collected, gathered}
 use Rattle.wasm_bytes.specs.Reads.{Finds}
 use Rattle.wasm_bytes.proofs.ReadFinds.{finds_pure, finds_bind, finds_weaker, finds_allowed, finds_filled, finds_number32}
-use Rattle.wasm_ops.specs.Locals.{run, runs, most_locals, joined_runs}
-use Rattle.wasm_ops.specs.Code.{closed, labels_after, next_op, expression, body, code_entry}
+use Rattle.wasm_code.specs.Locals.{run, runs, most_locals, joined_runs}
+use Rattle.wasm_code.specs.Code.{closed, labels_after, next_op, expression, body, code_entry}
 use Rattle.wasm_ops_laws.specs.Fits.{FitsOp, FitsOps, IsReadBody}
 use Rattle.wasm_ops.specs.declared.ops.Op.{Op}
 use Rattle.wasm_ops.specs.declared.ops.Op.TheVariants as ops

@@ -12,8 +12,9 @@ use Rattle.wasm_ops.specs.declared.ops.Op.{Op}
 use Rattle.wasm_ops.specs.declared.ops.Op.TheVariants as ops
 use Rattle.wasm_ops.specs.Shapes.{initial_shape}
 use Rattle.wasm_ops.specs.Operands.{operands, const128}
-use Rattle.wasm_ops.specs.Code.{next_initial, initial}
-use Rattle.wasm_ops.specs.Spelling.{op_bytes, expression_bytes}
+use Rattle.wasm_code.specs.Code.{next_initial, initial}
+use Rattle.wasm_ops.specs.Spelling.{op_bytes}
+use Rattle.wasm_code.specs.Spelling.{expression_bytes}
 use Rattle.wasm_ops_laws.specs.Fits.{FitsInitial}
 use Rattle.wasm_ops_laws.proofs.OpAgain.{func_again, global_again, ref_type_again}
 use Rattle.wasm_ops_laws.proofs.CodeAgain.{AreRead, are_end, are_more}

@@ -9,7 +9,7 @@ use Rattle.wasm_bytes.specs.Reads.{Finds}
 use Rattle.wasm_bytes.proofs.ReadFinds.{steps_of, finds_pure, finds_fault, finds_bind, finds_if, finds_weaker, finds_byte, finds_allowed, finds_raw, finds_number32, finds_signed32, finds_signed64}
 use Rattle.wasm_ops.specs.Shapes.{among, initial_shape}
 use Rattle.wasm_ops.specs.Operands.{const128, operands}
-use Rattle.wasm_ops.specs.Code.{known, next_initial, initial}
+use Rattle.wasm_code.specs.Code.{known, next_initial, initial}
 use Rattle.wasm_ops_laws.specs.Fits.{FitsInitial}
 use Rattle.wasm_ops.specs.declared.shapes.Shape.{Shape}
 use Rattle.wasm_ops.specs.declared.shapes.Shape.TheVariants as shapes

@@ -3,9 +3,9 @@ use Rattle.std.proofs.Common.{◌≡◌, ℕ, ◌+◌, ◌<◌, ◌≤◌, ◌^�
 use Rattle.std.specs.List.{sum_by, AllByRecursion}
 use Rattle.std.proofs.lemmas.Bool.{le-ltb, lt-ltb, ltb-false, cases_lt, cases_Bool}
 use Rattle.std.proofs.lemmas.List.Sums.{sum_by-cons}
-use Rattle.wasm_ops.specs.Types.{code_of}
-use Rattle.wasm_ops.specs.declared.types.ValType.{ValType}
-use Rattle.wasm_ops.specs.Locals.{Runs, joined_from, joined, without_empty, joined_runs}
+use Rattle.wasm_types.specs.Types.{code_of}
+use Rattle.wasm_types.specs.declared.types.ValType.{ValType}
+use Rattle.wasm_code.specs.Locals.{Runs, joined_from, joined, without_empty, joined_runs}
 
 abbrev can_join : ℕ × ValType → ℕ × ValType → Bool
 can_join q r = (code_of q.1 == code_of r.1) && ltb (q.0 + r.0) (2 ^ 32)

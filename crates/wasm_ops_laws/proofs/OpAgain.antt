@@ -12,13 +12,16 @@ use Rattle.wasm_bytes.specs.Items.{index}
 use Rattle.wasm_bytes.specs.Spelling.{list_bytes}
 use Rattle.wasm_bytes.specs.Reads.{Reads}
 use Rattle.wasm_bytes.proofs.ReadAgain.{reads_pure, reads_bind, reads_end, reads_byte, reads_raw, reads_allowed, reads_meant, reads_entries, reads_list, number32_again, number64_again, signed32_again, signed33_again, signed64_again}
-use Rattle.wasm_ops.specs.Types.{val_type_of, code_of, is_reference}
-use Rattle.wasm_ops.specs.declared.types.ValType.{ValType}
-use Rattle.wasm_ops.specs.declared.types.ValType.TheVariants.{I32, I64, F32, F64, V128, FuncRef, ExternRef, ExnRef}
-use Rattle.wasm_ops.specs.Entries.{val_type, ref_type, type_index, func_index, table_index, memory_index, global_index, tag_index, elem_index, data_index}
-use Rattle.wasm_ops.specs.Spelling.{val_type_bytes, block_type_bytes, catch_bytes, mem_arg_bytes, op_bytes}
+use Rattle.wasm_types.proofs.TypesAgain.{val_type_again}
+use Rattle.packed_ops.proofs.PackedAgain.{all_any}
+use Rattle.wasm_types.specs.Types.{val_type_of, code_of, is_reference}
+use Rattle.wasm_types.specs.declared.types.ValType.{ValType}
+use Rattle.wasm_types.specs.declared.types.ValType.TheVariants.{I32, I64, F32, F64, V128, FuncRef, ExternRef, ExnRef}
+use Rattle.wasm_types.specs.Entries.{val_type, ref_type, type_index, func_index, table_index, memory_index, global_index, tag_index, elem_index, data_index}
+use Rattle.wasm_types.specs.Spelling.{val_type_bytes}
+use Rattle.wasm_ops.specs.Spelling.{block_type_bytes, catch_bytes, mem_arg_bytes, op_bytes}
 use Rattle.wasm_ops.specs.Operands.{short_block_type, numbered_type, block_type_from, block_type, labels, catch_after, catch_clause, names_memory, align_field, mem_arg, bulk_after, bulk, simd_after, simd, br_table, indirect, select, try_table, operands}
-use Rattle.wasm_ops.specs.Code.{op}
+use Rattle.wasm_code.specs.Code.{op}
 use Rattle.wasm_ops.specs.Shapes.{shape_within, named_blocks, simd_shape}
 use Rattle.wasm_ops.specs.declared.shapes.Shape.{Shape}
 use Rattle.wasm_ops.specs.declared.shapes.Shape.TheVariants as shapes
@@ -27,14 +30,14 @@ use Rattle.wasm_ops.specs.declared.shapes.SimdShape.TheVariants as simds
 use Rattle.wasm_ops.specs.declared.ops.Op.{Op}
 use Rattle.wasm_ops.specs.declared.ops.Op.TheVariants as ops
 use Rattle.wasm_ops_laws.specs.Fits.{IsIndex, FitsBlockType, FitsCatch, FitsMemArg, FitsOp}
-use Rattle.wasm_ops.specs.declared.ids.TypeId.{TypeId}
-use Rattle.wasm_ops.specs.declared.ids.FuncId.{FuncId}
-use Rattle.wasm_ops.specs.declared.ids.TableId.{TableId}
-use Rattle.wasm_ops.specs.declared.ids.MemoryId.{MemoryId}
-use Rattle.wasm_ops.specs.declared.ids.GlobalId.{GlobalId}
-use Rattle.wasm_ops.specs.declared.ids.TagId.{TagId}
-use Rattle.wasm_ops.specs.declared.ids.ElemId.{ElemId}
-use Rattle.wasm_ops.specs.declared.ids.DataId.{DataId}
+use Rattle.wasm_types.specs.declared.ids.TypeId.{TypeId}
+use Rattle.wasm_types.specs.declared.ids.FuncId.{FuncId}
+use Rattle.wasm_types.specs.declared.ids.TableId.{TableId}
+use Rattle.wasm_types.specs.declared.ids.MemoryId.{MemoryId}
+use Rattle.wasm_types.specs.declared.ids.GlobalId.{GlobalId}
+use Rattle.wasm_types.specs.declared.ids.TagId.{TagId}
+use Rattle.wasm_types.specs.declared.ids.ElemId.{ElemId}
+use Rattle.wasm_types.specs.declared.ids.DataId.{DataId}
 use Rattle.wasm_ops.specs.declared.ops.BlockType.{BlockType}
 use Rattle.wasm_ops.specs.declared.ops.BlockType.TheVariants as block_types
 use Rattle.wasm_ops.specs.declared.ops.Catch.{Catch}
@@ -80,20 +83,6 @@ unfolding data_index
 data_again counts id h = reads_end (λ i. record { 0 = i }) (named_again counts.segments id.0 h)
 
 -- ---- types
-
-pub val_type_code : (ty : ValType) → val_type_of (code_of ty) ≡ Some ty
-val_type_code I32 = refl
-val_type_code I64 = refl
-val_type_code F32 = refl
-val_type_code F64 = refl
-val_type_code V128 = refl
-val_type_code FuncRef = refl
-val_type_code ExternRef = refl
-val_type_code ExnRef = refl
-
-pub val_type_again : (ty : ValType) → Reads val_type (val_type_bytes ty) ty
-unfolding val_type val_type_bytes
-val_type_again ty = reads_meant val_type_of (reads_byte (code_of ty)) (val_type_code ty)
 
 pub ref_type_again : (ty : ValType) → is_reference ty ≡ true → Reads ref_type (val_type_bytes ty) ty
 unfolding ref_type
@@ -229,10 +218,6 @@ simd_with counts blocks code shape bytes x lt is h = op_with counts blocks 0xFD 
 labels_again : (blocks : ℕ) (xs : List ℕ) → length xs < 2 ^ 32 → AllByRecursion (IsIndex blocks) xs → Reads (labels blocks) (list_bytes number_bytes xs) xs
 unfolding labels
 labels_again blocks xs few all = reads_list (IsIndex blocks) (named_again blocks) xs few all
-
-all_any : {A : Type 0} (xs : List A) → AllByRecursion (λ _. Unit {0}) xs
-all_any [] = tt
-all_any (x ∷ xs) = (tt, all_any xs)
 
 last_fc : (counts : Counts) (code : ℕ) (table : TableId) → 15 ≤ code → IsIndex counts.tables table.0 → Reads (bulk_after counts code) (number_bytes table.0) (ops.FcTable code table)
 unfolding bulk_after

@@ -10,12 +10,12 @@ use Rattle.wasm_bytes.specs.Reading.{Input, byte, value_of}
 use Rattle.wasm_bytes.specs.Signed.{IsWithin}
 use Rattle.wasm_bytes.specs.Reads.{AreBytes, Finds}
 use Rattle.wasm_bytes.proofs.ReadFinds.{steps_of, finds_pure, finds_fault, finds_bind, finds_if, finds_weaker, finds_byte, finds_allowed, finds_meant, finds_raw, finds_entries, finds_number32, finds_number64, finds_index, finds_signed32, finds_signed33, finds_signed64}
-use Rattle.wasm_ops.specs.Types.{val_type_of, is_reference}
-use Rattle.wasm_ops.specs.declared.types.ValType.{ValType}
-use Rattle.wasm_ops.specs.Entries.{val_type, ref_type, type_index, func_index, table_index, memory_index, global_index, tag_index, elem_index, data_index}
+use Rattle.wasm_types.specs.Types.{val_type_of, is_reference}
+use Rattle.wasm_types.specs.declared.types.ValType.{ValType}
+use Rattle.wasm_types.specs.Entries.{val_type, ref_type, type_index, func_index, table_index, memory_index, global_index, tag_index, elem_index, data_index}
 use Rattle.wasm_ops.specs.Shapes.{shape_within, named_blocks, simd_shape}
 use Rattle.wasm_ops.specs.Operands.{asked_by, by_first, short_block_type, numbered_type, block_type_from, block_type, labels, catch_after, catch_clause, names_memory, align_field, mem_arg, bulk_after, bulk, simd_after, simd, br_table, indirect, select, try_table, const128, operands}
-use Rattle.wasm_ops.specs.Code.{known, op}
+use Rattle.wasm_code.specs.Code.{known, op}
 use Rattle.wasm_ops_laws.specs.Fits.{IsIndex, FitsBlockType, FitsCatch, FitsMemArg, FitsOp}
 use Rattle.wasm_ops.specs.declared.shapes.Shape.{Shape}
 use Rattle.wasm_ops.specs.declared.shapes.Shape.TheVariants as shapes

@@ -3,12 +3,12 @@ use Rattle.std.specs.Prelude.{◌≡◌, ℕ, ◌+◌, ◌^◌, ◌<◌, ◌≤�
 use Rattle.std.specs.List.{AllByRecursion, sum_by}
 use Rattle.wasm_bytes.specs.declared.counts.Counts.{Counts}
 use Rattle.wasm_bytes.specs.Signed.{IsWithin}
-use Rattle.wasm_ops.specs.Types.{is_reference}
+use Rattle.wasm_types.specs.Types.{is_reference}
 use Rattle.wasm_ops.specs.Shapes.{shape_within, initial_shape, named_blocks, simd_shape}
 use Rattle.wasm_ops.specs.Operands.{names_memory}
-use Rattle.wasm_ops.specs.Locals.{most_locals, joined_runs}
-use Rattle.wasm_ops.specs.Code.{labels_after}
-use Rattle.wasm_ops.specs.Spelling.{body_bytes}
+use Rattle.wasm_code.specs.Locals.{most_locals, joined_runs}
+use Rattle.wasm_code.specs.Code.{labels_after}
+use Rattle.wasm_code.specs.Spelling.{body_bytes}
 use Rattle.wasm_ops.specs.declared.shapes.Shape.TheVariants as shapes
 use Rattle.wasm_ops.specs.declared.shapes.SimdShape.TheVariants as simds
 use Rattle.wasm_ops.specs.declared.ops.Op.{Op}
@@ -18,7 +18,7 @@ use Rattle.wasm_ops.specs.declared.ops.BlockType.TheVariants as block_types
 use Rattle.wasm_ops.specs.declared.ops.Catch.{Catch}
 use Rattle.wasm_ops.specs.declared.ops.Catch.TheVariants as catches
 use Rattle.wasm_ops.specs.declared.ops.MemArg.{MemArg}
-use Rattle.wasm_ops.specs.declared.ops.Body.{Body}
+use Rattle.wasm_code.specs.declared.body.Body.{Body}
 
 -- an index of 32 bits, below the number of its kind
 abbrev pub IsIndex : ℕ → ℕ → Type 0

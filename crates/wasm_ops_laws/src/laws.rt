@@ -4,12 +4,13 @@ ghost use Rattle.std.specs.Prelude.{Bool, false, ℕ, ◌≤◌, List, [], ◌�
 ghost use Rattle.std.specs.List.{AllByRecursion};
 ghost use Rattle.wasm_bytes.specs.declared.counts.Counts.{Counts};
 ghost use Rattle.wasm_bytes.specs.Reads.{Reads, Finds};
-ghost use Rattle.wasm_ops.specs.Code.{op, expression, initial, code_entry};
+ghost use Rattle.wasm_code.specs.Code.{op, expression, initial, code_entry};
 ghost use Rattle.wasm_ops_laws.specs.Fits.{FitsOp, FitsOps, FitsInitial, FitsBody, IsShort, IsReadBody, joined_body};
-ghost use Rattle.wasm_ops.specs.Locals.{most_locals};
-ghost use Rattle.wasm_ops.specs.Spelling.{op_bytes, expression_bytes, code_bytes};
+ghost use Rattle.wasm_code.specs.Locals.{most_locals};
+ghost use Rattle.wasm_ops.specs.Spelling.{op_bytes};
+ghost use Rattle.wasm_code.specs.Spelling.{expression_bytes, code_bytes};
 ghost use Rattle.wasm_ops.specs.declared.ops.Op.{Op};
-ghost use Rattle.wasm_ops.specs.declared.ops.Body.{Body};
+ghost use Rattle.wasm_code.specs.declared.body.Body.{Body};
 
 /// The spelling of an operator, of the operators of a body, of an initial expression, and of a body with its runs of locals
 /// joined is read as these, wherever it stands.

@@ -1,4 +1,4 @@
-use Rattle.wasm_ops.proofs.Spelled.{other_more, other_all}
+use Rattle.packed_ops.proofs.Spelled.{other_more, other_all}
 use Rattle.wasm_core.specs.Reach.{op_names, ops_names}
 use Rattle.wasm_core.proofs.Nameless.{op_names_none}
 use Rattle.wasm_core.proofs.naming.push_ops.Goals as goal

@@ -1,7 +1,7 @@
 use Rattle.std.proofs.Common.{◌≡◌, ◌++◌, map, take}
 use Rattle.std.specs.List.{flat_map}
-use Rattle.wasm_ops.specs.Numbers.{renumbered_ops}
-use Rattle.wasm_ops.specs.Spelling.{expression_bytes}
+use Rattle.wasm_code.specs.Numbers.{renumbered_ops}
+use Rattle.wasm_code.specs.Spelling.{expression_bytes}
 use Rattle.wasm_core.proofs.segments.write_exprs.Given as goal
 
 abbrev pub invariant-loop-expr : goal.invariant-loop-expr

@@ -1,7 +1,7 @@
 use Rattle.std.proofs.Common.{refl}
 use Rattle.std.proofs.lemmas.Result.{err_from_is_err_and}
 use Rattle.wasm_bytes.specs.Reading.{pure}
-use Rattle.wasm_ops.specs.Entries.{data_index, elem_index, memory_index, table_index}
+use Rattle.wasm_types.specs.Entries.{data_index, elem_index, memory_index, table_index}
 use Rattle.wasm_ops.specs.Operands.{bulk_after}
 use Rattle.wasm_ops.specs.declared.ops.Op.TheVariants as ops
 use Rattle.wasm_ops.proofs.Made.{made, fails_both, fails_first}

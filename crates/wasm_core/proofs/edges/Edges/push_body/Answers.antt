@@ -1,5 +1,5 @@
 use Rattle.std.specs.List.{flat_map}
-use Rattle.wasm_ops.proofs.Spelled.{other_more, other_all}
+use Rattle.packed_ops.proofs.Spelled.{other_more, other_all}
 use Rattle.wasm_core.specs.Reach.{body_op_names}
 use Rattle.wasm_core.proofs.Nameless.{body_op_names_none}
 use Rattle.wasm_core.proofs.edges.Edges.push_body.Goals as goal

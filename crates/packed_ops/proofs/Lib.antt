@@ -1,0 +1,2 @@
+pub mod PackedAgain
+pub mod Spelled

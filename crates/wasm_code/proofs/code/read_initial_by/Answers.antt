@@ -1,0 +1,26 @@
+use Rattle.std.proofs.lemmas.Result.{err_from_is_err_and}
+use Rattle.wasm_bytes.specs.Reading.{collected}
+use Rattle.wasm_bytes.proofs.Loop.{collects_more, collects_all, collects_fault, collects_out}
+use Rattle.wasm_code.specs.Code.{next_initial, initial}
+use Rattle.wasm_code.proofs.code.read_initial_by.Goals as goal
+
+pub returns-in_err-read_next_initial : goal.returns-in_err-read_next_initial
+unfolding initial
+returns-in_err-read_next_initial c =
+    let p = err_from_is_err_and c.from_residual.result c.from_residual.ensures.1 in
+    rw (p.1, p.2, ← c.len-end.ensures) (collects_fault (next_initial c.args.counts.now) c.in_err-read_next_initial.field-0.0 c.loop.ops c.len-end.result c.loop.counter tt c.loop.reader (collected c.len-end.result (next_initial c.args.counts.now) tt c.args.reader.now) c.loop-test.true c.in_err-read_next_initial.ensures c.loop.invariant)
+
+pub loop-preserved : goal.loop-preserved
+loop-preserved c =
+    let found = rw c.in-Some.is at c.in_ok-read_next_initial.ensures in
+    rw c.in_ok-push-in-Some.ensures.ok (collects_more (next_initial c.args.counts.now) c.loop.ops c.len-end.result c.loop.counter tt c.loop.reader c.in-Some.op tt c.read_next_initial.new.reader (collected c.len-end.result (next_initial c.args.counts.now) tt c.args.reader.now) c.loop-test.true found c.loop.invariant)
+
+pub returns-in-None : goal.returns-in-None
+unfolding initial
+returns-in-None c =
+    let found = rw c.in-None.is at c.in_ok-read_next_initial.ensures in
+    rw (← c.len-end.ensures) (collects_all (next_initial c.args.counts.now) c.loop.ops c.len-end.result c.loop.counter tt c.loop.reader tt c.read_next_initial.new.reader (collected c.len-end.result (next_initial c.args.counts.now) tt c.args.reader.now) c.loop-test.true found c.loop.invariant)
+
+pub returns : goal.returns
+unfolding initial
+returns c = rw (← c.len-end.ensures, c.end.ensures) (collects_out (next_initial c.args.counts.now) c.loop.ops c.len-end.result c.loop.counter tt c.loop.reader (collected c.len-end.result (next_initial c.args.counts.now) tt c.args.reader.now) c.loop-test.false c.loop.invariant)

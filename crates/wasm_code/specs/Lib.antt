@@ -1,0 +1,4 @@
+pub mod Locals
+pub mod Numbers
+pub mod Code
+pub mod Spelling

@@ -1,5 +1,0 @@
-use Rattle.wasm_ops.proofs.RunSteps.{sum_is}
-use Rattle.wasm_ops.proofs.locals.read_run.Goals as goal
-
-pub returns-clause-sum : goal.returns-clause-sum
-returns-clause-sum c = sum_is c.args.total.now c.in_ok-count.count c.in-Some.sum c.in-Some.ensures

@@ -1,7 +1,0 @@
-use Rattle.std.proofs.Common.{◌≡◌, ◌++◌, take}
-use Rattle.std.specs.List.{flat_map}
-use Rattle.wasm_ops.specs.Spelling.{run_bytes}
-use Rattle.wasm_ops.proofs.spelling.write_each_run.Given as goal
-
-abbrev pub invariant-loop-run : goal.invariant-loop-run
-invariant-loop-run l = l.out.items ≡ l.fn.out.items ++ flat_map run_bytes (take l.run-index l.runs)
