@@ -1,5 +1,5 @@
-//! Tests of `values`, `wasm_bytes` and `wasm_ops`: containers, and what no contract says of numbers, names and operators, as bytes of
-//! the standard and what they mean.
+//! Tests of `values`, `wasm_bytes`, `wasm_ops`, `packed_ops` and `wasm_code`: containers, and what no contract says of numbers, names
+//! and operators, as bytes of the standard and what they mean.
 #![tactic(auto)]
 
 #[cfg(test)]

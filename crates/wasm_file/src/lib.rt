@@ -5,7 +5,7 @@
 //! behind it. `read_names`, `read_producers` and `lists_feature` give exactly what the content of those custom sections
 //! holds, and none where it doesn't read. What is written is exactly the spelling in `specs/`.
 //!
-//! It stands on `wasm_ops`, `wasm_bytes` and `values`.
+//! It stands on `wasm_code`, `packed_ops`, `wasm_ops`, `wasm_types`, `wasm_bytes` and `values`.
 #![tactic(auto)]
 
 mod customs;

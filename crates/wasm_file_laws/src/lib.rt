@@ -1,7 +1,8 @@
 //! Files that are written are read again (WebAssembly core specification, 5.5).
 //!
 //! Each law is the contract of a function without a body: the lists of a file that fit the grammar, once they are written,
-//! are read as the same lists, and what is read fits. It stands on `wasm_file`, `wasm_ops`, `wasm_bytes` and `values`.
+//! are read as the same lists, and what is read fits. It stands on `wasm_ops_laws`, `wasm_file`, `wasm_code`,
+//! `packed_ops`, `wasm_ops`, `wasm_types`, `wasm_bytes` and `values`.
 #![tactic(auto)]
 
 mod customs;
