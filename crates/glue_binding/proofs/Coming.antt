@@ -2,7 +2,7 @@
 use Rattle.std.proofs.Common.{◌≡◌, ℕ, zero, suc, ◌+◌, ◌-◌, ◌<◌, ◌≤◌, List, [], ◌∷◌, ◌++◌, length, length-append, refl, ap, arith, append_assoc}
 use Rattle.glue_steps.specs.Stack.{without}
 use Rattle.glue_binding.specs.Spelling.{first, later, next_names}
-use Rattle.glue_binding.proofs.Each.{Each}
+use Rattle.glue_operands.proofs.Each.{Each}
 
 -- as many are taken as are asked for
 pub next_count : (n : ℕ) (names : List (List ℕ)) → length (next_names n names) ≡ n

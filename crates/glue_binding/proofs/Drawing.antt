@@ -5,7 +5,7 @@ use Rattle.glue_words.specs.Ident.{to_ident}
 use Rattle.values.specs.TextSet.{TextSet, with_texts}
 use Rattle.glue_scope.specs.Scope.{IsFirstFree, AreDrawn}
 use Rattle.glue_scope.proofs.Drawn.{drawn-append, with_texts-append}
-use Rattle.glue_binding.proofs.Stacks.{take_next}
+use Rattle.glue_operands.proofs.Lists.{take_next}
 
 pub drawn_next : (b now : TextSet) (wanted : List (List ℕ)) (i : ℕ) (w text : List ℕ) (names names' : List (List ℕ))
     (name name' : List ℕ) → i < length wanted → w ≡ get_or wanted i w → text ≡ w → AreDrawn b (take i wanted) names

@@ -10,11 +10,12 @@ use Rattle.glue_tree.specs.Term.{Export, Lines, NoLines}
 use Rattle.glue_tree.specs.Plainly.{terms_of}
 use Rattle.glue_tree.proofs.Fit.{fit, all_fit, line_fit, lines_fit}
 use Rattle.glue_steps.specs.declared.step.Step.{Step}
-use Rattle.glue_binding.specs.Spelling.{Plain, Missing, This, Local, Unsigned, NotZero, term_of, terms, write_call, address_term, load_call, store_call, closure_call, Piece, Ahead, Cleanup, pieces_of, nested, tree_of, temporaries}
-use Rattle.glue_binding.specs.Form.{first_if, parameters_of}
-use Rattle.glue_binding.specs.declared.form.Form.{Form}
-use Rattle.glue_binding.proofs.Each.{Each}
-use Rattle.glue_binding.proofs.Standing.{IsNamed, step_fit, fitting, steps_each, run_stands, bound_stands}
+use Rattle.glue_operands.specs.Spelling.{Plain, Missing, This, Local, Unsigned, NotZero, term_of, terms}
+use Rattle.glue_binding.specs.Spelling.{write_call, address_term, load_call, store_call, closure_call, Piece, Ahead, Cleanup, pieces_of, nested, tree_of, temporaries}
+use Rattle.glue_operands.specs.Form.{first_if, parameters_of}
+use Rattle.glue_operands.specs.declared.form.Form.{Form}
+use Rattle.glue_operands.proofs.Each.{Each}
+use Rattle.glue_operands.proofs.Standing.{IsNamed, step_fit, fitting, steps_each, run_stands, bound_stands}
 use Rattle.glue_binding.proofs.Rowwise.{IsRowwise, AllHave, pieces_have}
 
 and_true : (a b : Bool) → a ≡ true → b ≡ true → (a && b) ≡ true

@@ -12,8 +12,8 @@ use Rattle.glue_tree.specs.Plainly.{plain_stmts}
 use Rattle.glue_tree.specs.TreeMeaning.{locals_of, tree_meaning}
 use Rattle.glue_tree.specs.declared.tree.JsFunction.{JsFunction}
 use Rattle.glue_binding.specs.Spelling.{tree_of, temporaries}
-use Rattle.glue_binding.specs.Form.{first_if, parameters_of, value_names, form_words}
-use Rattle.glue_binding.specs.declared.form.Form.{Form}
+use Rattle.glue_operands.specs.Form.{first_if, parameters_of, value_names, form_words}
+use Rattle.glue_operands.specs.declared.form.Form.{Form}
 use Rattle.glue_binding.specs.Outer.{outer_names}
 use Rattle.glue_binding.specs.Binding.{outer_scope, IsBoundFunction}
 use Rattle.glue_steps.specs.declared.step.Step.{Step}

@@ -28,16 +28,17 @@ use Rattle.glue_tree.proofs.Fit.{is_inner, lines_fit}
 use Rattle.glue_tree.proofs.Functions.{IsFrame, bound_kind, used_kind, hosted_kind, local_kind, local_bound_kind, wasm_kind, spliced_kind}
 use Rattle.glue_tree.proofs.Names.{IsKind}
 use Rattle.glue_steps.specs.declared.step.Step.{Step}
-use Rattle.glue_binding.specs.Spelling.{Plain, tree_of, temporaries}
-use Rattle.glue_binding.specs.Form.{parameters_of, form_words}
-use Rattle.glue_binding.specs.declared.form.Form.{Form}
+use Rattle.glue_operands.specs.Spelling.{Plain}
+use Rattle.glue_binding.specs.Spelling.{tree_of, temporaries}
+use Rattle.glue_operands.specs.Form.{parameters_of, form_words}
+use Rattle.glue_operands.specs.declared.form.Form.{Form}
 use Rattle.glue_binding.specs.Outer.{outer_in, outer_list, seed_words, outer_names}
 use Rattle.glue_binding.specs.Binding.{outer_scope, IsBoundFunction, AreOwn}
 use Rattle.glue_binding.proofs.Outer.{IsOuter, outer_is_seed}
 use Rattle.glue_binding.proofs.Outside.{outside_of, outside_among, locals_among, function_declares}
-use Rattle.glue_binding.proofs.Standing.{step_fit}
+use Rattle.glue_operands.proofs.Standing.{step_fit}
 use Rattle.glue_binding.proofs.Fits.{tree_fit}
-use Rattle.glue_binding.proofs.FormWords.{form_found, form_alone, form_named, form_inner}
+use Rattle.glue_operands.proofs.FormWords.{form_found, form_alone, form_named, form_inner}
 
 -- ---- kinds of names from outside
 

@@ -16,12 +16,13 @@ use Rattle.glue_tree.proofs.Names.{IsKind, Has, function_names}
 use Rattle.glue_tree.proofs.Functions.{used_kind, hosted_kind}
 use Rattle.glue_imports.specs.declared.part.Part.{Part}
 use Rattle.glue_imports.specs.declared.part.Expression.{Expression}
-use Rattle.glue_binding.proofs.Parts.{parts_found}
+use Rattle.glue_operands.proofs.Parts.{parts_found}
 use Rattle.glue_steps.specs.Stack.{top, below, item_at, last_of, operands, without}
 use Rattle.glue_steps.specs.AdapterMeaning.{reading_method, writing_method, known}
 use Rattle.glue_steps.specs.declared.step.Step.{Step}
 use Rattle.glue_steps.specs.declared.step.Step.TheVariants.{Parameter, Unchanged, CallExport, CallImport, ToUnsigned, IsNotZero, ToUnsigned64, CallHelper, IndexFromBorrow, UnwrapResult, PassToMemory, DeferFree, CopyOut, ReturnPointer, LoadReturn, StoreReturn, MakeClosure, IndexOf, ItemAt}
-use Rattle.glue_binding.specs.Spelling.{Plain, Missing, This, Local, Unsigned, NotZero, term_of, terms, first, later, next_names, write_call, address_term, written_length, copy_call, view_method, load_call, store_call, closure_call, parts_words, import_line_words, Piece, Ahead, Cleanup, ending, import_row, row, pieces_of, nested, tree_of}
+use Rattle.glue_operands.specs.Spelling.{Plain, Missing, This, Local, Unsigned, NotZero, term_of, terms, parts_words, import_line_words}
+use Rattle.glue_binding.specs.Spelling.{first, later, next_names, write_call, address_term, written_length, copy_call, view_method, load_call, store_call, closure_call, Piece, Ahead, Cleanup, ending, import_row, row, pieces_of, nested, tree_of}
 use Rattle.glue_binding.specs.Outer.{outer_in, seed_words}
 
 -- operands have no names of a kind that locals have none of

@@ -30,14 +30,15 @@ use Rattle.glue_steps.specs.Stack.{top, below, item_at, last_of, operands, witho
 use Rattle.glue_steps.specs.AdapterMeaning.{stack_mover, reading_method, writing_method}
 use Rattle.glue_steps.specs.declared.step.Step.{Step}
 use Rattle.glue_steps.specs.declared.step.Step.TheVariants.{Parameter, Unchanged, CallExport, CallImport, ToUnsigned, IsNotZero, ToUnsigned64, CallHelper, IndexFromBorrow, UnwrapResult, PassToMemory, DeferFree, CopyOut, ReturnPointer, LoadReturn, StoreReturn, MakeClosure, IndexOf, ItemAt}
-use Rattle.glue_binding.specs.Spelling.{Plain, Missing, This, Local, Unsigned, NotZero, term_of, terms, is_comparison, word_if, plain_words, guarded_words, argument_words, arguments_words, next_names, write_call, address_term, copy_call, load_call, store_call, closure_call, part_words, parts_words, start_words, import_line_words, Piece, Ahead, Cleanup, ending, import_row, pieces_of, nested, tree_of, result_of, counted, wanted_from, temporaries}
-use Rattle.glue_binding.specs.Form.{first_if, parameters_of}
-use Rattle.glue_binding.specs.declared.form.Form.{Form}
-use Rattle.glue_binding.proofs.Each.{Each, each_by, each_there, each_item, each_below}
+use Rattle.glue_operands.specs.Spelling.{Plain, Missing, This, Local, Unsigned, NotZero, term_of, terms, is_comparison, word_if, plain_words, guarded_words, argument_words, arguments_words, part_words, parts_words, start_words, import_line_words}
+use Rattle.glue_binding.specs.Spelling.{next_names, write_call, address_term, copy_call, load_call, store_call, closure_call, Piece, Ahead, Cleanup, ending, import_row, pieces_of, nested, tree_of, result_of, counted, wanted_from, temporaries}
+use Rattle.glue_operands.specs.Form.{first_if, parameters_of}
+use Rattle.glue_operands.specs.declared.form.Form.{Form}
+use Rattle.glue_operands.proofs.Each.{Each, each_by, each_there, each_item, each_below}
 use Rattle.glue_binding.proofs.Coming.{next_count, next_rest, first_enough, left_exact}
-use Rattle.glue_binding.proofs.Standing.{part_good, expression_fits, step_fit, fitting, fitting_good, steps_each, prelude_places, value_places}
+use Rattle.glue_operands.proofs.Standing.{part_good, expression_fits, step_fit, fitting, fitting_good, steps_each, prelude_places, value_places}
 use Rattle.glue_binding.proofs.Rowwise.{IsRowwise, AllHave, pieces_have}
-use Rattle.glue_binding.proofs.Parts.{outer_part, outer_parts, outer_expression, expression_none, parts_use, parts_places}
+use Rattle.glue_operands.proofs.Parts.{outer_part, outer_parts, outer_expression, expression_none, parts_use, parts_places}
 use Rattle.glue_binding.proofs.Outer.{IsOuter, plain_none, terms_none}
 
 -- the words of exports, and those of the test whether a value is absent, where there is one

@@ -7,8 +7,9 @@ use Rattle.glue_steps.specs.Stack.{top, below, item_at, last_of, operands, witho
 use Rattle.glue_steps.specs.AdapterMeaning.{known}
 use Rattle.glue_steps.specs.declared.step.Step.{Step}
 use Rattle.glue_steps.specs.declared.step.Step.TheVariants.{Parameter, Unchanged, CallExport, CallImport, ToUnsigned, IsNotZero, ToUnsigned64, CallHelper, IndexFromBorrow, UnwrapResult, PassToMemory, DeferFree, CopyOut, ReturnPointer, LoadReturn, StoreReturn, MakeClosure, IndexOf, ItemAt}
-use Rattle.glue_binding.specs.Spelling.{Plain, Missing, Local, Unsigned, NotZero, term_of, export_call, helper_call, unsigned_64_call, import_call, gives_back_line, throw_line, address_term, written_length, free_line, copy_call, mover_call, load_call, store_call, closure_call, index_call, item_term, next_names, Piece, Ahead, Cleanup, ending, import_row, row, pieces_of, result_of, wanted_by, counted, wanted_from}
-use Rattle.glue_binding.proofs.Each.{Each, each_both, each_item, each_last, each_top, each_below, each_without, each_operands}
+use Rattle.glue_operands.specs.Spelling.{Plain, Missing, Local, Unsigned, NotZero, term_of}
+use Rattle.glue_binding.specs.Spelling.{export_call, helper_call, unsigned_64_call, import_call, gives_back_line, throw_line, address_term, written_length, free_line, copy_call, mover_call, load_call, store_call, closure_call, index_call, item_term, next_names, Piece, Ahead, Cleanup, ending, import_row, row, pieces_of, result_of, wanted_by, counted, wanted_from}
+use Rattle.glue_operands.proofs.Each.{Each, each_both, each_item, each_last, each_top, each_below, each_without, each_operands}
 use Rattle.glue_binding.proofs.Coming.{next_count, first_enough, left_enough, next_each, left_each}
 
 -- a property of statements, by one of operands, one of names and one of steps: a line or two a step

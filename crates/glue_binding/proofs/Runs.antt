@@ -16,12 +16,13 @@ use Rattle.glue_steps.specs.Stack.{top, below, item_at, last_of, operands, witho
 use Rattle.glue_steps.specs.AdapterMeaning.{Left, gives_back, throws_if, unsigned_64, exports_of, writes, unless_absent, address_of, frees, copies, takes_room, gives_room_back, loads, stores, makes, index_of, item_of, known, helpers_of, act, cleans, after_act, newest, means, seen, adapter_meaning}
 use Rattle.glue_steps.specs.declared.step.Step.{Step}
 use Rattle.glue_steps.specs.declared.step.Step.TheVariants.{Parameter, Unchanged, CallExport, CallImport, ToUnsigned, IsNotZero, ToUnsigned64, CallHelper, IndexFromBorrow, UnwrapResult, PassToMemory, DeferFree, CopyOut, ReturnPointer, LoadReturn, StoreReturn, MakeClosure, IndexOf, ItemAt}
-use Rattle.glue_binding.specs.Spelling.{Plain, Missing, This, Local, Unsigned, NotZero, term_of, plain_value, terms, helper_call, unsigned_64_call, next_names, gives_back_line, write_call, address_term, free_line, copy_call, mover_call, load_call, store_call, closure_call, index_call, item_term, import_row, pieces_of, cleaned_by, nested, tree_of, result_of, wanted_from, counted, temporaries}
-use Rattle.glue_binding.specs.Form.{parameters_of, value_names, first_if}
-use Rattle.glue_binding.specs.declared.form.Form.{Form}
+use Rattle.glue_operands.specs.Spelling.{Plain, Missing, This, Local, Unsigned, NotZero, term_of, plain_value, terms}
+use Rattle.glue_binding.specs.Spelling.{helper_call, unsigned_64_call, next_names, gives_back_line, write_call, address_term, free_line, copy_call, mover_call, load_call, store_call, closure_call, index_call, item_term, import_row, pieces_of, cleaned_by, nested, tree_of, result_of, wanted_from, counted, temporaries}
+use Rattle.glue_operands.specs.Form.{parameters_of, value_names, first_if}
+use Rattle.glue_operands.specs.declared.form.Form.{Form}
 use Rattle.glue_binding.specs.Binding.{KnowsHelpers}
 use Rattle.glue_imports.specs.declared.part.Expression.{Expression}
-use Rattle.glue_binding.proofs.Each.{Each, each_both, each_item, each_top, each_below, each_without}
+use Rattle.glue_operands.proofs.Each.{Each, each_both, each_item, each_top, each_below, each_without}
 use Rattle.glue_binding.proofs.Coming.{left_enough}
 
 -- ---- laws of runs, each by the three ways that a run can come to

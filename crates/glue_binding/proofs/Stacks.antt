@@ -1,17 +1,17 @@
 -- Stacks, pieces, and lists that loops go over.
-use Rattle.std.proofs.Common.{◌≡◌, ℕ, zero, suc, ◌+◌, ◌-◌, ◌<◌, ◌≤◌, List, [], ◌∷◌, ◌++◌, length, take, drop, get_or, map, reverse, refl, sym, ap, ◌∙◌, arith, append_assoc}
-use Rattle.std.specs.List.{flat_map}
-use Rattle.std.proofs.lemmas.List.{take_more, flat_map_more, reverse-append, map-append, length-map, length-reverse, get_or-map, get_or-reverse, get_or_past}
-use Rattle.std.proofs.Math.Seq.{drop-cons}
+use Rattle.std.proofs.Common.{◌≡◌, ℕ, zero, suc, ◌+◌, ◌-◌, ◌<◌, ◌≤◌, List, [], ◌∷◌, ◌++◌, length, get_or, map, reverse, refl, sym, ap, ◌∙◌, arith, append_assoc}
+use Rattle.std.proofs.lemmas.List.{reverse-append, map-append, length-map, length-reverse, get_or-map, get_or-reverse, get_or_past}
 use Rattle.glue_tree.specs.Term.{Lines, AndLine}
 use Rattle.glue_tree.specs.Plainly.{plain_stmt, plain_stmts}
 use Rattle.glue_tree.specs.declared.tree.Stmt.{Stmt}
 use Rattle.glue_steps.specs.Stack.{top, below, item_at, last_of, operands, without}
 use Rattle.glue_steps.specs.AdapterMeaning.{known}
 use Rattle.glue_steps.specs.declared.step.Step.{Step}
-use Rattle.glue_binding.specs.Spelling.{Plain, Missing, Local, Piece, Ahead, Cleanup, row, pieces_of, cleaned_by, nested, wanted_by, counted, wanted_from}
-use Rattle.glue_binding.specs.Body.{newest_first, stack_of, plain_operand, plain_piece, plain_pieces, behind}
-use Rattle.glue_binding.specs.declared.operand.Operand.{Operand}
+use Rattle.glue_operands.specs.Spelling.{Plain, Missing}
+use Rattle.glue_binding.specs.Spelling.{Piece, Ahead, Cleanup, row, pieces_of, cleaned_by, nested, wanted_by, counted, wanted_from}
+use Rattle.glue_binding.specs.Body.{newest_first, stack_of, plain_piece, plain_pieces, behind}
+use Rattle.glue_operands.specs.Plainly.{plain_operand}
+use Rattle.glue_operands.specs.declared.operand.Operand.{Operand}
 use Rattle.glue_binding.specs.declared.piece.Piece as code
 
 -- ---- lists
@@ -31,22 +31,6 @@ pub newest_first_reverse : {A : Type 0} (xs : List A) → newest_first (reverse 
 unfolding newest_first
 newest_first_reverse xs = reverse_twice xs
 
-pub take_next : {A : Type 0} (xs : List A) (i : ℕ) (x : A) → i < length xs → x ≡ get_or xs i x
-    → take (i + 1) xs ≡ take i xs ++ x ∷ []
-take_next xs i x lt is = take_more xs i x lt ∙ ap (λ y. take i xs ++ y ∷ []) (sym is)
-
-pub drop_next : {A : Type 0} (xs : List A) (i : ℕ) (x : A) → i < length xs → x ≡ get_or xs i x
-    → drop i xs ≡ x ∷ drop (i + 1) xs
-drop_next xs i x lt is =
-    let e : suc i ≡ i + 1 = omega arith in
-    drop-cons xs i x lt ∙ ap (λ y. y ∷ drop (suc i) xs) (sym is) ∙ ap (λ n. x ∷ drop n xs) e
-
--- a loop that appends what a function gives for each item
-pub appended : {A B : Type 0} (f : A → List B) (xs : List A) (i : ℕ) (x : A) (start : List B) → i < length xs
-    → x ≡ get_or xs i x → (start ++ flat_map f (take i xs)) ++ f x ≡ start ++ flat_map f (take (i + 1) xs)
-appended f xs i x start lt is = flat_map_more f start (take i xs) x
-    ∙ ap (λ l. start ++ flat_map f l) (sym (take_next xs i x lt is))
-
 -- ---- operands
 
 -- the last one
@@ -59,17 +43,6 @@ last_found [] = refl
 last_found (x ∷ known) =
     let e : length (x ∷ known) - 1 ≡ length (map plain_operand known) = let same = length-map known plain_operand in omega (arith, same) in
     ap (item_at Missing (map plain_operand (x ∷ known))) e ∙ last_behind Missing (plain_operand x) (map plain_operand known)
-
--- the name at a place, and past the end
-pub name_found : (names : List (List ℕ)) (n : ℕ) → n < length names → get_or names n [] ≡ item_at [] names n
-name_found [] n h = absurd (omega arith)
-name_found (x ∷ names) zero h = refl
-name_found (x ∷ names) (suc n) h = name_found names n (omega arith)
-
-pub name_missing : (names : List (List ℕ)) (n : ℕ) → length names ≤ n → [] ≡ item_at [] names n
-name_missing [] n h = refl
-name_missing (x ∷ names) zero h = absurd (omega arith)
-name_missing (x ∷ names) (suc n) h = name_missing names n (omega arith)
 
 operands_next : {A : Type 0} (default : A) (k n : ℕ) (stack taken : List A) → k < n
     → operands default (n - (k + 1)) (below stack) (top default stack ∷ taken) ≡ operands default (n - k) stack taken

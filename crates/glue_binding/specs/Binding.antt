@@ -13,9 +13,9 @@ use Rattle.glue_tree.specs.declared.tree.JsFunction.{JsFunction}
 use Rattle.glue_steps.specs.AdapterMeaning.{helpers_of, adapter_meaning}
 use Rattle.glue_steps.specs.declared.step.Step.{Step}
 use Rattle.glue_binding.specs.Spelling.{tree_of, temporaries}
-use Rattle.glue_binding.specs.Form.{parameters_of, value_names, form_words}
+use Rattle.glue_operands.specs.Form.{parameters_of, value_names, form_words}
 use Rattle.glue_binding.specs.Outer.{outer_names}
-use Rattle.glue_binding.specs.declared.form.Form.{Form}
+use Rattle.glue_operands.specs.declared.form.Form.{Form}
 
 -- the scope that the parameters and temporaries are drawn in: it holds the names from outside, and those that stand around the function
 abbrev pub outer_scope : List Step → (around : List (List ℕ)) → TextSet

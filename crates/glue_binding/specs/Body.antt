@@ -1,28 +1,16 @@
 -- The body of a function while its steps are spelled.
-use Rattle.std.specs.Prelude.{◌≡◌, ℕ, List, ◌++◌, map, reverse}
+use Rattle.std.specs.Prelude.{◌≡◌, List, ◌++◌, map, reverse}
 use Rattle.glue_tree.specs.Term.{Lines}
 use Rattle.glue_tree.specs.Plainly.{plain_stmt, plain_stmts}
 use Rattle.glue_tree.specs.declared.tree.Stmt.{Stmt}
+use Rattle.glue_operands.specs.Spelling.{Plain}
+use Rattle.glue_operands.specs.Plainly.{plain_operand}
+use Rattle.glue_operands.specs.declared.operand.Operand.{Operand}
 use Rattle.glue_binding.specs.Spelling as s
-use Rattle.glue_binding.specs.declared.operand.Operand.{Operand}
-use Rattle.glue_binding.specs.declared.operand.Operand.TheOpen.{Operand-F}
-use Rattle.glue_binding.specs.declared.operand.Operand.TheFolds.{fold-Operand}
 use Rattle.glue_binding.specs.declared.piece.Piece.{Piece}
 use Rattle.glue_binding.specs.declared.piece.Piece.TheVariants as p
 use Rattle.glue_binding.specs.declared.body.Body.{Body}
 use Rattle.glue_steps.specs.declared.step.Step.{Step}
-
--- one layer of an operand, where the layers under it are done
-abbrev pub operand_step : Operand-F s.Plain → s.Plain
-operand_step Operand-F.Missing = s.Missing
-operand_step Operand-F.This = s.This
-operand_step (Operand-F.Local name) = s.Local name
-operand_step (Operand-F.Unsigned inner) = s.Unsigned inner
-operand_step (Operand-F.NotZero inner) = s.NotZero inner
-
--- an operand without pointers
-abbrev pub plain_operand : Operand → s.Plain
-plain_operand = fold-Operand s.Plain operand_step
 
 -- a piece without pointers
 abbrev pub plain_piece : Piece → s.Piece
@@ -34,7 +22,7 @@ unfoldable pub newest_first : {A : Type 0} → List A → List A
 newest_first items = reverse items
 
 -- the stack that a list of operands holds
-unfoldable pub stack_of : List Operand → List s.Plain
+unfoldable pub stack_of : List Operand → List Plain
 stack_of items = reverse (map plain_operand items)
 
 -- pieces without pointers
@@ -46,7 +34,7 @@ unfoldable pub behind : List Stmt → Lines
 behind stmts = plain_stmts (reverse stmts)
 
 -- the row of a step, for the operands and the names to come of this body
-abbrev pub row_of : Step → (params : List s.Plain) → Body → s.Row
+abbrev pub row_of : Step → (params : List Plain) → Body → s.Row
 row_of step params body = s.row step params (stack_of body.stack) (newest_first body.coming)
 
 -- what a row makes of a body

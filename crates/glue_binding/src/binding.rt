@@ -1,14 +1,12 @@
 //! From steps to a function of a form.
 ghost use Rattle.std.specs.Prelude.{◌≡◌, [], false, IfOk};
+ghost use Rattle.glue_operands.specs.Nesting.{nests_too_often};
 ghost use Rattle.glue_binding.specs.Binding.{IsBoundFunction};
-ghost use Rattle.glue_binding.specs.Nesting.{nests_too_often};
 
 use crate::body::body_of;
 use crate::draw::{draw, temporaries_of};
-use crate::form::Form;
-use crate::nesting::check_nesting;
-use crate::parameters::{form_words_of, parameters_of};
 use crate::seed::{reserve_names, reserve_seed};
+use glue_operands::{Form, check_nesting, form_words_of, parameters_of};
 use glue_scope::Names;
 use glue_steps::Step;
 use glue_tree::JsFunction;

@@ -2,7 +2,9 @@
 ghost use Rattle.std.specs.Prelude.{◌≡◌, ◌++◌, ◌∷◌, [], IfOk, OnOk, map};
 ghost use Rattle.glue_tree.specs.Plainly.{plain_expr, plain_stmt, plain_stmts};
 ghost use Rattle.glue_tree.specs.Term as t;
-ghost use Rattle.glue_binding.specs.Body.{IsAfter, plain_operand, plain_pieces, stack_of, newest_first, row_of};
+ghost use Rattle.glue_operands.specs.Plainly.{plain_operand};
+ghost use Rattle.glue_operands.specs.Spelling.{Missing, Local};
+ghost use Rattle.glue_binding.specs.Body.{IsAfter, plain_pieces, stack_of, newest_first, row_of};
 ghost use Rattle.glue_binding.specs.Spelling as s;
 ghost use Rattle.glue_steps.specs.AdapterMeaning.{known};
 ghost use Rattle.glue_steps.specs.Stack.{item_at};
@@ -13,10 +15,10 @@ use crate::lists::{index_of, item_at};
 use crate::memory::{copy_out, defer_free, pass_to_memory};
 use crate::numbers::{is_not_zero, to_unsigned, to_unsigned_64};
 use crate::objects::{borrow_index, call_helper, unwrap_result};
-use crate::operand::{Operand, copy_operand, to_expr};
 use crate::piece::{Piece, join};
 use crate::room::{load_return, store_return, take_room};
 use crate::stack::{next_name, pop, push};
+use glue_operands::{Operand, copy_operand, to_expr};
 use glue_steps::Step;
 use glue_tree::{Expr, Stmt};
 use std::alloc::{AllocError, Global};
@@ -66,7 +68,7 @@ fn pieces_of(
 
 /// The parameter at a place, or the operand that stands for a lacking one.
 pub fn param(alloc: Global, params: &[Operand], place: usize) -> Result<Operand, AllocError>
-    ensures operand { IfOk result (λ o. plain_operand o ≡ item_at s.Missing (map plain_operand params.now) place) }
+    ensures operand { IfOk result (λ o. plain_operand o ≡ item_at Missing (map plain_operand params.now) place) }
 {
     match params.get(place) {
         Some(operand) => copy_operand(alloc, operand),
@@ -118,7 +120,7 @@ impl Body {
     /// The next name, which is pushed too.
     pub fn temporary(&mut self, alloc: Global) -> Result<Text, AllocError>
         ensures name { IfOk result (λ name. name ≡ s.first (newest_first self.old.coming)) }
-        ensures stack { OnOk result (stack_of self.new.stack ≡ s.Local (s.first (newest_first self.old.coming))
+        ensures stack { OnOk result (stack_of self.new.stack ≡ Local (s.first (newest_first self.old.coming))
             ∷ stack_of self.old.stack) }
         ensures names { OnOk result (newest_first self.new.coming ≡ s.later (newest_first self.old.coming)) }
         ensures pieces { self.new.pieces ≡ self.old.pieces }
@@ -132,7 +134,7 @@ impl Body {
     pub fn bind_value(&mut self, alloc: Global, value: Expr) -> Result<(), AllocError>
         ensures pieces { OnOk result (plain_pieces self.new.pieces ≡ plain_pieces self.old.pieces
             ++ s.Ahead (t.Bind (s.first (newest_first self.old.coming)) (plain_expr value)) ∷ []) }
-        ensures stack { OnOk result (stack_of self.new.stack ≡ s.Local (s.first (newest_first self.old.coming))
+        ensures stack { OnOk result (stack_of self.new.stack ≡ Local (s.first (newest_first self.old.coming))
             ∷ stack_of self.old.stack) }
         ensures names { OnOk result (newest_first self.new.coming ≡ s.later (newest_first self.old.coming)) }
     {
@@ -148,7 +150,7 @@ impl Body {
         before: &mut Seq<Operand>,
     ) -> Result<(), AllocError>
         ensures after { OnOk result (IsAfter (row_of step.now (map plain_operand before.old) self.old) self.old self.new) }
-        ensures known { OnOk result (map plain_operand before.new ≡ known s.Missing step.now (map plain_operand before.old) (row_of step.now (map plain_operand before.old) self.old).stack) }
+        ensures known { OnOk result (map plain_operand before.new ≡ known Missing step.now (map plain_operand before.old) (row_of step.now (map plain_operand before.old) self.old).stack) }
     {
         match step {
             Step::Parameter(place) => {

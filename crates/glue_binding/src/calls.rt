@@ -2,15 +2,15 @@
 ghost use Rattle.std.specs.Prelude.{◌≡◌, ◌++◌, ◌∷◌, [], IfOk, OnOk, map};
 ghost use Rattle.glue_tree.specs.Plainly.{plain_expr, plain_exprs};
 ghost use Rattle.glue_tree.specs.Term as t;
-ghost use Rattle.glue_binding.specs.Body.{IsAfter, plain_operand, plain_pieces, stack_of, newest_first, row_of};
+ghost use Rattle.glue_operands.specs.Plainly.{plain_operand};
+ghost use Rattle.glue_binding.specs.Body.{IsAfter, plain_pieces, stack_of, newest_first, row_of};
 ghost use Rattle.glue_binding.specs.Spelling as s;
 ghost use Rattle.glue_steps.specs.declared.step.Step.TheVariants.{CallExport, CallImport};
 
 use crate::body::Body;
-use crate::import::import_line;
-use crate::operand::{Operand, to_exprs};
 use crate::stack::{next_names, pop_operands};
 use glue_imports::Expression;
+use glue_operands::{Operand, import_line, to_exprs};
 use glue_tree::{Expr, Stmt};
 use std::alloc::{AllocError, Global};
 use values::{Boxed, Duplicate, Text};

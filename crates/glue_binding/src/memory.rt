@@ -2,15 +2,17 @@
 ghost use Rattle.std.specs.Prelude.{◌≡◌, ◌++◌, ◌∷◌, [], IfOk, OnOk, codes, map, pos};
 ghost use Rattle.glue_tree.specs.Plainly.{plain_expr, plain_stmt};
 ghost use Rattle.glue_tree.specs.Term as t;
-ghost use Rattle.glue_binding.specs.Body.{IsAfter, plain_operand, stack_of, row_of};
+ghost use Rattle.glue_operands.specs.Plainly.{plain_operand};
+ghost use Rattle.glue_operands.specs.Spelling.{Missing, term_of};
+ghost use Rattle.glue_binding.specs.Body.{IsAfter, stack_of, row_of};
 ghost use Rattle.glue_binding.specs.Spelling as s;
 ghost use Rattle.glue_steps.specs.Stack.{top, operands, without};
 ghost use Rattle.glue_steps.specs.declared.step.Step.TheVariants.{PassToMemory, DeferFree, CopyOut};
 
 use crate::body::Body;
 use crate::objects::{helper, helper_call, helper_with};
-use crate::operand::{Operand, to_expr};
 use crate::stack::{pop, pop_operands};
+use glue_operands::{Operand, to_expr};
 use glue_tree::{Expr, Stmt};
 use std::alloc::{AllocError, Global};
 use values::{Boxed, Duplicate, Seq, Text};
@@ -79,7 +81,7 @@ fn address(
 
 // The operand that so many stand above, as an expression.
 fn expr_under(alloc: Global, stack: &Seq<Operand>, above: usize) -> Result<Expr, AllocError>
-    ensures { IfOk result (λ e. plain_expr e ≡ s.term_of (top s.Missing (without above (stack_of stack.now)))) }
+    ensures { IfOk result (λ e. plain_expr e ≡ term_of (top Missing (without above (stack_of stack.now)))) }
 {
     if above < stack.len() {
         let operands = stack.as_slice();
@@ -96,7 +98,7 @@ fn free_line(
     align: u32,
     stack: &Seq<Operand>,
 ) -> Result<Stmt, AllocError>
-    ensures { IfOk result (λ line. plain_stmt line ≡ s.free_line free.now align (operands s.Missing 2 (stack_of stack.now) [])) }
+    ensures { IfOk result (λ line. plain_stmt line ≡ s.free_line free.now align (operands Missing 2 (stack_of stack.now) [])) }
 {
     let f = Boxed::new(alloc, Expr::Wasm(free.copy(alloc)?))?;
     let mut args = Seq::new(alloc);

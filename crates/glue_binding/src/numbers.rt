@@ -1,13 +1,14 @@
 //! Rows of numbers and truths.
 ghost use Rattle.std.specs.Prelude.{◌≡◌, [], IfOk, OnOk};
 ghost use Rattle.glue_tree.specs.Plainly.{plain_expr};
-ghost use Rattle.glue_binding.specs.Body.{IsAfter, plain_operand, row_of};
+ghost use Rattle.glue_operands.specs.Plainly.{plain_operand};
+ghost use Rattle.glue_binding.specs.Body.{IsAfter, row_of};
 ghost use Rattle.glue_binding.specs.Spelling as s;
 ghost use Rattle.glue_steps.specs.declared.step.Step.TheVariants.{ToUnsigned, IsNotZero, ToUnsigned64};
 
 use crate::body::Body;
-use crate::operand::{Operand, to_expr};
 use crate::stack::{pop, push};
+use glue_operands::{Operand, to_expr};
 use glue_tree::Expr;
 use std::alloc::{AllocError, Global};
 use values::{Boxed, Seq, Text};

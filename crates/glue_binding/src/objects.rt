@@ -2,14 +2,15 @@
 ghost use Rattle.std.specs.Prelude.{◌≡◌, ◌∷◌, [], IfOk, OnOk, codes, map};
 ghost use Rattle.glue_tree.specs.Plainly.{plain_expr, plain_stmt};
 ghost use Rattle.glue_tree.specs.Term as t;
-ghost use Rattle.glue_binding.specs.Body.{IsAfter, plain_operand, row_of};
+ghost use Rattle.glue_operands.specs.Plainly.{plain_operand};
+ghost use Rattle.glue_binding.specs.Body.{IsAfter, row_of};
 ghost use Rattle.glue_binding.specs.Spelling as s;
 ghost use Rattle.glue_steps.specs.declared.step.Step.TheVariants.{CallHelper, IndexFromBorrow, UnwrapResult};
 
 use crate::body::Body;
-use crate::operand::{Operand, to_expr, to_exprs};
 use crate::piece::one;
 use crate::stack::{pop, pop_operands};
+use glue_operands::{Operand, to_expr, to_exprs};
 use glue_tree::{Expr, Stmt, UnaryOperator};
 use std::alloc::{AllocError, Global};
 use values::{Boxed, Seq, Text};

@@ -2,7 +2,9 @@
 ghost use Rattle.std.specs.Prelude.{◌≡◌, ◌++◌, ◌∷◌, [], IfOk, OnOk, map, codes, pos, neg_ℤ};
 ghost use Rattle.glue_tree.specs.Plainly.{plain_expr, plain_stmt};
 ghost use Rattle.glue_tree.specs.Term as t;
-ghost use Rattle.glue_binding.specs.Body.{IsAfter, plain_operand, row_of, newest_first};
+ghost use Rattle.glue_operands.specs.Plainly.{plain_operand};
+ghost use Rattle.glue_operands.specs.Spelling.{Missing, Local};
+ghost use Rattle.glue_binding.specs.Body.{IsAfter, row_of, newest_first};
 ghost use Rattle.glue_binding.specs.Spelling as s;
 ghost use Rattle.glue_steps.specs.AdapterMeaning.{reading_method, writing_method};
 ghost use Rattle.glue_steps.specs.Stack.{last_of};
@@ -10,8 +12,8 @@ ghost use Rattle.glue_steps.specs.declared.step.Step.TheVariants.{ReturnPointer,
 
 use crate::body::{Body, param};
 use crate::objects::helper;
-use crate::operand::{Operand, push_local, to_expr};
 use crate::stack::pop;
+use glue_operands::{Operand, push_local, to_expr};
 use glue_tree::{BinaryOperator, Constant, Expr, Stmt};
 use std::alloc::{AllocError, Global};
 use values::{Boxed, Duplicate, Seq, Text};
@@ -121,7 +123,7 @@ fn store_call(
 // The last of operands, or the one that stands for a lacking one.
 #[tactic(auto, using(crate::proofs::Stacks::last_found))]
 fn last_operand(alloc: Global, known: &[Operand]) -> Result<Operand, AllocError>
-    ensures operand { IfOk result (λ o. plain_operand o ≡ last_of s.Missing (map plain_operand known.now)) }
+    ensures operand { IfOk result (λ o. plain_operand o ≡ last_of Missing (map plain_operand known.now)) }
 {
     param(alloc, known, known.len().saturating_sub(1))
 }
@@ -134,7 +136,7 @@ pub fn take_room(
     known: &mut Seq<Operand>,
 ) -> Result<(), AllocError>
     ensures after { OnOk result (IsAfter (row_of (ReturnPointer size) [] body.old) body.old body.new) }
-    ensures known { OnOk result (map plain_operand known.new ≡ map plain_operand known.old ++ s.Local (s.first (newest_first body.old.coming)) ∷ []) }
+    ensures known { OnOk result (map plain_operand known.new ≡ map plain_operand known.old ++ Local (s.first (newest_first body.old.coming)) ∷ []) }
 {
     let taken = room_taken(alloc, size)?;
     let name = body.temporary(alloc)?;

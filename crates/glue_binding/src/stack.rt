@@ -1,11 +1,13 @@
 //! The stack of operands, and the names to come.
 ghost use Rattle.std.specs.Prelude.{◌≡◌, ◌∷◌, [], OnOk, IfOk, map, reverse};
-ghost use Rattle.glue_binding.specs.Body.{newest_first, stack_of, plain_operand};
+ghost use Rattle.glue_operands.specs.Plainly.{plain_operand};
+ghost use Rattle.glue_operands.specs.Spelling.{Missing};
+ghost use Rattle.glue_binding.specs.Body.{newest_first, stack_of};
 ghost use Rattle.glue_binding.specs.Spelling as spell;
-ghost use Rattle.glue_binding.specs.Spelling.{Missing, first, later};
+ghost use Rattle.glue_binding.specs.Spelling.{first, later};
 ghost use Rattle.glue_steps.specs.Stack as s;
 
-use crate::operand::Operand;
+use glue_operands::Operand;
 use std::alloc::{AllocError, Global};
 use values::{Seq, Text};
 

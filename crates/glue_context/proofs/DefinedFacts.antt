@@ -26,9 +26,9 @@ use Rattle.glue_imports.specs.declared.part.Part.{Part}
 use Rattle.glue_imports.specs.declared.part.Part.TheVariants as part
 use Rattle.glue_imports.specs.Definitions.{function_or_throw, if_function, else_not_defined}
 use Rattle.glue_imports.specs.Roots.{begins_with, drawn_name, plain_name, root}
-use Rattle.glue_binding.proofs.Free.{is_free, free_found, free_take}
-use Rattle.glue_binding.proofs.Parts.{outer_parts, parts_declare, parts_bind, parts_use}
-use Rattle.glue_binding.proofs.Standing.{free_stand}
+use Rattle.glue_operands.proofs.Free.{is_free, free_found, free_take}
+use Rattle.glue_operands.proofs.Parts.{outer_parts, parts_declare, parts_bind, parts_use}
+use Rattle.glue_operands.proofs.Standing.{free_stand}
 use Rattle.glue_shared.specs.declared.import.AuxImport.TheVariants as what
 use Rattle.glue_shared.specs.declared.import.AuxValue.TheVariants as value
 use Rattle.glue_shared.specs.declared.import.JsImport.{JsImport}

@@ -33,8 +33,8 @@ use Rattle.glue_imports.specs.Preludes.{plain, line_end, catch_front, close_line
 use Rattle.glue_imports.specs.Expressions.{around, assigned, index, new_front, delete_front, accessor_front, owner, described_call, value_parts, static_parts, loaded, intrinsic_expression, expression}
 use Rattle.glue_imports.specs.Intrinsics.{declares_instance, declares_module, name_if}
 use Rattle.glue_tree.specs.FixedWords.{semicolon, comma}
-use Rattle.glue_binding.proofs.Parts.{bound_places}
-use Rattle.glue_binding.proofs.Standing.{parts_fit, expression_fits}
+use Rattle.glue_operands.proofs.Parts.{bound_places}
+use Rattle.glue_operands.proofs.Standing.{parts_fit, expression_fits}
 
 -- an expression, where there is one, fits
 abbrev fit_if : Option Expression → Bool

@@ -19,13 +19,13 @@ use Rattle.glue_exports.proofs.Linkage.{export_belongs, noted_belong, noted_bind
 use Rattle.glue_public.specs.Described.{FunctionItems}
 use Rattle.glue_public.specs.Public.{IsDeclared}
 use Rattle.glue_targets.proofs.FixedTexts.{call_takes}
-use Rattle.glue_binding.specs.Spelling.{path_words, chained_words}
-use Rattle.glue_binding.proofs.Standing.{step_fit}
+use Rattle.glue_operands.specs.Spelling.{path_words, chained_words}
+use Rattle.glue_operands.proofs.Standing.{step_fit}
 use Rattle.glue_binding.proofs.Outside.{exports_words, outside_words, outside_of, passed_none}
 use Rattle.glue_steps.specs.declared.step.Step.TheVariants.{CallExport, CallImport, ToUnsigned64, CallHelper, IndexFromBorrow, UnwrapResult, PassToMemory, DeferFree, CopyOut, ReturnPointer, LoadReturn, StoreReturn, MakeClosure, IndexOf, ItemAt}
 use Rattle.glue_steps.specs.Room.{has_stack}
-use Rattle.glue_binding.proofs.Parts.{outer_parts, outer_expression, expression_none, parts_declare}
-use Rattle.glue_binding.proofs.Paths.{TellsKeys, path_tells, property_tells, chained_tells}
+use Rattle.glue_operands.proofs.Parts.{outer_parts, outer_expression, expression_none, parts_declare}
+use Rattle.glue_operands.proofs.Paths.{TellsKeys, path_tells, property_tells, chained_tells}
 use Rattle.glue_scope.specs.Properties.{property_parts}
 use Rattle.std.specs.Prelude.{Option, None, is_some}
 use Rattle.values.specs.Map.{look_up}

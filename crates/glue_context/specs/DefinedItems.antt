@@ -17,7 +17,7 @@ use Rattle.glue_tree.specs.declared.tree.JsFunction.{JsFunction}
 use Rattle.glue_imports.specs.declared.part.Part.{Part}
 use Rattle.glue_imports.specs.Definitions.{function_or_throw}
 use Rattle.glue_imports.specs.Roots.{root}
-use Rattle.glue_binding.specs.Spelling.{parts_words}
+use Rattle.glue_operands.specs.Spelling.{parts_words}
 use Rattle.glue_shared.specs.declared.description.Lowered.{Lowered}
 use Rattle.glue_shared.specs.declared.import.JsImport.{JsImport}
 use Rattle.glue_shared.specs.declared.name_map.NameMap.{NameMap}

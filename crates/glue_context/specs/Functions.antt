@@ -15,8 +15,8 @@ use Rattle.glue_steps.specs.declared.step.Step.{Step}
 use Rattle.glue_steps.specs.Resolving.{adapter_steps}
 use Rattle.glue_steps.specs.Stack.{below}
 use Rattle.glue_binding.specs.Binding.{IsBoundFunction}
-pub use Rattle.glue_binding.specs.Form.{usual_form}
-pub use Rattle.glue_binding.specs.declared.form.Form.{Form}
+pub use Rattle.glue_operands.specs.Form.{usual_form}
+pub use Rattle.glue_operands.specs.declared.form.Form.{Form}
 
 -- `arg` and a number, so many, from a number on
 abbrev pub default_names : ℕ → ℕ → List (List ℕ)

@@ -5,8 +5,8 @@ ghost use Rattle.printed_adapters.specs.Printed as printed;
 ghost use Rattle.glue_context.specs.ClosureItems as spec;
 
 use crate::function::{adapter_function, words_of};
-use glue_binding::usual_form;
 use glue_imports::Basis;
+use glue_operands::usual_form;
 use glue_scope::Names;
 use glue_shared::AdapterId;
 use glue_steps::{Indexed, callback_name};

@@ -11,9 +11,9 @@ ghost use Rattle.glue_context.specs.DefinedItems as spec;
 
 use crate::function::{adapter_function, words_of};
 use crate::handing::{define_function, names_around, throws_of};
-use glue_binding::{spell, usual_form};
 use glue_check::memory_of;
 use glue_imports::{Basis, function_or_throw, root};
+use glue_operands::{spell, usual_form};
 use glue_scope::Names;
 use glue_shared::{AdapterId, Implementers, IndexedAux, JsImport, Lowered, NameMap, handed_part};
 use glue_steps::Indexed;

@@ -4,8 +4,9 @@ ghost use Rattle.std.specs.Fmt.{decimal};
 ghost use Rattle.glue_steps.specs.Resolving as resolving;
 ghost use Rattle.glue_context.specs.Functions as spec;
 
-use glue_binding::{Form, bind};
+use glue_binding::bind;
 use glue_imports::Basis;
+use glue_operands::Form;
 use glue_scope::Names;
 use glue_shared::{AdapterId, AuxExport, AuxExportKind, Lowered};
 use glue_steps::{Indexed, Step, adapter_steps};

@@ -23,8 +23,8 @@
 //! cite come from `proofs/Common.antt`.
 //!
 //! Stands on `glue_check`, `claimed_modules`, `printed_adapters`, `glue_names`, `glue_adapters`, `glue_naming`, `taken_items`, `glue_public`,
-//! `glue_published`, `glue_exports`, `glue_targets`, `glue_lines`, `helper_table`, `glue_helpers`, `glue_binding`, `glue_imports`, `glue_steps`,
-//! `glue_tree`, `type_texts`, `glue_faults`, `glue_shared`, `glue_scope`, `glue_words` and `wasm_core`. It knows no setter and no file.
+//! `glue_published`, `glue_exports`, `glue_targets`, `glue_lines`, `helper_table`, `glue_helpers`, `glue_binding`, `glue_operands`, `glue_imports`,
+//! `glue_steps`, `glue_tree`, `type_texts`, `glue_faults`, `glue_shared`, `glue_scope`, `glue_words` and `wasm_core`. It knows no setter and no file.
 #![tactic(auto)]
 
 mod closures;

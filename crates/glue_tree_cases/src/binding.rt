@@ -1,7 +1,8 @@
 use crate::compare::assert_told;
-use glue_binding::{Form, bind, usual_form};
+use glue_binding::bind;
 use glue_imports::{Expression, Part};
 use glue_inputs::{printed, texts};
+use glue_operands::{Form, usual_form};
 use glue_scope::IdentScope;
 use glue_steps::Step;
 use glue_words::{key, punct};

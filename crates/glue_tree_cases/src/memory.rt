@@ -1,8 +1,9 @@
 //! Functions of steps that pass strings, vectors and results through memory, or texts through lists, or make closures: steps, the names that
 //! the parameters want, and the text.
 use crate::compare::assert_told;
-use glue_binding::{bind, usual_form};
+use glue_binding::bind;
 use glue_inputs::{printed, texts};
+use glue_operands::usual_form;
 use glue_scope::IdentScope;
 use glue_steps::Step;
 use std::alloc::{AllocError, Global};

@@ -2,8 +2,9 @@
 use crate::compare::assert_told;
 use crate::evaluator::evaluated;
 use crate::run::{Answer, Value};
-use glue_binding::{bind, usual_form};
+use glue_binding::bind;
 use glue_inputs::texts;
+use glue_operands::usual_form;
 use glue_scope::IdentScope;
 use glue_steps::Step;
 use std::alloc::{AllocError, Global};

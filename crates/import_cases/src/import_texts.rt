@@ -2,10 +2,11 @@ use crate::hostile::HOSTILE;
 use crate::texts::{
     Case, DRAWN, HELPED, INTRINSICS, ITEMS, OPERATIONS, Operation, PRELUDES, PROPERTIES, VALUES,
 };
-use glue_binding::{bind, usual_form};
+use glue_binding::bind;
 use glue_imports::Basis;
 use glue_inputs::{CONFIG, printed, settings, texts, with_custom};
 use glue_lower::{JsonLowering, LowerFault, Lowering};
+use glue_operands::usual_form;
 use glue_scope::IdentScope;
 use glue_shared::{AdapterId, EncodeInto, JsImportName, Lowered, NameMap, Settings, Target};
 use glue_steps::{Indexed, Step, adapter_steps};

@@ -1,6 +1,6 @@
 use Rattle.std.proofs.Common.{◌∙◌, ap}
 use Rattle.glue_tree.specs.Plainly.{plain_stmts}
-use Rattle.glue_binding.specs.Form.{parameters_of, form_words}
+use Rattle.glue_operands.specs.Form.{parameters_of, form_words}
 use Rattle.glue_binding.specs.Spelling.{tree_of}
 use Rattle.glue_binding.proofs.Functions.{bound_function}
 use Rattle.glue_binding.proofs.binding.bind.Goals as goal

@@ -1,8 +1,8 @@
 use Rattle.std.proofs.Common.{◌∙◌, arith, ap}
-use Rattle.glue_binding.specs.Body.{plain_operand}
-use Rattle.glue_binding.specs.declared.operand.Operand.TheVariants.{Missing}
-use Rattle.glue_binding.proofs.Plain.{missing_plain}
-use Rattle.glue_binding.proofs.Written.{operand_found, operand_missing}
+use Rattle.glue_operands.specs.Plainly.{plain_operand}
+use Rattle.glue_operands.specs.declared.operand.Operand.TheVariants.{Missing}
+use Rattle.glue_operands.proofs.Plain.{missing_plain}
+use Rattle.glue_operands.proofs.Written.{operand_found, operand_missing}
 use Rattle.glue_binding.proofs.body.param.Goals as goal
 
 pub returns-in-Some : goal.returns-in-Some

@@ -1,6 +1,8 @@
 use Rattle.std.proofs.Common.{◌+◌, drop, map}
-use Rattle.glue_binding.specs.Body.{newest_first, stack_of, plain_operand}
-use Rattle.glue_binding.proofs.Stacks.{pieces_next, drop_next}
+use Rattle.glue_binding.specs.Body.{newest_first, stack_of}
+use Rattle.glue_operands.specs.Plainly.{plain_operand}
+use Rattle.glue_binding.proofs.Stacks.{pieces_next}
+use Rattle.glue_operands.proofs.Lists.{drop_next}
 use Rattle.glue_binding.proofs.body.pieces_of.Goals as goal
 
 pub loop-step-preserved : goal.loop-step-preserved

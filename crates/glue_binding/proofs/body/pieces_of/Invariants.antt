@@ -1,5 +1,6 @@
 use Rattle.std.proofs.Common.{◌≡◌, ◌++◌, [], drop, map}
-use Rattle.glue_binding.specs.Body.{newest_first, stack_of, plain_operand, plain_pieces}
+use Rattle.glue_binding.specs.Body.{newest_first, stack_of, plain_pieces}
+use Rattle.glue_operands.specs.Plainly.{plain_operand}
 use Rattle.glue_binding.specs.Spelling.{pieces_of}
 use Rattle.glue_binding.proofs.body.pieces_of.Given as goal
 

@@ -1,7 +1,9 @@
 use Rattle.std.proofs.Common.{◌≡◌, ℕ, ◌++◌, ◌∷◌, [], List, Some, map, ap, ◌∙◌}
 use Rattle.glue_imports.specs.declared.part.Expression.{Expression}
-use Rattle.glue_binding.specs.Body.{newest_first, stack_of, plain_operand, plain_pieces}
-use Rattle.glue_binding.specs.Spelling.{Plain, Local, Piece, Ahead, first, import_call}
+use Rattle.glue_binding.specs.Body.{newest_first, stack_of, plain_pieces}
+use Rattle.glue_operands.specs.Plainly.{plain_operand}
+use Rattle.glue_operands.specs.Spelling.{Plain, Local}
+use Rattle.glue_binding.specs.Spelling.{Piece, Ahead, first, import_call}
 use Rattle.glue_binding.proofs.calls.call_with.Goals as goal
 
 bound_call : (adapter : ℕ) (e : Expression) (locals : List (List ℕ)) (args ps : List Plain) (bound name : List ℕ) (old older new : List Piece)

@@ -1,5 +1,5 @@
 use Rattle.std.proofs.Common.{◌-◌, ◌<◌, ◌≤◌, length, slice_index_or, ap, ◌∙◌, arith}
-use Rattle.glue_binding.proofs.Plain.{missing_plain}
+use Rattle.glue_operands.proofs.Plain.{missing_plain}
 use Rattle.glue_binding.proofs.Stacks.{operand_under, operand_absent}
 use Rattle.glue_binding.proofs.memory.expr_under.Goals as goal
 

@@ -1,6 +1,7 @@
 use Rattle.std.proofs.Common.{ap, ◌∙◌, ◌++◌, ◌∷◌, []}
 use Rattle.glue_tree.specs.Term.{Bind}
-use Rattle.glue_binding.specs.Spelling.{Local, Ahead, first, later, address_term, written_length}
+use Rattle.glue_operands.specs.Spelling.{Local}
+use Rattle.glue_binding.specs.Spelling.{Ahead, first, later, address_term, written_length}
 use Rattle.glue_binding.specs.Body.{newest_first, stack_of, plain_pieces}
 use Rattle.glue_binding.proofs.Stacks.{two_pieces}
 use Rattle.glue_binding.proofs.memory.pass_to_memory.Goals as goal

@@ -1,6 +1,7 @@
 use Rattle.std.proofs.Common.{ap, ◌∙◌, ◌++◌, ◌∷◌, []}
 use Rattle.glue_tree.specs.Term.{Bind}
-use Rattle.glue_binding.specs.Spelling.{Local, Ahead, first, unsigned_64_call}
+use Rattle.glue_operands.specs.Spelling.{Local}
+use Rattle.glue_binding.specs.Spelling.{Ahead, first, unsigned_64_call}
 use Rattle.glue_binding.specs.Body.{newest_first, plain_pieces}
 use Rattle.glue_binding.proofs.numbers.to_unsigned_64.Goals as goal
 

@@ -1,7 +1,8 @@
 use Rattle.std.proofs.Common.{ap, ◌∙◌, ◌++◌, ◌∷◌, []}
 use Rattle.std.specs.Prelude.{codes}
 use Rattle.glue_tree.specs.Term.{Bind}
-use Rattle.glue_binding.specs.Spelling.{Local, Ahead, Cleanup, first, helper_call}
+use Rattle.glue_operands.specs.Spelling.{Local}
+use Rattle.glue_binding.specs.Spelling.{Ahead, Cleanup, first, helper_call}
 use Rattle.glue_binding.specs.Body.{newest_first, stack_of, plain_pieces}
 use Rattle.glue_binding.proofs.Stacks.{two_pieces}
 use Rattle.glue_binding.proofs.objects.borrow_index.Goals as goal

@@ -1,7 +1,9 @@
 use Rattle.std.proofs.Common.{ap, ◌∙◌, ◌++◌, ◌∷◌, [], map}
 use Rattle.glue_tree.specs.Term.{Bind}
-use Rattle.glue_binding.specs.Spelling.{Local, Ahead, first, helper_call}
-use Rattle.glue_binding.specs.Body.{newest_first, plain_operand, plain_pieces}
+use Rattle.glue_operands.specs.Spelling.{Local}
+use Rattle.glue_binding.specs.Spelling.{Ahead, first, helper_call}
+use Rattle.glue_binding.specs.Body.{newest_first, plain_pieces}
+use Rattle.glue_operands.specs.Plainly.{plain_operand}
 use Rattle.glue_binding.proofs.objects.call_helper.Goals as goal
 
 pub returns : goal.returns

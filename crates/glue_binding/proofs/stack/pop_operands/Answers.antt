@@ -1,8 +1,9 @@
 use Rattle.std.proofs.Common.{◌≡◌, ◌-◌, ◌+◌, map, reverse, sym, ap, ◌∙◌, arith}
 use Rattle.glue_binding.proofs.Stacks.{popped_operands, without_next}
 use Rattle.glue_steps.specs.Stack.{operands, without}
-use Rattle.glue_binding.specs.Spelling.{Missing}
-use Rattle.glue_binding.specs.Body.{plain_operand, stack_of}
+use Rattle.glue_operands.specs.Spelling.{Missing}
+use Rattle.glue_operands.specs.Plainly.{plain_operand}
+use Rattle.glue_binding.specs.Body.{stack_of}
 use Rattle.glue_binding.proofs.stack.pop_operands.Goals as goal
 
 pub loop-preserved : goal.loop-preserved

@@ -1,7 +1,8 @@
 use Rattle.std.proofs.Common.{◌≡◌, ◌-◌, [], map, reverse}
 use Rattle.glue_steps.specs.Stack.{operands, without}
-use Rattle.glue_binding.specs.Spelling.{Missing}
-use Rattle.glue_binding.specs.Body.{plain_operand, stack_of}
+use Rattle.glue_operands.specs.Spelling.{Missing}
+use Rattle.glue_operands.specs.Plainly.{plain_operand}
+use Rattle.glue_binding.specs.Body.{stack_of}
 use Rattle.glue_binding.proofs.stack.pop_operands.Given as goal
 
 abbrev pub invariant-loop : goal.invariant-loop

@@ -1,0 +1,9 @@
+pub mod Each
+pub mod FormWords
+pub mod Free
+pub mod Lists
+pub mod Parts
+pub mod Paths
+pub mod Plain
+pub mod Standing
+pub mod Written

@@ -1,0 +1,4 @@
+pub mod Spelling
+pub mod Plainly
+pub mod Form
+pub mod Nesting
