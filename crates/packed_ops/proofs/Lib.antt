@@ -1,2 +1,3 @@
 pub mod PackedAgain
+pub mod Short
 pub mod Spelled

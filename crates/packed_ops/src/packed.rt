@@ -4,7 +4,7 @@ ghost use Rattle.std.specs.Prelude.{◌≡◌, ◌∷◌, ◌++◌, [], IfOk, If
 ghost use Rattle.std.specs.Option.{option_copied};
 ghost use Rattle.packed_ops.specs.Packed.{IsNextOp, IsNextSpelled, IsNextOther};
 
-use crate::packing::pack_op;
+use crate::packing::{pack_op, pack_short};
 use crate::unpacking::read_packed;
 use std::alloc::{AllocError, Global};
 use std::fmt::{self, Debug, Formatter, Write};
@@ -42,13 +42,16 @@ impl Ops {
         }
     }
 
-    /// Puts an operator behind the others. It is packed into `scratch` first, whose old content is dropped. Want of memory leaves these
+    /// Puts an operator behind the others. A long one is packed into `scratch` first, whose old content is dropped. Want of memory leaves these
     /// operators as they are; more than 4,294,967,295 labels, types or clauses in one operator come to want of memory.
     #[tactic(auto, using(crate::proofs::PackedAgain::packed_more))]
     pub fn push(&mut self, scratch: &mut Vec<u8>, op: &Op) -> Result<(), AllocError>
         ensures ok { OnOk result (self.new ≡ self.old ++ op.now ∷ []) }
         ensures err { OnErr result (self.new ≡ self.old) }
     {
+        if pack_short(&mut self.bytes, op)? {
+            return Ok(());
+        }
         scratch.clear();
         pack_op(scratch, op)?;
         self.bytes.extend_from_slice(scratch)?;

@@ -1,6 +1,6 @@
 //! Writing what is kept packed.
 
-ghost use Rattle.std.specs.Prelude.{◌≡◌, ◌≤◌, ◌∷◌, ◌++◌, [], length, OnOk};
+ghost use Rattle.std.specs.Prelude.{◌≡◌, ◌≤◌, ◌∷◌, ◌++◌, [], true, length, if◌then◌else◌, IfOk, OnOk, OnErr};
 ghost use Rattle.wasm_bytes.specs.Numbers.{number_bytes};
 ghost use Rattle.wasm_bytes.specs.Signed.{signed_bytes};
 ghost use Rattle.wasm_ops.specs.declared.ops.Op.TheVariants as ops;
@@ -198,6 +198,23 @@ fn pack_try_table(out: &mut Vec<u8>, ty: BlockType, clauses: &[Catch]) -> Result
     out.push(18)?;
     pack_block(out, ty)?;
     pack_list(clauses, out)
+}
+
+/// Appends an operator in one piece, where it has at most four bytes: one without operands, a label or a local below 128. Answers whether
+/// it is such a one; nothing is appended where it isn't, or where memory is wanting.
+#[tactic(auto, unfolding(crate::specs::Packed::held_bytes, crate::specs::Packed::spelled_bytes), using(crate::proofs::Short::short_number))]
+pub(crate) fn pack_short(out: &mut Vec<u8>, op: &Op) -> Result<bool, AllocError>
+    ensures bytes { IfOk result (λ short. out.new.items ≡ out.old.items ++ (if short then packed_bytes op.now else [])) }
+    ensures fits { IfOk result (λ short. short ≡ true → FitsTypes op.now) }
+    ensures err { OnErr result (out.new.items ≡ out.old.items) }
+{
+    match *op {
+        Op::Plain(code) => out.extend_from_slice(&[0, 1, code])?,
+        Op::Label(code, label) if label < 128 => out.extend_from_slice(&[1, 2, code, label as u8])?,
+        Op::Local(code, local) if local < 128 => out.extend_from_slice(&[2, 2, code, local as u8])?,
+        _ => return Ok(false),
+    }
+    Ok(true)
 }
 
 /// Appends an operator.

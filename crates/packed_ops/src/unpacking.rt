@@ -60,7 +60,7 @@ fn skip_two(reader: &mut Reader<'_>) -> Result<(), ReadFault>
 }
 
 /// A value type.
-#[tactic(auto, unfolding(crate::specs::Entries::val_type))]
+#[tactic(auto, unfolding(wasm_types::specs::Entries::val_type))]
 pub(crate) fn read_val_type(reader: &mut Reader<'_>) -> Result<ValType, ReadFault>
     ensures { Gives result reader.new (val_type reader.old) }
 {

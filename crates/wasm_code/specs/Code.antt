@@ -1,5 +1,5 @@
 -- Function bodies and initial expressions.
-use Rattle.std.specs.Prelude.{ℕ, ◌+◌, ◌-◌, Bool, false, List, [], ◌∷◌, ◌++◌, length, take, Option, Some, None, Result, ◌==◌, if◌then◌else◌}
+use Rattle.std.specs.Prelude.{◌≡◌, ℕ, ◌+◌, ◌-◌, Bool, false, List, [], ◌∷◌, ◌++◌, length, take, Option, Some, None, Result, Ok, ◌==◌, if◌then◌else◌}
 use Rattle.std.specs.List.{sum_by}
 use Rattle.wasm_bytes.specs.declared.counts.Counts.{Counts}
 use Rattle.wasm_bytes.specs.Reading.{Input, followed, ◌>>=◌, pure, fault, byte, filled, collected}
@@ -40,6 +40,11 @@ unfoldable pub next_op : Counts → List Bool → Input → Result ((Option Op �
 next_op counts labels = do
   x ← op counts labels
   let after : List Bool = labels_after x labels in pure (if length after == 0 then None else Some x, after)
+
+-- An operator is read that leaves the open blocks as they are, and it stands behind the others; or nothing is read.
+abbrev pub ReadsOn : Bool → Counts → List Bool → Input → Input → List Op → List Op → Type 0
+ReadsOn true counts labels from to before after = (x : Op) × (next_op counts labels from ≡ Ok ((Some x, labels), to)) × (after ≡ before ++ x ∷ [])
+ReadsOn false counts labels from to before after = (to ≡ from) × (after ≡ before)
 
 -- the operators of a body, up to the one that closes it
 unfoldable pub expression : Counts → Input → Result (List Op × Input) ℕ

@@ -1,17 +1,17 @@
 //! Reading function bodies and initial expressions (WebAssembly core specification, 5.4.9 and 5.5.13).
 
-ghost use Rattle.std.specs.Prelude.{◌≡◌, OnOk};
-ghost use Rattle.wasm_bytes.specs.Gives.{Gives, GivesBoth, GivesBy};
+ghost use Rattle.std.specs.Prelude.{◌≡◌, IfOk, IfErr, OnOk};
+ghost use Rattle.wasm_bytes.specs.Gives.{Fails, Gives, GivesBoth};
 ghost use Rattle.wasm_bytes.specs.Reading.{entries};
-ghost use Rattle.wasm_code.specs.Code.{labels_after, op, next_op, expression, next_initial, initial, body, code_entry};
+ghost use Rattle.wasm_code.specs.Code.{labels_after, op, next_op, ReadsOn, expression, next_initial, initial, body, code_entry};
 
 use crate::body::Body;
 use crate::locals::{join_runs, read_runs};
 use packed_ops::Ops;
 use std::alloc::{AllocError, Global};
 use values::Seq;
-use wasm_bytes::{Counts, ReadFault, Reader};
-use wasm_ops::{Op, initial_shape, named_blocks, read_operands, shape_within};
+use wasm_bytes::{Counts, ReadFault, Reader, read_index};
+use wasm_ops::{Op, Shape, initial_shape, named_blocks, read_operands, shape_within};
 
 /// The open blocks after an operator, the body first: `true` for an `if` that had no `else` yet.
 fn update_labels(labels: &mut Vec<bool>, op: &Op) -> Result<(), AllocError>
@@ -68,6 +68,45 @@ fn read_next_op(
     Ok((!labels.is_empty()).then_some(op))
 }
 
+/// Reads an operator that leaves the open blocks as they are, one without operands, of a local or of a constant with 32 bits, and puts
+/// it behind the others. Answers whether the next one is such a one; nothing is read where it isn't.
+#[tactic(auto, unfolding(crate::specs::Code::next_op, crate::specs::Code::op))]
+fn read_on(
+    ops: &mut Ops,
+    scratch: &mut Vec<u8>,
+    reader: &mut Reader<'_>,
+    counts: &Counts,
+    labels: &[bool],
+) -> Result<bool, ReadFault>
+    ensures ok { IfOk result (λ on. ReadsOn on counts.now labels.now reader.old reader.new ops.old ops.new) }
+    ensures err { IfErr result (λ e. Fails e (next_op counts.now labels.now reader.old)) }
+{
+    if labels.is_empty() {
+        return Ok(false);
+    }
+    let Ok(code) = reader.peek() else {
+        return Ok(false);
+    };
+    match shape_within(labels, code) {
+        Some(Shape::Plain) if code != 0x05 && code != 0x0B => {
+            reader.byte()?;
+            ops.push(scratch, &Op::Plain(code))?;
+        }
+        Some(Shape::Local) => {
+            reader.byte()?;
+            let local = read_index(reader, counts.locals)?;
+            ops.push(scratch, &Op::Local(code, local))?;
+        }
+        Some(Shape::Const32) => {
+            reader.byte()?;
+            let value = reader.signed32()?;
+            ops.push(scratch, &Op::Const32(value))?;
+        }
+        _ => return Ok(false),
+    }
+    Ok(true)
+}
+
 /// The operators of a body, up to the one that closes it.
 fn read_expression(
     reader: &mut Reader<'_>,
@@ -80,9 +119,11 @@ fn read_expression(
     let mut scratch = Vec::new(alloc);
     let mut ops = Ops::new(alloc);
     for _ in 0..reader.len() {
-        match read_next_op(reader, alloc, counts, &mut labels)? {
-            None => return Ok(ops),
-            Some(op) => ops.push(&mut scratch, &op)?,
+        if !read_on(&mut ops, &mut scratch, reader, counts, &labels)? {
+            match read_next_op(reader, alloc, counts, &mut labels)? {
+                None => return Ok(ops),
+                Some(op) => ops.push(&mut scratch, &op)?,
+            }
         }
     }
     Err(ReadFault::Parse {
