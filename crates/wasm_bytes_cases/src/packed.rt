@@ -39,9 +39,13 @@ fn greatest() -> [Op; 18] {
     ]
 }
 
-/// Other values and other variants.
-fn others() -> [Op; 16] {
+/// Other values and other variants, and numbers on both sides of what one byte holds.
+fn others() -> [Op; 20] {
     [
+        Op::Label(12, 127),
+        Op::Label(12, 128),
+        Op::Local(32, 127),
+        Op::Local(32, 128),
         Op::Block(0, BlockType::Empty),
         Op::Block(0, BlockType::Value(ValType::ExnRef)),
         Op::Const32(i32::MIN),
@@ -114,11 +118,11 @@ fn walked(alloc: Global, ops: &Ops) -> Result<String, AllocError> {
 #[test]
 fn a_walk_ends_behind_the_last(rt: HostRuntime) -> Result<(), AllocError> {
     let alloc = rt.alloc();
-    let mut room = Vec::new(alloc);
-    room.push(99)?;
+    let mut scratch = Vec::new(alloc);
+    scratch.push(99)?;
     let mut ops = Ops::new(alloc);
-    ops.push(&mut room, &Op::Local(32, 300))?;
-    ops.push(&mut room, &Op::Plain(26))?;
+    ops.push(&mut scratch, &Op::Local(32, 300))?;
+    ops.push(&mut scratch, &Op::Plain(26))?;
     ops.shrink_to_fit();
     assert_told(
         &rt,

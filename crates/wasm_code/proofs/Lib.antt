@@ -1,1 +1,2 @@
+pub mod OneOp
 pub mod RunSteps

@@ -68,8 +68,8 @@ fn read_next_op(
     Ok((!labels.is_empty()).then_some(op))
 }
 
-/// Reads an operator that leaves the open blocks as they are, one without operands, of a local or of a constant with 32 bits, and puts
-/// it behind the others. Answers whether the next one is such a one; nothing is read where it isn't.
+/// Reads an operator that leaves the open blocks as they are, one without operands or of a local, and puts it behind the others. Answers
+/// whether the next one is such a one; nothing is read where it isn't.
 #[tactic(auto, unfolding(crate::specs::Code::next_op, crate::specs::Code::op))]
 fn read_on(
     ops: &mut Ops,
@@ -97,11 +97,6 @@ fn read_on(
             let local = read_index(reader, counts.locals)?;
             ops.push(scratch, &Op::Local(code, local))?;
         }
-        Some(Shape::Const32) => {
-            reader.byte()?;
-            let value = reader.signed32()?;
-            ops.push(scratch, &Op::Const32(value))?;
-        }
         _ => return Ok(false),
     }
     Ok(true)
@@ -119,11 +114,12 @@ fn read_expression(
     let mut scratch = Vec::new(alloc);
     let mut ops = Ops::new(alloc);
     for _ in 0..reader.len() {
-        if !read_on(&mut ops, &mut scratch, reader, counts, &labels)? {
-            match read_next_op(reader, alloc, counts, &mut labels)? {
-                None => return Ok(ops),
-                Some(op) => ops.push(&mut scratch, &op)?,
-            }
+        if read_on(&mut ops, &mut scratch, reader, counts, &labels)? {
+            continue;
+        }
+        match read_next_op(reader, alloc, counts, &mut labels)? {
+            None => return Ok(ops),
+            Some(op) => ops.push(&mut scratch, &op)?,
         }
     }
     Err(ReadFault::Parse {
