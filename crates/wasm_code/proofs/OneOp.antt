@@ -1,5 +1,5 @@
 -- One operator of a body, by its opcode and what follows it.
-use Rattle.std.proofs.Common.{◌≡◌, ℕ, Bool, true, false, not, List, length, Option, Some, None, Result, Ok, Err, ◌==◌, refl, arith}
+use Rattle.std.proofs.Common.{◌≡◌, ℕ, Bool, false, List, length, Some, Result, Ok, ◌==◌, refl, arith}
 use Rattle.std.proofs.lemmas.Bool.{ne_eqb}
 use Rattle.wasm_bytes.specs.declared.counts.Counts.{Counts}
 use Rattle.wasm_bytes.specs.declared.fault.ReadFault.{ReadFault}
