@@ -288,16 +288,29 @@ fn join_bodies(
 }
 
 /// Adds entries, each at its place.
+fn place_each<T: Drop>(entries: &mut Vec<Option<T>>, items: Vec<T>) -> Result<(), AllocError>
+    ensures { OnOk result (entries.new.items ≡ entries.old.items ++ map Some items.items) }
+{
+    for item in items {
+        entries.push(Some(item))?;
+    }
+    Ok(())
+}
+
+/// Adds entries, each at its place. Those of the first half are let go before the others are added, so that never all of them stand
+/// in memory twice.
 pub(crate) fn place_all<T: Drop>(
     entries: &mut Vec<Option<T>>,
     items: Seq<T>,
 ) -> Result<(), AllocError>
     ensures { OnOk result (entries.new.items ≡ entries.old.items ++ map Some items) }
 {
-    for item in items.into_vec() {
-        entries.push(Some(item))?;
-    }
-    Ok(())
+    let mut first = items.into_vec();
+    let half = first.len() / 2;
+    let second = first.split_off(half)?;
+    first.shrink_to_fit();
+    place_each(entries, first)?;
+    place_each(entries, second)
 }
 
 /// The names that a custom section gives, none where it is another than a name section, or doesn't read.
