@@ -14,8 +14,8 @@
 //! Where parts may stand beside one another, so do their words, whatever the names and the operands are (`proofs/Standing.antt`); which names
 //! they use and bind say `proofs/Parts.antt`, `proofs/Paths.antt` and `proofs/Free.antt`, and the words of a form `proofs/FormWords.antt`.
 //!
-//! Stands on the parts of `glue_imports`, on the steps of `glue_steps`, on the expressions of `glue_tree` and on the properties of `glue_scope`. It
-//! knows no body of a function: which operands a step takes and leaves, and which statements it adds, is said above, in `glue_binding`.
+//! Stands on the parts of `glue_imports`, on the steps of `glue_steps`, on the expressions of `glue_tree`, on the properties of `glue_scope`,
+//! on the words of `glue_words` and on `values`. It knows no body of a function: which operands a step takes and leaves, and which statements it adds, is said above, in `glue_binding`.
 #![tactic(auto)]
 
 mod arguments;

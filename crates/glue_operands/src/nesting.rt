@@ -34,7 +34,7 @@ fn nesting(steps: &[Step]) -> u64
     count
 }
 
-/// Nothing, where at most `MOST_NESTING` steps nest. The only error is want of memory: that of more of them.
+/// Nothing, where at most 5,000 steps nest (`MOST_NESTING`). The only error is want of memory: that of more of them.
 pub fn check_nesting(steps: &[Step]) -> Result<(), AllocError>
     ensures few { IfOk result (λ unit. spec.nests_too_often steps.now ≡ false) }
 {

@@ -2,7 +2,7 @@
 //! trees that `bind` of `glue_binding` gives; each trace and each end was worked out by hand.
 //!
 //! Promised: nothing. No clause rests on the evaluator: what a tree means is a definition of `glue_tree`. Stands on `glue_binding` for
-//! the trees and on `glue_steps` for the steps that they come from.
+//! the trees, on `glue_operands` for the forms of functions and on `glue_steps` for the steps that they come from.
 #![tactic(auto)]
 
 #[cfg(test)]

@@ -1,23 +1,18 @@
 -- What is kept packed is read as what it was.
-use Rattle.std.proofs.Common.{◌≡◌, ℕ, zero, suc, ◌+◌, ◌-◌, ◌^◌, ◌<◌, ◌≤◌, List, [], ◌∷◌, ◌++◌, length, take, drop, get_or, Option, Some, None, Result, Ok, Err, refl, sym, ap, subst, append_assoc, append-nil, ◌∙◌, arith}
+use Rattle.std.proofs.Common.{◌≡◌, ℕ, zero, suc, ◌+◌, ◌<◌, ◌≤◌, List, [], ◌∷◌, ◌++◌, length, take, drop, get_or, false, inl, inr, Some, Result, Ok, refl, sym, ap, subst, append-nil, ◌∙◌, arith}
 use Rattle.std.specs.List.{flat_map, AllByRecursion}
-use Rattle.std.proofs.lemmas.Bool.{lt-ltb}
-use Rattle.std.proofs.lemmas.List.{length-append, length-drop, take_all, take_at, drop_at}
+use Rattle.std.proofs.lemmas.Bool.{lt-ltb, cases_Bool}
+use Rattle.std.proofs.lemmas.List.{length-append, take_at, drop_at}
 use Rattle.std.proofs.lemmas.Grind.{flat_map-append}
 use Rattle.wasm_bytes.proofs.ReadFinds.{same_value, same_rest}
-use Rattle.wasm_bytes.specs.Reading.{Input, ◌>>=◌, pure, byte, raw, meant}
-use Rattle.wasm_bytes.specs.Numbers.{number32, number64, number_bytes}
-use Rattle.wasm_bytes.specs.Signed.{signed32, signed64, signed_bytes}
+use Rattle.wasm_bytes.specs.Reading.{Input, byte}
+use Rattle.wasm_bytes.specs.Numbers.{number32}
 use Rattle.wasm_bytes.specs.Spelling.{list_bytes}
 use Rattle.wasm_bytes.specs.Reads.{Reads}
 use Rattle.wasm_bytes.proofs.ReadAgain.{reads_pure, reads_bind, reads_end, reads_byte, reads_raw, reads_meant, reads_list, number32_again, number64_again, signed32_again, signed64_again}
 use Rattle.wasm_ops.proofs.Written.{all_more}
 use Rattle.wasm_ops.specs.Spelling.{coded}
-use Rattle.wasm_types.specs.Spelling.{val_type_bytes}
 use Rattle.wasm_types.proofs.TypesAgain.{val_type_again}
-use Rattle.wasm_types.specs.Entries.{val_type}
-use Rattle.wasm_types.specs.declared.types.ValType.{ValType}
-use Rattle.wasm_types.specs.declared.types.ValType.TheVariants.{I32, I64, F32, F64, V128, FuncRef, ExternRef, ExnRef}
 use Rattle.packed_ops.specs.declared.kinds.Kind.{Kind}
 use Rattle.packed_ops.specs.declared.kinds.Kind.TheVariants as kinds
 use Rattle.packed_ops.specs.declared.kinds.BlockKind.{BlockKind}
@@ -29,10 +24,7 @@ use Rattle.wasm_ops.specs.declared.ops.BlockType.TheVariants as block_types
 use Rattle.wasm_ops.specs.declared.ops.Catch.{Catch}
 use Rattle.wasm_ops.specs.declared.ops.Catch.TheVariants as catches
 use Rattle.wasm_ops.specs.declared.ops.MemArg.{MemArg}
-use Rattle.wasm_types.specs.declared.ids.TypeId.{TypeId}
-use Rattle.wasm_types.specs.declared.ids.MemoryId.{MemoryId}
-use Rattle.wasm_types.specs.declared.ids.TagId.{TagId}
-use Rattle.packed_ops.specs.Packed.{packed_block, packed_catch, packed_arg, packed_two, number_of, spelled_bytes, behind_length, held_bytes, one_byte, two_bytes, is_spelled, IsNextSpelled, packed_bytes, both, block_kind_of, block_as, unpacked_block, unpacked_catch_as, unpacked_catch, unpacked_arg, unpacked_list, kind_of, held_as, unpacked_op, before, unpacked_within, ops_of, FitsU32, FitsBlock, FitsCatch, FitsArg, FitsTypes, IsPacked}
+use Rattle.packed_ops.specs.Packed.{packed_block, packed_catch, packed_arg, packed_two, number_of, spelled_bytes, behind_length, held_bytes, one_byte, two_bytes, is_spelled, begins_spelled, IsNextSpelled, packed_bytes, both, block_kind_of, block_as, unpacked_block, unpacked_catch_as, unpacked_catch, unpacked_arg, unpacked_list, kind_of, held_as, unpacked_op, unpacked_within, ops_of, FitsU32, HasWidthsBlock, HasWidthsCatch, HasWidthsArg, HasWidths, IsPacked}
 
 -- ---- parts
 
@@ -44,18 +36,18 @@ block_with : (kind : BlockKind) (number : ℕ) (bytes : List ℕ) (ty : BlockTyp
 unfolding unpacked_block
 block_with kind number bytes ty is h = reads_bind block_as (reads_meant block_kind_of (reads_byte number) is) h
 
-block_again : (ty : BlockType) → FitsBlock ty → Reads unpacked_block (packed_block ty) ty
+block_again : (ty : BlockType) → HasWidthsBlock ty → Reads unpacked_block (packed_block ty) ty
 unfolding packed_block block_as
 block_again block_types.Empty h = block_with block_kinds.Empty 0 [] _ refl (reads_pure block_types.Empty)
 block_again (block_types.Value ty) h = block_with block_kinds.Value 1 _ _ refl (reads_end (λ ty. block_types.Value ty) (val_type_again ty))
 block_again (block_types.Index ty) h = block_with block_kinds.Index 2 _ _ refl (reads_end (λ n. block_types.Index (record { 0 = n })) (number32_again ty.0 h))
 
-catch_again : (clause : Catch) → FitsCatch clause → Reads unpacked_catch (packed_catch clause) clause
+catch_again : (clause : Catch) → HasWidthsCatch clause → Reads unpacked_catch (packed_catch clause) clause
 unfolding packed_catch unpacked_catch unpacked_catch_as
 catch_again (catches.Tag code tag label) h = reads_bind unpacked_catch_as (reads_byte 0) (reads_bind _ (reads_byte code) (reads_end (λ p. catches.Tag code (record { 0 = p.0 }) p.1) (both_again (number32_again tag.0 h.0) (number32_again label h.1))))
 catch_again (catches.All code label) h = reads_bind unpacked_catch_as (reads_byte 1) (reads_bind _ (reads_byte code) (reads_end (λ label. catches.All code label) (number32_again label h)))
 
-arg_again : (arg : MemArg) → FitsArg arg → Reads unpacked_arg (packed_arg arg) arg
+arg_again : (arg : MemArg) → HasWidthsArg arg → Reads unpacked_arg (packed_arg arg) arg
 unfolding packed_arg unpacked_arg
 arg_again arg h = reads_bind _ (number32_again arg.align h.0) (reads_bind _ (number32_again arg.memory.0 h.1) (reads_end (λ offset. record { align = arg.align; memory = arg.memory; offset = offset }) (number64_again arg.offset h.2)))
 
@@ -85,7 +77,7 @@ op_with : (kind : Kind) (x : Op) → kind_of (number_of x) ≡ Some kind → Rea
 unfolding unpacked_op
 op_with kind x is h = reads_bind held_as (reads_meant kind_of (reads_byte (number_of x)) is) h
 
-pub packed_again : (x : Op) → FitsTypes x → Reads unpacked_op (packed_bytes x) x
+pub packed_again : (x : Op) → HasWidths x → Reads unpacked_op (packed_bytes x) x
 unfolding held_bytes spelled_bytes held_as
 packed_again (ops.Plain code) h = op_with kinds.Plain _ refl (reads_bind _ (one_again 1) (reads_end (λ code. ops.Plain code) (reads_byte code)))
 packed_again (ops.Block code ty) h = op_with kinds.Block _ refl (reads_end (λ p. ops.Block p.0 p.1) (both_again (reads_byte code) (block_again ty h)))
@@ -95,7 +87,7 @@ packed_again (ops.BrTable labels label) h = op_with kinds.BrTable _ refl (reads_
 packed_again (ops.Func code func) h = op_with kinds.Func _ refl (reads_end (λ p. ops.Func p.0 (record { 0 = p.1 })) (coded_again code func.0 h))
 packed_again (ops.Indirect code ty table) h = op_with kinds.Indirect _ refl (reads_end (λ p. ops.Indirect p.0 (record { 0 = p.1.0 }) (record { 0 = p.1.1 })) (both_again (reads_byte code) (two_again ty.0 table.0 h.0 h.1)))
 packed_again (ops.Select types) h = op_with kinds.Select _ refl (reads_end (λ types. ops.Select types) (list_again (λ _. Unit {0}) (λ ty _. val_type_again ty) types h (all_any types)))
-packed_again (ops.TryTable ty clauses) h = op_with kinds.TryTable _ refl (reads_end (λ p. ops.TryTable p.0 p.1) (both_again (block_again ty h.0) (list_again FitsCatch catch_again clauses h.1 h.2)))
+packed_again (ops.TryTable ty clauses) h = op_with kinds.TryTable _ refl (reads_end (λ p. ops.TryTable p.0 p.1) (both_again (block_again ty h.0) (list_again HasWidthsCatch catch_again clauses h.1 h.2)))
 packed_again (ops.Local code local) h = op_with kinds.Local _ refl (reads_bind _ (one_again _) (reads_end (λ p. ops.Local p.0 p.1) (coded_again code local h)))
 packed_again (ops.Global code global) h = op_with kinds.Global _ refl (reads_end (λ p. ops.Global p.0 (record { 0 = p.1 })) (coded_again code global.0 h))
 packed_again (ops.Table code table) h = op_with kinds.Table _ refl (reads_end (λ p. ops.Table p.0 (record { 0 = p.1 })) (coded_again code table.0 h))
@@ -123,7 +115,7 @@ packed_again (ops.SimdLane code lane) h = op_with kinds.SimdLane _ refl (reads_b
 
 -- ---- lists of operators
 
-again_within : (xs : List Op) → AllByRecursion FitsTypes xs → (n place : ℕ) → length (flat_map packed_bytes xs) ≤ n → unpacked_within n (record { place = place; bytes = flat_map packed_bytes xs }) ≡ xs
+again_within : (xs : List Op) → AllByRecursion HasWidths xs → (n place : ℕ) → length (flat_map packed_bytes xs) ≤ n → unpacked_within n (record { place = place; bytes = flat_map packed_bytes xs }) ≡ xs
 unfolding unpacked_within unpacked_op
 again_within [] all zero place le = refl
 again_within [] all (suc n) place le = refl
@@ -134,17 +126,17 @@ again_within (x ∷ xs) all (suc n) place le =
     rw (p.1) (ap (λ ys. x ∷ ys) (again_within xs all.1 n p.0 short))
 
 -- the operators of the bytes of operators
-pub unpacked_again : (xs : List Op) (place : ℕ) → AllByRecursion FitsTypes xs → ops_of (record { place = place; bytes = flat_map packed_bytes xs }) ≡ xs
+pub unpacked_again : (xs : List Op) (place : ℕ) → AllByRecursion HasWidths xs → ops_of (record { place = place; bytes = flat_map packed_bytes xs }) ≡ xs
 unpacked_again xs place all = again_within xs all (length (flat_map packed_bytes xs)) place (omega arith)
 
-is_packed : (xs : List Op) (place : ℕ) → AllByRecursion FitsTypes xs → IsPacked (record { place = place; bytes = flat_map packed_bytes xs })
+is_packed : (xs : List Op) (place : ℕ) → AllByRecursion HasWidths xs → IsPacked (record { place = place; bytes = flat_map packed_bytes xs })
 is_packed xs place all = record {
   whole = rw (unpacked_again xs place all) refl;
   held = rw (unpacked_again xs place all) all;
 }
 
 -- bytes that are those of operators
-packed_as : (xs : List Op) (s : Input) → s.bytes ≡ flat_map packed_bytes xs → AllByRecursion FitsTypes xs → (ops_of s ≡ xs) × IsPacked s
+packed_as : (xs : List Op) (s : Input) → s.bytes ≡ flat_map packed_bytes xs → AllByRecursion HasWidths xs → (ops_of s ≡ xs) × IsPacked s
 packed_as xs s is all = rw is (unpacked_again xs s.place all, is_packed xs s.place all)
 
 -- none
@@ -156,12 +148,12 @@ unfolding unpacked_within
 packed_empty s is = rw is refl
 
 -- one operator more
-pub packed_more : (s t : Input) (x : Op) → IsPacked s → FitsTypes x → t.bytes ≡ s.bytes ++ packed_bytes x → (ops_of t ≡ ops_of s ++ x ∷ []) × IsPacked t
+pub packed_more : (s t : Input) (x : Op) → IsPacked s → HasWidths x → t.bytes ≡ s.bytes ++ packed_bytes x → (ops_of t ≡ ops_of s ++ x ∷ []) × IsPacked t
 packed_more s t x h fits is =
     let whole : t.bytes ≡ flat_map packed_bytes (ops_of s ++ x ∷ []) = rw (is, flat_map-append packed_bytes (ops_of s) (x ∷ []), append-nil (packed_bytes x)) (ap (λ bytes. bytes ++ packed_bytes x) h.whole) in
-    packed_as (ops_of s ++ x ∷ []) t whole (all_more FitsTypes (ops_of s) x h.held fits)
+    packed_as (ops_of s ++ x ∷ []) t whole (all_more HasWidths (ops_of s) x h.held fits)
 
-walked_from : (xs : List Op) (place : ℕ) (t u : Input) (x : Op) → AllByRecursion FitsTypes xs → unpacked_op (record { place = place; bytes = flat_map packed_bytes xs }) ≡ Ok (x, t) → u.bytes ≡ t.bytes → (xs ≡ x ∷ ops_of u) × IsPacked u
+walked_from : (xs : List Op) (place : ℕ) (t u : Input) (x : Op) → AllByRecursion HasWidths xs → unpacked_op (record { place = place; bytes = flat_map packed_bytes xs }) ≡ Ok (x, t) → u.bytes ≡ t.bytes → (xs ≡ x ∷ ops_of u) × IsPacked u
 unfolding unpacked_op
 walked_from [] place t u x all is left = absurd (grind (arith, is))
 walked_from (y ∷ ys) place t u x all is left =
@@ -178,7 +170,7 @@ walked s t u x h is left =
     let at : s ≡ record { place = s.place; bytes = flat_map packed_bytes (ops_of s) } = ap (λ bytes. record { place = s.place; bytes = bytes }) h.whole in
     walked_from (ops_of s) s.place t u x h.held (subst (λ (from : Input). unpacked_op from ≡ Ok (x, t)) at is) left
 
--- ---- operators that are kept as a file has them
+-- ---- operators that are kept as they are written
 
 held_spelled : (x : Op) → number_of x < 12 → held_bytes x ≡ behind_length (spelled_bytes x)
 unfolding held_bytes
@@ -216,7 +208,7 @@ held_spelled (ops.FcTable code table) lt = absurd (omega (arith, lt))
 held_spelled (ops.SimdMem code arg) lt = absurd (omega (arith, lt))
 held_spelled (ops.SimdMemLane code arg lane) lt = absurd (omega (arith, lt))
 
-spelled_from : (xs : List Op) (number len : ℕ) (rest : List ℕ) (u : Input) → AllByRecursion FitsTypes xs → number ∷ len ∷ rest ≡ flat_map packed_bytes xs → number < 12 → u.bytes ≡ drop len rest → IsNextSpelled (Some (take len rest)) xs (ops_of u) × IsPacked u
+spelled_from : (xs : List Op) (number len : ℕ) (rest : List ℕ) (u : Input) → AllByRecursion HasWidths xs → number ∷ len ∷ rest ≡ flat_map packed_bytes xs → number < 12 → u.bytes ≡ drop len rest → IsNextSpelled (Some (take len rest)) xs (ops_of u) × IsPacked u
 spelled_from [] number len rest u all is lt left = absurd (grind (arith, is))
 spelled_from (x ∷ xs) number len rest u all is lt left =
     let same : number ≡ number_of x = ap (λ bytes. get_or bytes 0 0) is in
@@ -233,14 +225,36 @@ spelled_from (x ∷ xs) number len rest u all is lt left =
 pub spelled_walked : (s u : Input) (number len : ℕ) (rest : List ℕ) → IsPacked s → s.bytes ≡ number ∷ len ∷ rest → number < 12 → u.bytes ≡ drop len rest → IsNextSpelled (Some (take len rest)) (ops_of s) (ops_of u) × IsPacked u
 spelled_walked s u number len rest h is lt left = spelled_from (ops_of s) number len rest u h.held (sym is ∙ h.whole) lt left
 
-two_first : (bytes : List ℕ) → 2 ≤ length bytes → bytes ≡ get_or bytes 0 0 ∷ get_or bytes 1 0 ∷ drop 2 bytes
-two_first [] le = absurd (omega arith)
-two_first (a ∷ []) le = absurd (omega (arith, le))
-two_first (a ∷ b ∷ rest) le = refl
+two_first : (bytes head rest : List ℕ) → 2 ≤ length bytes → head ≡ take 2 bytes → rest ≡ drop 2 bytes → bytes ≡ get_or head 0 0 ∷ get_or head 1 0 ∷ rest
+two_first [] head rest le first others = absurd (omega arith)
+two_first (a ∷ []) head rest le first others = absurd (omega (arith, le))
+two_first (a ∷ b ∷ bytes) head rest le first others = rw (first, others) refl
 
--- the same of the front that a split gives
-pub spelled_split : (s u : Input) (front : List ℕ) → IsPacked s → 2 ≤ length s.bytes → get_or s.bytes 0 0 < 12 → front ≡ take (get_or s.bytes 1 0) (take (length s.bytes - 2) (drop 2 s.bytes)) → u.bytes ≡ drop (get_or s.bytes 1 0) (take (length s.bytes - 2) (drop 2 s.bytes)) → IsNextSpelled (Some front) (ops_of s) (ops_of u) × IsPacked u
-spelled_split s u front h le lt is left =
-    let rest : take (length s.bytes - 2) (drop 2 s.bytes) ≡ drop 2 s.bytes = take_all (length s.bytes - 2) (drop 2 s.bytes) (omega (arith, length-drop 2 s.bytes)) in
-    let whole = is ∙ ap (λ bytes. take (get_or s.bytes 1 0) bytes) rest in
-    rw whole (spelled_walked s u (get_or s.bytes 0 0) (get_or s.bytes 1 0) (drop 2 s.bytes) h (two_first s.bytes le) lt (left ∙ ap (λ bytes. drop (get_or s.bytes 1 0) bytes) rest))
+-- the same of the parts that splits give
+pub spelled_split : (s u : Input) (head rest front : List ℕ) → IsPacked s → 2 ≤ length s.bytes → head ≡ take 2 s.bytes → rest ≡ drop 2 s.bytes → get_or head 0 0 < 12 → front ≡ take (get_or head 1 0) rest → u.bytes ≡ drop (get_or head 1 0) rest → IsNextSpelled (Some front) (ops_of s) (ops_of u) × IsPacked u
+spelled_split s u head rest front h le first others lt is left = rw is (spelled_walked s u (get_or head 0 0) (get_or head 1 0) rest h (two_first s.bytes head rest le first others) lt left)
+
+begun : (x : Op) (xs : List Op) → number_of x < 12 → flat_map packed_bytes (x ∷ xs) ≡ number_of x ∷ length (spelled_bytes x) ∷ (spelled_bytes x ++ flat_map packed_bytes xs)
+begun x xs lt = rw (held_spelled x lt) refl
+
+-- Bytes that hold no number of such an operator and its length don't begin with one.
+not_begun : (xs : List Op) (bytes : List ℕ) → bytes ≡ flat_map packed_bytes xs → ((number len : ℕ) (rest : List ℕ) → bytes ≡ number ∷ len ∷ rest → number < 12 → len ≤ length rest → ⊥) → begins_spelled xs ≡ false
+not_begun [] bytes is none = refl
+not_begun (x ∷ xs) bytes is none = elim (cases_Bool (is_spelled x)) [
+  | inl spelled ↦
+      let lt : number_of x < 12 = grind (arith, spelled) in
+      let enough : length (spelled_bytes x) ≤ length (spelled_bytes x ++ flat_map packed_bytes xs) = omega (arith, length-append (spelled_bytes x) (flat_map packed_bytes xs)) in
+      absurd (none (number_of x) (length (spelled_bytes x)) (spelled_bytes x ++ flat_map packed_bytes xs) (is ∙ begun x xs lt) lt enough)
+  | inr other ↦ other
+]
+
+pub too_short : (s : Input) → IsPacked s → length s.bytes < 2 → begins_spelled (ops_of s) ≡ false
+too_short s h lt = not_begun (ops_of s) s.bytes h.whole (λ number len rest is small enough. omega (arith, ap (λ bytes. length bytes) is, lt))
+
+pub not_spelled : (s : Input) (head rest : List ℕ) → IsPacked s → 2 ≤ length s.bytes → head ≡ take 2 s.bytes → rest ≡ drop 2 s.bytes → (get_or head 0 0 < 12 → get_or head 1 0 ≤ length rest → ⊥) → begins_spelled (ops_of s) ≡ false
+not_spelled s head rest h le first others none = not_begun (ops_of s) s.bytes h.whole (λ number len left is small enough.
+    let same = sym (two_first s.bytes head rest le first others) ∙ is in
+    let one : get_or head 0 0 ≡ number = ap (λ bytes. get_or bytes 0 0) same in
+    let two : get_or head 1 0 ≡ len = ap (λ bytes. get_or bytes 1 0) same in
+    let three : rest ≡ left = ap (λ bytes. drop 2 bytes) same in
+    none (rw one small) (rw (two, three) enough))

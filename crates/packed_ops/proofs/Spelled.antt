@@ -1,5 +1,5 @@
--- Operators that are kept as a file has them.
-use Rattle.std.proofs.Common.{◌≡◌, ℕ, true, List, [], ◌∷◌, ◌++◌, Option, Some, None, refl, ap, sym, append_assoc, ◌∙◌, arith}
+-- Operators that are kept as they are written.
+use Rattle.std.proofs.Common.{◌≡◌, true, List, [], ◌∷◌, ◌++◌, Some, None, refl, ap, sym, append_assoc, ◌∙◌, arith}
 use Rattle.std.specs.List.{flat_map, AllByRecursion}
 use Rattle.std.proofs.lemmas.Grind.{flat_map-append}
 use Rattle.wasm_ops.specs.declared.ops.Op.{Op}
@@ -8,7 +8,7 @@ use Rattle.wasm_ops.specs.declared.ops.Numbering.{Numbering}
 use Rattle.wasm_ops.specs.Numbers.{renumbered_op}
 use Rattle.wasm_types.specs.Spelling.{val_type_bytes}
 use Rattle.wasm_ops.specs.Spelling.{op_bytes}
-use Rattle.packed_ops.specs.Packed.{spelled_bytes, is_spelled, IsNextOp, Passes, IsNextOther}
+use Rattle.packed_ops.specs.Packed.{spelled_bytes, is_spelled, Passes, IsNextOther}
 use Rattle.wasm_ops.proofs.Written.{all_more, walked_more, walked_all}
 
 -- its bytes are those that are written, whatever the numbers of entries are

@@ -1,14 +1,13 @@
 -- Operators as bytes in memory: the number of a variant, and what the variant holds. No file has this form.
-use Rattle.std.specs.Prelude.{◌≡◌, ℕ, zero, suc, ◌^◌, ◌<◌, nat_lt, ⊤, Bool, true, List, [], ◌∷◌, ◌++◌, length, Option, Some, None, Result, Ok, Err, ◌==◌, if◌then◌else◌}
+use Rattle.std.specs.Prelude.{◌≡◌, ℕ, zero, suc, ◌^◌, ◌<◌, nat_lt, ⊤, Bool, true, false, List, [], ◌∷◌, ◌++◌, length, Option, Some, None, Result, Ok, Err, ◌==◌, if◌then◌else◌}
 use Rattle.std.specs.List.{flat_map, AllByRecursion}
-use Rattle.wasm_bytes.specs.Reading.{Input, followed, ◌>>=◌, pure, fault, byte, raw, entries, meant}
+use Rattle.wasm_bytes.specs.Reading.{Input, ◌>>=◌, pure, byte, raw, entries, meant}
 use Rattle.wasm_bytes.specs.Numbers.{number32, number64, number_bytes}
 use Rattle.wasm_bytes.specs.Signed.{signed32, signed64, signed_bytes, IsWithin}
 use Rattle.wasm_bytes.specs.Spelling.{list_bytes}
 use Rattle.wasm_types.specs.Spelling.{val_type_bytes}
 use Rattle.wasm_ops.specs.Spelling.{coded}
 use Rattle.wasm_types.specs.Entries.{val_type}
-use Rattle.wasm_types.specs.declared.types.ValType.{ValType}
 use Rattle.packed_ops.specs.declared.kinds.Kind.{Kind}
 use Rattle.packed_ops.specs.declared.kinds.Kind.TheVariants as kinds
 use Rattle.packed_ops.specs.declared.kinds.BlockKind.{BlockKind}
@@ -75,7 +74,7 @@ number_of (ops.FcTable code table) = 30
 number_of (ops.SimdMem code arg) = 31
 number_of (ops.SimdMemLane code arg lane) = 32
 
--- What an operator that names no entry and has no list is in a file, whatever the numbers of entries are; of others it says nothing.
+-- How an operator is written that is no block, names no entry and has no list: the numbers of entries don't change it. Of others it says nothing.
 unfoldable pub spelled_bytes : Op → List ℕ
 spelled_bytes (ops.Plain code) = code ∷ []
 spelled_bytes (ops.Label code label) = coded code label
@@ -95,7 +94,7 @@ spelled_bytes _ = []
 abbrev pub behind_length : List ℕ → List ℕ
 behind_length bytes = length bytes ∷ bytes
 
--- What it holds. Where it names no entry and has no list, that is its spelling in a file, which is the same whatever the numbers of entries are.
+-- What it holds. Where it is no block, names no entry and has no list, that is what is written for it, behind its length.
 unfoldable pub held_bytes : Op → List ℕ
 held_bytes (ops.Block code ty) = code ∷ packed_block ty
 held_bytes (ops.Tag code tag) = coded code tag.0
@@ -292,70 +291,75 @@ FitsU32 n = n < 2 ^ 32
 abbrev pub IsAny : {A : Type 0} → A → Type 0
 IsAny _ = Unit {0}
 
-abbrev pub FitsBlock : BlockType → Type 0
-FitsBlock (block_types.Index ty) = FitsU32 ty.0
-FitsBlock _ = ⊤
+abbrev pub HasWidthsBlock : BlockType → Type 0
+HasWidthsBlock (block_types.Index ty) = FitsU32 ty.0
+HasWidthsBlock _ = ⊤
 
-abbrev pub FitsCatch : Catch → Type 0
-FitsCatch (catches.Tag code tag label) = FitsU32 tag.0 × FitsU32 label
-FitsCatch (catches.All code label) = FitsU32 label
+abbrev pub HasWidthsCatch : Catch → Type 0
+HasWidthsCatch (catches.Tag code tag label) = FitsU32 tag.0 × FitsU32 label
+HasWidthsCatch (catches.All code label) = FitsU32 label
 
-abbrev pub FitsArg : MemArg → Type 0
-FitsArg arg = FitsU32 arg.align × FitsU32 arg.memory.0 × (arg.offset < 2 ^ 64)
+abbrev pub HasWidthsArg : MemArg → Type 0
+HasWidthsArg arg = FitsU32 arg.align × FitsU32 arg.memory.0 × (arg.offset < 2 ^ 64)
 
 -- The numbers that it holds have the widths of their types, its raw bytes are as many as there have to be, and 32 bits count its lists.
-abbrev pub FitsTypes : Op → Type 0
-FitsTypes (ops.Plain code) = ⊤
-FitsTypes (ops.Label code label) = FitsU32 label
-FitsTypes (ops.Local code local) = FitsU32 local
-FitsTypes (ops.Const32 n) = IsWithin (2 ^ 31) n
-FitsTypes (ops.Const64 n) = IsWithin (2 ^ 63) n
-FitsTypes (ops.Raw4 bytes) = length bytes ≡ 4
-FitsTypes (ops.Raw8 bytes) = length bytes ≡ 8
-FitsTypes (ops.RefNull ty) = ⊤
-FitsTypes (ops.FcPlain code) = FitsU32 code
-FitsTypes (ops.Simd code) = FitsU32 code
-FitsTypes (ops.SimdBytes code bytes) = FitsU32 code × (length bytes ≡ 16)
-FitsTypes (ops.SimdLane code lane) = FitsU32 code
-FitsTypes (ops.Block code ty) = FitsBlock ty
-FitsTypes (ops.Tag code tag) = FitsU32 tag.0
-FitsTypes (ops.BrTable labels label) = FitsU32 (length labels) × AllByRecursion FitsU32 labels × FitsU32 label
-FitsTypes (ops.Func code func) = FitsU32 func.0
-FitsTypes (ops.Indirect code ty table) = FitsU32 ty.0 × FitsU32 table.0
-FitsTypes (ops.Select types) = FitsU32 (length types)
-FitsTypes (ops.TryTable ty clauses) = FitsBlock ty × FitsU32 (length clauses) × AllByRecursion FitsCatch clauses
-FitsTypes (ops.Global code global) = FitsU32 global.0
-FitsTypes (ops.Table code table) = FitsU32 table.0
-FitsTypes (ops.Mem code arg) = FitsArg arg
-FitsTypes (ops.Memory code memory) = FitsU32 memory.0
-FitsTypes (ops.MemoryInit segment memory) = FitsU32 segment.0 × FitsU32 memory.0
-FitsTypes (ops.DataDrop segment) = FitsU32 segment.0
-FitsTypes (ops.MemoryCopy to from) = FitsU32 to.0 × FitsU32 from.0
-FitsTypes (ops.MemoryFill memory) = FitsU32 memory.0
-FitsTypes (ops.TableInit elem table) = FitsU32 elem.0 × FitsU32 table.0
-FitsTypes (ops.ElemDrop elem) = FitsU32 elem.0
-FitsTypes (ops.TableCopy to from) = FitsU32 to.0 × FitsU32 from.0
-FitsTypes (ops.FcTable code table) = FitsU32 code × FitsU32 table.0
-FitsTypes (ops.SimdMem code arg) = FitsU32 code × FitsArg arg
-FitsTypes (ops.SimdMemLane code arg lane) = FitsU32 code × FitsArg arg
+abbrev pub HasWidths : Op → Type 0
+HasWidths (ops.Plain code) = ⊤
+HasWidths (ops.Label code label) = FitsU32 label
+HasWidths (ops.Local code local) = FitsU32 local
+HasWidths (ops.Const32 n) = IsWithin (2 ^ 31) n
+HasWidths (ops.Const64 n) = IsWithin (2 ^ 63) n
+HasWidths (ops.Raw4 bytes) = length bytes ≡ 4
+HasWidths (ops.Raw8 bytes) = length bytes ≡ 8
+HasWidths (ops.RefNull ty) = ⊤
+HasWidths (ops.FcPlain code) = FitsU32 code
+HasWidths (ops.Simd code) = FitsU32 code
+HasWidths (ops.SimdBytes code bytes) = FitsU32 code × (length bytes ≡ 16)
+HasWidths (ops.SimdLane code lane) = FitsU32 code
+HasWidths (ops.Block code ty) = HasWidthsBlock ty
+HasWidths (ops.Tag code tag) = FitsU32 tag.0
+HasWidths (ops.BrTable labels label) = FitsU32 (length labels) × AllByRecursion FitsU32 labels × FitsU32 label
+HasWidths (ops.Func code func) = FitsU32 func.0
+HasWidths (ops.Indirect code ty table) = FitsU32 ty.0 × FitsU32 table.0
+HasWidths (ops.Select types) = FitsU32 (length types)
+HasWidths (ops.TryTable ty clauses) = HasWidthsBlock ty × FitsU32 (length clauses) × AllByRecursion HasWidthsCatch clauses
+HasWidths (ops.Global code global) = FitsU32 global.0
+HasWidths (ops.Table code table) = FitsU32 table.0
+HasWidths (ops.Mem code arg) = HasWidthsArg arg
+HasWidths (ops.Memory code memory) = FitsU32 memory.0
+HasWidths (ops.MemoryInit segment memory) = FitsU32 segment.0 × FitsU32 memory.0
+HasWidths (ops.DataDrop segment) = FitsU32 segment.0
+HasWidths (ops.MemoryCopy to from) = FitsU32 to.0 × FitsU32 from.0
+HasWidths (ops.MemoryFill memory) = FitsU32 memory.0
+HasWidths (ops.TableInit elem table) = FitsU32 elem.0 × FitsU32 table.0
+HasWidths (ops.ElemDrop elem) = FitsU32 elem.0
+HasWidths (ops.TableCopy to from) = FitsU32 to.0 × FitsU32 from.0
+HasWidths (ops.FcTable code table) = FitsU32 code × FitsU32 table.0
+HasWidths (ops.SimdMem code arg) = FitsU32 code × HasWidthsArg arg
+HasWidths (ops.SimdMemLane code arg lane) = FitsU32 code × HasWidthsArg arg
 
 -- the bytes are those of their operators
 pub record IsPacked (s : Input) : Type 0 where
   pub whole : s.bytes ≡ flat_map packed_bytes (ops_of s)
-  pub held : AllByRecursion FitsTypes (ops_of s)
+  pub held : AllByRecursion HasWidths (ops_of s)
 
 -- what a walk over operators gives: the first operator before those that are left, or none of none
 abbrev pub IsNextOp : Option Op → List Op → List Op → Type 0
 IsNextOp None from to = (from ≡ []) × (to ≡ [])
 IsNextOp (Some x) from to = from ≡ x ∷ to
 
--- the operators that are kept as a file has them
+-- the operators that are kept as they are written
 abbrev pub is_spelled : Op → Bool
 is_spelled x = nat_lt (number_of x) 12
 
--- What a walk gives where the first operator is kept as a file has it: its bytes there. Else the walk stays where it is.
+-- the first operator is one of these
+abbrev pub begins_spelled : List Op → Bool
+begins_spelled [] = false
+begins_spelled (x ∷ xs) = is_spelled x
+
+-- What a walk gives where the first operator is kept as it is written: its bytes. Only where it isn't, the walk stays where it is.
 abbrev pub IsNextSpelled : Option (List ℕ) → List Op → List Op → Type 0
-IsNextSpelled None from to = to ≡ from
+IsNextSpelled None from to = (to ≡ from) × (begins_spelled from ≡ false)
 IsNextSpelled (Some bytes) from to = (x : Op) × (from ≡ x ∷ to) × (is_spelled x ≡ true) × (bytes ≡ spelled_bytes x)
 
 -- such operators stand before what is left
@@ -364,8 +368,9 @@ pub record Passes (from to : List Op) : Type 0 where
   pub whole : from ≡ over ++ to
   pub spelled : AllByRecursion (λ x. is_spelled x ≡ true) over
 
--- what a walk gives that passes over such operators first
+-- what a walk gives that passes over all such operators first
 pub record IsNextOther (found : Option Op) (from to : List Op) : Type 0 where
   pub rest : List Op
   pub passes : Passes from rest
+  pub other : begins_spelled rest ≡ false
   pub next : IsNextOp found rest to

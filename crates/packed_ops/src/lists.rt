@@ -8,7 +8,7 @@ ghost use Rattle.wasm_bytes.specs.Numbers.{number32, number_bytes};
 ghost use Rattle.wasm_bytes.specs.Spelling.{list_bytes};
 ghost use Rattle.wasm_types.specs.Entries.{val_type};
 ghost use Rattle.wasm_types.specs.Spelling.{val_type_bytes};
-ghost use Rattle.packed_ops.specs.Packed.{packed_catch, unpacked_catch, unpacked_list, FitsU32, FitsCatch, IsAny};
+ghost use Rattle.packed_ops.specs.Packed.{packed_catch, unpacked_catch, unpacked_list, FitsU32, HasWidthsCatch, IsAny};
 
 use crate::packing::pack_catch;
 use crate::unpacking::{read_catch, read_val_type};
@@ -80,7 +80,7 @@ impl Item for Catch {
 
     ghost packed = { packed_catch };
 
-    ghost fits = { FitsCatch };
+    ghost fits = { HasWidthsCatch };
 
     fn read(reader: &mut Reader<'_>) -> Result<Catch, ReadFault> {
         read_catch(reader)

@@ -13,7 +13,7 @@ use values::Seq;
 use wasm_bytes::Reader;
 use wasm_ops::Op;
 
-/// Operators one after another. A contract sees their list; in memory they are bytes, at most twice as many as in a file.
+/// Operators one after another. A contract sees their list; in memory they are bytes, at most three times as many as in a file.
 #[derive(Drop)]
 pub struct Ops {
     bytes: Vec<u8>,
@@ -42,7 +42,7 @@ impl Ops {
         }
     }
 
-    /// Puts an operator behind the others. A long one is packed into `scratch` first, whose old content is dropped. Want of memory leaves these
+    /// Puts an operator behind the others. It may be packed into `scratch` first, whose old content is dropped then. Want of memory leaves these
     /// operators as they are; more than 4,294,967,295 labels, types or clauses in one operator come to want of memory.
     #[tactic(auto, using(crate::proofs::PackedAgain::packed_more))]
     pub fn push(&mut self, scratch: &mut Vec<u8>, op: &Op) -> Result<(), AllocError>
@@ -154,24 +154,29 @@ impl<'a> Walk<'a> {
         }
     }
 
-    /// What the next operator is in a file, where it is kept so: that of an operator that names no entry and has no list. Else the walk stays where it is.
+    /// The bytes of the next operator, where it is kept as it is written. Where it isn't, or there is none, the walk stays where it is.
     #[tactic(auto, using(crate::proofs::PackedAgain::spelled_walked))]
     pub fn next_spelled(&mut self) -> Option<&'a [u8]>
         ensures { IsNextSpelled (option_copied result) self.old self.new }
     {
-        match self.bytes {
-            [number, len, rest @ ..] if *number < 12 && *len as usize <= rest.len() => {
-                let (spelled, left) = rest.split_at(*len as usize);
-                self.bytes = left;
-                Some(spelled)
-            }
-            _ => None,
+        if self.bytes.len() < 2 {
+            return None;
         }
+        let (head, rest) = self.bytes.split_at(2);
+        let len = head[1] as usize;
+        if head[0] >= 12 || len > rest.len() {
+            return None;
+        }
+        let (spelled, left) = rest.split_at(len);
+        self.bytes = left;
+        Some(spelled)
     }
 
-    /// The next operator that isn't kept as a file has it; those before it are passed over, none of which names an entry.
+    /// The next operator that isn't kept as it is written, none behind the last; those before it are passed over, none of which names an
+    /// entry. A list inside it takes memory; where that is missing, no operators are left.
     pub fn next_other(&mut self) -> Result<Option<Op>, AllocError>
-        ensures { IfOk result (λ found. IsNextOther found self.old self.new) }
+        ensures ok { IfOk result (λ found. IsNextOther found self.old self.new) }
+        ensures err { IfErr result (λ e. self.new ≡ []) }
     {
         loop {
             match self.next_spelled() {

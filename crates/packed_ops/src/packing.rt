@@ -5,7 +5,7 @@ ghost use Rattle.wasm_bytes.specs.Numbers.{number_bytes};
 ghost use Rattle.wasm_bytes.specs.Signed.{signed_bytes};
 ghost use Rattle.wasm_ops.specs.declared.ops.Op.TheVariants as ops;
 ghost use Rattle.wasm_ops.specs.Spelling.{coded};
-ghost use Rattle.packed_ops.specs.Packed.{behind_length, packed_block, packed_catch, packed_arg, packed_two, packed_bytes, FitsBlock, FitsCatch, FitsArg, FitsTypes, FitsU32};
+ghost use Rattle.packed_ops.specs.Packed.{behind_length, packed_block, packed_catch, packed_arg, packed_two, packed_bytes, HasWidthsBlock, HasWidthsCatch, HasWidthsArg, HasWidths, FitsU32};
 
 use crate::lists::pack_list;
 use std::alloc::AllocError;
@@ -19,7 +19,7 @@ use wasm_types::ValType;
 #[tactic(auto, unfolding(crate::specs::Packed::packed_block, wasm_types::specs::Spelling::val_type_bytes))]
 fn pack_block(out: &mut Vec<u8>, ty: BlockType) -> Result<(), AllocError>
     ensures bytes { OnOk result (out.new.items ≡ out.old.items ++ packed_block ty) }
-    ensures fits { FitsBlock ty }
+    ensures fits { HasWidthsBlock ty }
 {
     match ty {
         BlockType::Empty => push_bytes(out, 0, &[]),
@@ -31,7 +31,7 @@ fn pack_block(out: &mut Vec<u8>, ty: BlockType) -> Result<(), AllocError>
 #[tactic(auto, unfolding(crate::specs::Packed::packed_catch))]
 pub(crate) fn pack_catch(out: &mut Vec<u8>, clause: Catch) -> Result<(), AllocError>
     ensures bytes { OnOk result (out.new.items ≡ out.old.items ++ packed_catch clause) }
-    ensures fits { OnOk result (FitsCatch clause) }
+    ensures fits { OnOk result (HasWidthsCatch clause) }
 {
     match clause {
         Catch::Tag(code, tag, label) => {
@@ -48,7 +48,7 @@ pub(crate) fn pack_catch(out: &mut Vec<u8>, clause: Catch) -> Result<(), AllocEr
 #[tactic(auto, unfolding(crate::specs::Packed::packed_arg))]
 fn pack_arg(out: &mut Vec<u8>, arg: MemArg) -> Result<(), AllocError>
     ensures bytes { OnOk result (out.new.items ≡ out.old.items ++ packed_arg arg) }
-    ensures fits { FitsArg arg }
+    ensures fits { HasWidthsArg arg }
 {
     push_u32(out, arg.align)?;
     push_u32(out, arg.memory.0)?;
@@ -97,7 +97,7 @@ fn pack_coded_block(
     ty: BlockType,
 ) -> Result<(), AllocError>
     ensures bytes { OnOk result (out.new.items ≡ out.old.items ++ number ∷ code ∷ packed_block ty) }
-    ensures fits { FitsBlock ty }
+    ensures fits { HasWidthsBlock ty }
 {
     push_bytes(out, number, &[code])?;
     pack_block(out, ty)
@@ -106,7 +106,7 @@ fn pack_coded_block(
 /// Appends two bytes and a memory argument.
 fn pack_coded_arg(out: &mut Vec<u8>, number: u8, code: u8, arg: MemArg) -> Result<(), AllocError>
     ensures bytes { OnOk result (out.new.items ≡ out.old.items ++ number ∷ code ∷ packed_arg arg) }
-    ensures fits { FitsArg arg }
+    ensures fits { HasWidthsArg arg }
 {
     push_bytes(out, number, &[code])?;
     pack_arg(out, arg)
@@ -121,7 +121,7 @@ fn pack_numbered_arg(
     lane: &[u8],
 ) -> Result<(), AllocError>
     ensures bytes { OnOk result (out.new.items ≡ out.old.items ++ number ∷ (number_bytes code ++ (packed_arg arg ++ lane.now))) }
-    ensures fits { FitsArg arg }
+    ensures fits { HasWidthsArg arg }
 {
     push_coded(out, number, code)?;
     pack_arg(out, arg)?;
@@ -172,7 +172,7 @@ fn pack_vector(out: &mut Vec<u8>, number: u8, code: u32, bytes: &[u8]) -> Result
 #[tactic(auto, unfolding(crate::specs::Packed::held_bytes))]
 fn pack_br_table(out: &mut Vec<u8>, labels: &[u32], label: u32) -> Result<(), AllocError>
     ensures bytes { OnOk result (out.new.items ≡ out.old.items ++ packed_bytes (ops.BrTable labels.now label)) }
-    ensures fits { OnOk result (FitsTypes (ops.BrTable labels.now label)) }
+    ensures fits { OnOk result (HasWidths (ops.BrTable labels.now label)) }
 {
     out.push(14)?;
     pack_list(labels, out)?;
@@ -183,7 +183,7 @@ fn pack_br_table(out: &mut Vec<u8>, labels: &[u32], label: u32) -> Result<(), Al
 #[tactic(auto, unfolding(crate::specs::Packed::held_bytes))]
 fn pack_select(out: &mut Vec<u8>, types: &[ValType]) -> Result<(), AllocError>
     ensures bytes { OnOk result (out.new.items ≡ out.old.items ++ packed_bytes (ops.Select types.now)) }
-    ensures fits { OnOk result (FitsTypes (ops.Select types.now)) }
+    ensures fits { OnOk result (HasWidths (ops.Select types.now)) }
 {
     out.push(17)?;
     pack_list(types, out)
@@ -193,19 +193,19 @@ fn pack_select(out: &mut Vec<u8>, types: &[ValType]) -> Result<(), AllocError>
 #[tactic(auto, unfolding(crate::specs::Packed::held_bytes))]
 fn pack_try_table(out: &mut Vec<u8>, ty: BlockType, clauses: &[Catch]) -> Result<(), AllocError>
     ensures bytes { OnOk result (out.new.items ≡ out.old.items ++ packed_bytes (ops.TryTable ty clauses.now)) }
-    ensures fits { OnOk result (FitsTypes (ops.TryTable ty clauses.now)) }
+    ensures fits { OnOk result (HasWidths (ops.TryTable ty clauses.now)) }
 {
     out.push(18)?;
     pack_block(out, ty)?;
     pack_list(clauses, out)
 }
 
-/// Appends an operator in one piece, where it has at most four bytes: one without operands, a label or a local below 128. Answers whether
-/// it is such a one; nothing is appended where it isn't, or where memory is wanting.
+/// Appends an operator of three or four bytes in one piece: one without operands, or with a label or a local below 128. Answers whether it
+/// did; nothing is appended where it didn't, or where memory is wanting.
 #[tactic(auto, unfolding(crate::specs::Packed::held_bytes, crate::specs::Packed::spelled_bytes), using(crate::proofs::Short::short_number))]
 pub(crate) fn pack_short(out: &mut Vec<u8>, op: &Op) -> Result<bool, AllocError>
     ensures bytes { IfOk result (λ short. out.new.items ≡ out.old.items ++ (if short then packed_bytes op.now else [])) }
-    ensures fits { IfOk result (λ short. short ≡ true → FitsTypes op.now) }
+    ensures fits { IfOk result (λ short. short ≡ true → HasWidths op.now) }
     ensures err { OnErr result (out.new.items ≡ out.old.items) }
 {
     match *op {
@@ -221,7 +221,7 @@ pub(crate) fn pack_short(out: &mut Vec<u8>, op: &Op) -> Result<bool, AllocError>
 #[tactic(auto, unfolding(crate::specs::Packed::held_bytes, crate::specs::Packed::spelled_bytes, wasm_types::specs::Spelling::val_type_bytes))]
 pub(crate) fn pack_op(out: &mut Vec<u8>, op: &Op) -> Result<(), AllocError>
     ensures bytes { OnOk result (out.new.items ≡ out.old.items ++ packed_bytes op.now) }
-    ensures fits { OnOk result (FitsTypes op.now) }
+    ensures fits { OnOk result (HasWidths op.now) }
 {
     match *op {
         Op::Plain(code) => push_bytes(out, 0, &[1, code]),

@@ -130,3 +130,87 @@ fn a_walk_ends_behind_the_last(rt: HostRuntime) -> Result<(), AllocError> {
         "Some(Local(32, 300)) Some(Plain(26)) None None",
     )
 }
+
+/// The bytes of the first operator, where it is kept as it is written, and the operator behind it, or else the first one.
+fn spelled(alloc: Global, ops: &[Op]) -> Result<String, AllocError> {
+    let ops = Ops::pack(alloc, ops)?;
+    let mut walk = ops.walk();
+    let bytes = walk.next_spelled();
+    let next = walk.next()?;
+    format!(in alloc; "{bytes:?} {next:?}")
+}
+
+/// The same of each list of operators.
+fn assert_spelled<H: Abort>(
+    rt: &H,
+    alloc: Global,
+    cases: &[(&[Op], &str)],
+) -> Result<(), AllocError> {
+    for (ops, want) in cases {
+        assert_told(rt, spelled(alloc, ops), want)?;
+    }
+    Ok(())
+}
+
+#[test]
+fn what_names_no_entry_is_kept_as_it_is_written(rt: HostRuntime) -> Result<(), AllocError> {
+    assert_spelled(
+        &rt,
+        rt.alloc(),
+        &[
+            (&[Op::Plain(0x6A)], "Some([106]) None"),
+            (&[Op::Label(0x0C, 300)], "Some([12, 172, 2]) None"),
+            (&[Op::Local(0x20, 0)], "Some([32, 0]) None"),
+            (&[Op::Const32(-1)], "Some([65, 127]) None"),
+            (&[Op::Const64(64)], "Some([66, 192, 0]) None"),
+            (&[Op::Raw4([1, 2, 3, 4])], "Some([67, 1, 2, 3, 4]) None"),
+            (
+                &[Op::Raw8([1, 2, 3, 4, 5, 6, 7, 8])],
+                "Some([68, 1, 2, 3, 4, 5, 6, 7, 8]) None",
+            ),
+            (&[Op::RefNull(ValType::FuncRef)], "Some([208, 112]) None"),
+            (&[Op::FcPlain(7)], "Some([252, 7]) None"),
+            (&[Op::Simd(300)], "Some([253, 172, 2]) None"),
+            (&[Op::SimdLane(21, 3)], "Some([253, 21, 3]) None"),
+            (
+                &[Op::SimdBytes(12, [9; 16])],
+                "Some([253, 12, 9, 9, 9, 9, 9, 9, 9, 9, 9, 9, 9, 9, 9, 9, 9, 9]) None",
+            ),
+            (
+                &[Op::Func(0x10, FuncId(1))],
+                "None Some(Func(16, FuncId(1)))",
+            ),
+            (
+                &[Op::Block(0x02, BlockType::Empty)],
+                "None Some(Block(2, Empty))",
+            ),
+            (&[], "None None"),
+        ],
+    )
+}
+
+/// The first three operators that aren't kept as they are written.
+fn others_of(alloc: Global, ops: &[Op]) -> Result<String, AllocError> {
+    let ops = Ops::pack(alloc, ops)?;
+    let mut walk = ops.walk();
+    let first = walk.next_other()?;
+    let second = walk.next_other()?;
+    let third = walk.next_other()?;
+    format!(in alloc; "{first:?} {second:?} {third:?}")
+}
+
+#[test]
+fn a_walk_passes_over_what_names_no_entry(rt: HostRuntime) -> Result<(), AllocError> {
+    let ops = [
+        Op::Local(0x20, 1),
+        Op::Func(0x10, FuncId(2)),
+        Op::Plain(0x1A),
+        Op::Global(0x23, GlobalId(3)),
+        Op::Plain(0x0B),
+    ];
+    assert_told(
+        &rt,
+        others_of(rt.alloc(), &ops),
+        "Some(Func(16, FuncId(2))) Some(Global(35, GlobalId(3))) None",
+    )
+}

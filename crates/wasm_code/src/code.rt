@@ -69,7 +69,7 @@ fn read_next_op(
 }
 
 /// Reads an operator that leaves the open blocks as they are, one without operands or of a local, and puts it behind the others. Answers
-/// whether the next one is such a one; nothing is read where it isn't.
+/// whether it did; nothing is read where it didn't.
 #[tactic(auto, unfolding(crate::specs::Code::next_op, crate::specs::Code::op))]
 fn read_on(
     ops: &mut Ops,

@@ -8,8 +8,9 @@ use std::alloc::{AllocError, Global};
 use std::marker::Model;
 use wasm_bytes::push_number;
 
-/// The id and the content of a section. A contract sees these two. The content stands in two parts, a head and the
-/// entries behind it: the count of entries that stand already is put into the head, and they aren't copied.
+/// The id and the content of a section (WebAssembly core specification, 5.5.2). A contract sees these two. The content is
+/// kept in two buffers, one behind the other, so that a count or a front comes before bytes that are there already without
+/// copying them.
 #[derive(Drop)]
 pub struct SectionContent {
     id: u8,

@@ -282,7 +282,8 @@ fn emit_section(
     Ok(())
 }
 
-/// Appends sections up to the first whose content has more bytes than so many. Each is dropped when it is written.
+/// Appends sections, each of which is dropped when it is written. `TooLarge` where the content of one has more bytes than so
+/// many, with the id of the first such section, behind those before it.
 pub fn emit_sections(
     out: &mut Vec<u8>,
     longest: usize,

@@ -3,8 +3,8 @@
 //! `Module::parse` gives exactly the module that `module_of` gives, or the place of the first fault, `Module::emit`
 //! exactly the bytes that `bytes_of` gives, or the first section that is too long, and each editing call exactly the
 //! module that its definition in `Edits` gives, unless memory runs out. `Module::collect` keeps exactly what can be
-//! reached (`IsCollected` in `Reach`). It stands on `wasm_reach`, `wasm_file`, `wasm_code`, `packed_ops`, `wasm_ops`,
-//! `wasm_types`, `wasm_bytes` and `values`.
+//! reached (`IsCollected` in `Reach`). It stands on `least_set`, `wasm_reach`, `wasm_file`, `wasm_code`,
+//! `packed_ops`, `wasm_ops`, `wasm_types`, `wasm_bytes` and `values`.
 #![tactic(auto)]
 
 mod added;

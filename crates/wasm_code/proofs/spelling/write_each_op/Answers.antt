@@ -18,5 +18,5 @@ loop-bytes-preserved-in-Continue-1 c =
 pub returns-in-None-2 : goal.returns-in-None-2
 returns-in-None-2 c =
     let f = λ (op : Op). op_bytes (renumbered_op c.args.numbers.now op) in
-    let none = sym c.in-None.ensures ∙ (rw c.in-None-2.is at c.in_ok-op-in-None.ensures.ok).0 in
+    let none = sym c.in-None.ensures.0 ∙ (rw c.in-None-2.is at c.in_ok-op-in-None.ensures.ok).0 in
     walked_all f c.loop-bytes.walk c.args.out.now.items c.loop-bytes.out.items (flat_map f c.args.ops.now) none c.loop-bytes.invariant ∙ ap (λ l. c.args.out.now.items ++ l) (sym (flat_map-map op_bytes (renumbered_op c.args.numbers.now) c.args.ops.now))

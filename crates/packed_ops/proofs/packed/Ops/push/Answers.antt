@@ -1,5 +1,4 @@
 use Rattle.std.proofs.Common.{◌≡◌, ◌++◌, refl, append-nil}
-use Rattle.wasm_bytes.specs.Reading.{Input}
 use Rattle.packed_ops.specs.Packed.{packed_bytes}
 use Rattle.packed_ops.proofs.PackedAgain.{packed_more}
 use Rattle.packed_ops.proofs.packed.Ops.push.Goals as goal

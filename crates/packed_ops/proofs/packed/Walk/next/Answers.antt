@@ -1,4 +1,3 @@
-use Rattle.std.proofs.Common.{◌≡◌}
 use Rattle.packed_ops.proofs.PackedAgain.{walked}
 use Rattle.packed_ops.proofs.packed.Walk.next.Goals as goal
 
