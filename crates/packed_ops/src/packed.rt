@@ -65,7 +65,8 @@ impl Ops {
         self.bytes.shrink_to_fit();
     }
 
-    /// These operators, packed.
+    /// These operators, packed. The only error is want of memory; more than 4,294,967,295 labels, types or clauses in one operator
+    /// come to it.
     pub fn pack(alloc: Global, list: &[Op]) -> Result<Ops, AllocError>
         ensures { IfOk result (λ ops. ops ≡ list.now) }
     {
@@ -77,7 +78,7 @@ impl Ops {
         Ok(ops)
     }
 
-    /// The list of the operators.
+    /// The list of the operators. The only error is want of memory.
     pub fn unpack(&self, alloc: Global) -> Result<Seq<Op>, AllocError>
         ensures { IfOk result (λ list. list ≡ self.now) }
     {
@@ -132,7 +133,7 @@ impl<'a> Model for Walk<'a> {
 }
 
 impl<'a> Walk<'a> {
-    /// The next operator, none behind the last. A list inside it takes memory; where that is missing, no operators are left.
+    /// The next operator, none behind the last. A list inside it takes memory: want of it is the only error, and then no operators are left.
     #[tactic(auto, using(crate::proofs::PackedAgain::packed_empty, crate::proofs::PackedAgain::packed_none, crate::proofs::PackedAgain::walked))]
     pub fn next(&mut self) -> Result<Option<Op>, AllocError>
         ensures ok { IfOk result (λ found. IsNextOp found self.old self.new) }
@@ -173,7 +174,7 @@ impl<'a> Walk<'a> {
     }
 
     /// The next operator that isn't kept as it is written, none behind the last; those before it are passed over, none of which names an
-    /// entry. A list inside it takes memory; where that is missing, no operators are left.
+    /// entry. A list inside it takes memory: want of it is the only error, and then no operators are left.
     pub fn next_other(&mut self) -> Result<Option<Op>, AllocError>
         ensures ok { IfOk result (λ found. IsNextOther found self.old self.new) }
         ensures err { IfErr result (λ e. self.new ≡ []) }

@@ -168,7 +168,7 @@ fn read_initial_by(
     })
 }
 
-/// An initial expression, without the 0B that ends it.
+/// An initial expression, without the 0B that ends it. An error is the place of the first fault, or want of memory.
 pub fn read_initial(
     reader: &mut Reader<'_>,
     alloc: Global,
@@ -180,7 +180,7 @@ pub fn read_initial(
     read_initial_by(&mut scratch, reader, alloc, counts)
 }
 
-/// Initial expressions, so many.
+/// Initial expressions, so many. An error is the place of the first fault, or want of memory.
 pub fn read_initials(
     count: u32,
     reader: &mut Reader<'_>,
@@ -220,7 +220,7 @@ fn read_body(
     Ok(Body { locals, ops })
 }
 
-/// A body behind its length, of a function with so many parameters.
+/// A body behind its length, of a function with so many parameters. An error is the place of the first fault, or want of memory.
 #[tactic(auto, unfolding(crate::specs::Code::code_entry))]
 pub fn read_code_entry(
     reader: &mut Reader<'_>,

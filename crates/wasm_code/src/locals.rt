@@ -44,7 +44,8 @@ fn read_run(
     Ok((count, ty))
 }
 
-/// So many runs behind `total` parameters and locals, which then counts the runs too.
+/// So many runs behind `total` parameters and locals, which then counts the runs too. An error is the place of the first fault, or want
+/// of memory.
 pub fn read_runs(
     count: u32,
     reader: &mut Reader<'_>,
@@ -99,7 +100,7 @@ fn add_run(
     }
 }
 
-/// The runs that have locals, where neighbours of one type are joined.
+/// The runs that have locals, where neighbours of one type are joined. The only error is want of memory.
 pub fn join_runs(alloc: Global, runs: &[(u32, ValType)]) -> Result<Seq<(u32, ValType)>, AllocError>
     ensures { IfOk result (λ rs. rs ≡ joined_runs runs.now) }
 {

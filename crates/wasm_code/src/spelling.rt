@@ -32,7 +32,7 @@ fn write_each_op(out: &mut Vec<u8>, numbers: &Numbering, ops: &Ops) -> Result<()
     }
 }
 
-/// Appends operators with the numbers of what they name, and the one that ends them.
+/// Appends operators with the numbers of what they name, and the one that ends them. The only error is want of memory.
 #[tactic(auto, unfolding(crate::specs::Spelling::expression_bytes))]
 pub fn write_expression(out: &mut Vec<u8>, numbers: &Numbering, ops: &Ops) -> Result<(), AllocError>
     ensures { OnOk result (out.new.items ≡ out.old.items ++ expression_bytes (renumbered_ops numbers.now ops.now)) }
@@ -71,7 +71,7 @@ fn write_runs(out: &mut Vec<u8>, alloc: Global, runs: &[(u32, ValType)]) -> Resu
     write_each_run(out, joined.as_slice())
 }
 
-/// Appends a body behind its length, with the numbers of what it names.
+/// Appends a body behind its length, with the numbers of what it names. The only error is want of memory.
 #[tactic(auto, unfolding(crate::specs::Spelling::code_bytes, crate::specs::Spelling::body_bytes))]
 pub fn write_code(
     out: &mut Vec<u8>,

@@ -202,7 +202,7 @@ fn read_mem_arg(
     })
 }
 
-/// Raw bytes, as many as the array holds.
+/// Raw bytes, as many as the array holds. An error is the place of the first fault, or want of memory.
 pub fn read_array<const N: usize>(reader: &mut Reader<'_>) -> Result<[u8; N], ReadFault>
     ensures { Gives result reader.new (raw N reader.old) }
 {
@@ -371,7 +371,8 @@ fn read_try_table(
     Ok(Op::TryTable(ty, read_each_catch(count, reader, alloc, counts, blocks)?))
 }
 
-/// What follows an opcode of this shape, where labels can name so many open blocks.
+/// What follows an opcode of this shape, where labels can name so many open blocks. An error is the place of the first
+/// fault, or want of memory.
 #[tactic(auto, unfolding(crate::specs::Operands::operands))]
 pub fn read_operands(
     reader: &mut Reader<'_>,

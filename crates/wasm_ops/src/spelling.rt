@@ -25,7 +25,7 @@ pub fn number_at(numbers: &Seq<u32>, place: u32) -> u32
     }
 }
 
-/// Appends a byte and a number.
+/// Appends a byte and a number. The only error is want of memory.
 pub fn push_coded(out: &mut Vec<u8>, code: u8, number: u32) -> Result<(), AllocError>
     ensures { OnOk result (out.new.items ≡ out.old.items ++ coded code number) }
 {
@@ -33,7 +33,7 @@ pub fn push_coded(out: &mut Vec<u8>, code: u8, number: u32) -> Result<(), AllocE
     push_u32(out, number)
 }
 
-/// Appends a byte and two numbers.
+/// Appends a byte and two numbers. The only error is want of memory.
 pub fn push_coded_pair(
     out: &mut Vec<u8>,
     code: u8,
@@ -159,7 +159,7 @@ fn write_simd_mem(
     out.extend_from_slice(lane)
 }
 
-/// Appends a byte, a number and raw bytes.
+/// Appends a byte, a number and raw bytes. The only error is want of memory.
 pub fn push_coded_bytes(
     out: &mut Vec<u8>,
     code: u8,
@@ -172,7 +172,7 @@ pub fn push_coded_bytes(
     out.extend_from_slice(bytes)
 }
 
-/// Appends a byte and raw bytes.
+/// Appends a byte and raw bytes. The only error is want of memory.
 pub fn push_bytes(out: &mut Vec<u8>, code: u8, bytes: &[u8]) -> Result<(), AllocError>
     ensures { OnOk result (out.new.items ≡ out.old.items ++ code ∷ bytes.now) }
 {
@@ -250,7 +250,7 @@ fn write_mem(
     write_mem_arg(out, numbers, arg)
 }
 
-/// Appends an opcode and a number with a sign.
+/// Appends an opcode and a number with a sign. The only error is want of memory.
 pub fn push_coded_signed(out: &mut Vec<u8>, code: u8, value: i64) -> Result<(), AllocError>
     ensures { OnOk result (out.new.items ≡ out.old.items ++ code ∷ signed_bytes value) }
 {
@@ -258,7 +258,7 @@ pub fn push_coded_signed(out: &mut Vec<u8>, code: u8, value: i64) -> Result<(), 
     push_i64(out, value)
 }
 
-/// Appends an operator with the numbers of what it names.
+/// Appends an operator with the numbers of what it names. The only error is want of memory.
 #[tactic(auto, unfolding(crate::specs::Spelling::op_bytes, wasm_types::specs::Spelling::val_type_bytes, crate::specs::Numbers::renumbered_op))]
 pub fn write_op(out: &mut Vec<u8>, numbers: &Numbering, op: &Op) -> Result<(), AllocError>
     ensures { OnOk result (out.new.items ≡ out.old.items ++ op_bytes (renumbered_op numbers.now op.now)) }

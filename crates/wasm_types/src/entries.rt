@@ -27,7 +27,7 @@ impl Entry for ValType {
     }
 }
 
-/// A value type that is one of references.
+/// A value type that is one of references. An error is the place of the first fault, or want of memory.
 #[tactic(auto, unfolding(crate::specs::Entries::ref_type))]
 pub fn read_ref_type(
     reader: &mut Reader<'_>,
