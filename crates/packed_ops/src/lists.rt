@@ -11,12 +11,12 @@ ghost use Rattle.wasm_types.specs.Spelling.{val_type_bytes};
 ghost use Rattle.packed_ops.specs.Packed.{packed_catch, unpacked_catch, unpacked_list, FitsU32, HasWidthsCatch, IsAny};
 
 use crate::packing::pack_catch;
-use crate::unpacking::{read_catch, read_val_type};
+use crate::unpacking::read_catch;
 use std::alloc::{AllocError, Global};
 use values::Seq;
 use wasm_bytes::{ReadFault, Reader, push_u32};
 use wasm_ops::Catch;
-use wasm_types::ValType;
+use wasm_types::{ValType, read_val_type};
 
 /// What can stand in a list that is kept packed.
 pub(crate) trait Item: Sized + Drop {

@@ -4,7 +4,6 @@ ghost use Rattle.std.specs.Prelude.{◌≡◌};
 ghost use Rattle.wasm_bytes.specs.Gives.{Gives};
 ghost use Rattle.wasm_bytes.specs.Reading.{byte, raw};
 ghost use Rattle.wasm_bytes.specs.Numbers.{number32, number64};
-ghost use Rattle.wasm_types.specs.Entries.{val_type};
 ghost use Rattle.packed_ops.specs.Packed.{both, one_byte, two_bytes, block_as, unpacked_block, unpacked_catch_as, unpacked_catch, unpacked_arg, unpacked_list, held_as, unpacked_op};
 
 use crate::kinds::{BlockKind, Kind, block_kind_of, kind_of};
@@ -13,7 +12,9 @@ use std::alloc::Global;
 use values::Seq;
 use wasm_bytes::{ReadFault, Reader};
 use wasm_ops::{BlockType, Catch, MemArg, Op, read_array};
-use wasm_types::{DataId, ElemId, FuncId, GlobalId, MemoryId, TableId, TagId, TypeId, ValType};
+use wasm_types::{
+    DataId, ElemId, FuncId, GlobalId, MemoryId, TableId, TagId, TypeId, read_val_type,
+};
 
 /// A byte and a number.
 fn read_coded(reader: &mut Reader<'_>) -> Result<(u8, u32), ReadFault>
@@ -57,18 +58,6 @@ fn skip_two(reader: &mut Reader<'_>) -> Result<(), ReadFault>
     reader.byte()?;
     reader.byte()?;
     Ok(())
-}
-
-/// A value type.
-#[tactic(auto, unfolding(wasm_types::specs::Entries::val_type))]
-pub(crate) fn read_val_type(reader: &mut Reader<'_>) -> Result<ValType, ReadFault>
-    ensures { Gives result reader.new (val_type reader.old) }
-{
-    let place = reader.place();
-    match ValType::from_code(reader.byte()?) {
-        Some(ty) => Ok(ty),
-        None => Err(ReadFault::Parse { place }),
-    }
 }
 
 /// What a variant of block types holds.

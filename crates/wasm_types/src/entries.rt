@@ -10,20 +10,27 @@ use crate::types::{FuncType, ValType};
 use std::alloc::Global;
 use wasm_bytes::{Counts, Entry, ReadFault, Reader, read_entries, read_exactly, read_index};
 
+/// A value type. An error is the place of the first fault, or want of memory.
+#[tactic(auto, unfolding(crate::specs::Entries::val_type))]
+pub fn read_val_type(reader: &mut Reader<'_>) -> Result<ValType, ReadFault>
+    ensures { Gives result reader.new (val_type reader.old) }
+{
+    let place = reader.place();
+    match ValType::from_code(reader.byte()?) {
+        Some(ty) => Ok(ty),
+        None => Err(ReadFault::Parse { place }),
+    }
+}
+
 impl Entry for ValType {
     ghost grammar = { λ _. val_type };
 
-    #[tactic(auto, unfolding(crate::specs::Entries::val_type))]
     fn read(
         reader: &mut Reader<'_>,
         _alloc: Global,
         _counts: &Counts,
     ) -> Result<ValType, ReadFault> {
-        let place = reader.place();
-        match ValType::from_code(reader.byte()?) {
-            Some(ty) => Ok(ty),
-            None => Err(ReadFault::Parse { place }),
-        }
+        read_val_type(reader)
     }
 }
 

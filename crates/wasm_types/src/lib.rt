@@ -12,7 +12,7 @@ mod ids;
 mod spelling;
 mod types;
 
-pub use entries::read_ref_type;
+pub use entries::{read_ref_type, read_val_type};
 pub use ids::{
     DataId, ElemId, ExportId, FuncId, GlobalId, ImportId, MemoryId, TableId, TagId, TypeId,
 };
