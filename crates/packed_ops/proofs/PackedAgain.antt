@@ -11,6 +11,7 @@ use Rattle.wasm_bytes.specs.Spelling.{list_bytes}
 use Rattle.wasm_bytes.specs.Reads.{Reads}
 use Rattle.wasm_bytes.proofs.ReadAgain.{reads_pure, reads_bind, reads_end, reads_byte, reads_raw, reads_meant, reads_list, number32_again, number64_again, signed32_again, signed64_again}
 use Rattle.wasm_ops.proofs.Written.{all_more}
+pub use Rattle.wasm_ops.proofs.Written.{all_any}
 use Rattle.wasm_ops.specs.Spelling.{coded}
 use Rattle.wasm_types.proofs.TypesAgain.{val_type_again}
 use Rattle.packed_ops.specs.declared.kinds.Kind.{Kind}
@@ -54,10 +55,6 @@ arg_again arg h = reads_bind _ (number32_again arg.align h.0) (reads_bind _ (num
 list_again : {A : Type 0} (P : A → Type 0) {item : Input → Result (A × Input) ℕ} {spell : A → List ℕ} → ((x : A) → P x → Reads item (spell x) x) → (xs : List A) → FitsU32 (length xs) → AllByRecursion P xs → Reads (unpacked_list item) (list_bytes spell xs) xs
 unfolding unpacked_list
 list_again P again xs few all = reads_list P again xs few all
-
-pub all_any : {A : Type 0} (xs : List A) → AllByRecursion (λ _. Unit {0}) xs
-all_any [] = tt
-all_any (x ∷ xs) = (tt, all_any xs)
 
 coded_again : (code n : ℕ) → FitsU32 n → Reads (both byte number32) (coded code n) (code, n)
 coded_again code n h = both_again (reads_byte code) (number32_again n h)

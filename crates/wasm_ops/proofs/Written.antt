@@ -11,6 +11,10 @@ written f xs i x d before old new lt is one so_far =
 pub all_written : {A : Type 0} (f : A → List ℕ) (xs : List A) (i : ℕ) (before new : List ℕ) → length xs ≤ i → new ≡ before ++ flat_map f (take i xs) → new ≡ before ++ flat_map f xs
 all_written f xs i before new le so_far = so_far ∙ ap (λ l. before ++ flat_map f l) (take_all i xs le)
 
+pub all_any : {A : Type 0} (xs : List A) → AllByRecursion (λ _. Unit {0}) xs
+all_any [] = tt
+all_any (x ∷ xs) = (tt, all_any xs)
+
 pub all_more : {A : Type 0} (P : A → Type 0) (xs : List A) (x : A) → AllByRecursion P xs → P x → AllByRecursion P (xs ++ x ∷ [])
 all_more P [] x all h = (h, tt)
 all_more P (y ∷ ys) x all h = (all.0, all_more P ys x all.1 h)
