@@ -1,5 +1,5 @@
 -- What is kept packed is read as what it was.
-use Rattle.std.proofs.Common.{◌≡◌, ℕ, zero, suc, ◌+◌, ◌<◌, ◌≤◌, List, [], ◌∷◌, ◌++◌, length, take, drop, get_or, false, inl, inr, Some, Result, Ok, refl, sym, ap, subst, append-nil, ◌∙◌, arith}
+use Rattle.std.proofs.Common.{◌≡◌, ℕ, zero, suc, ◌+◌, ◌<◌, ◌≤◌, List, [], ◌∷◌, ◌++◌, length, take, drop, get_or, true, false, inl, inr, Some, Result, Ok, refl, sym, ap, subst, append-nil, ◌∙◌, arith}
 use Rattle.std.specs.List.{flat_map, AllByRecursion}
 use Rattle.std.proofs.lemmas.Bool.{lt-ltb, cases_Bool}
 use Rattle.std.proofs.lemmas.List.{length-append, take_at, drop_at}
@@ -14,6 +14,7 @@ use Rattle.wasm_ops.proofs.Written.{all_more}
 pub use Rattle.wasm_ops.proofs.Written.{all_any}
 use Rattle.wasm_ops.specs.Spelling.{coded}
 use Rattle.wasm_types.proofs.TypesAgain.{val_type_again}
+use Rattle.packed_ops.proofs.Spelled.{by_spelled}
 use Rattle.packed_ops.specs.declared.kinds.Kind.{Kind}
 use Rattle.packed_ops.specs.declared.kinds.Kind.TheVariants as kinds
 use Rattle.packed_ops.specs.declared.kinds.BlockKind.{BlockKind}
@@ -169,48 +170,29 @@ walked s t u x h is left =
 
 -- ---- operators that are kept as they are written
 
-held_spelled : (x : Op) → number_of x < 12 → held_bytes x ≡ behind_length (spelled_bytes x)
+held_spelled : (x : Op) → is_spelled x ≡ true → held_bytes x ≡ behind_length (spelled_bytes x)
 unfolding held_bytes
-held_spelled (ops.Plain code) lt = refl
-held_spelled (ops.Label code label) lt = refl
-held_spelled (ops.Local code local) lt = refl
-held_spelled (ops.Const32 n) lt = refl
-held_spelled (ops.Const64 n) lt = refl
-held_spelled (ops.Raw4 bytes) lt = refl
-held_spelled (ops.Raw8 bytes) lt = refl
-held_spelled (ops.RefNull ty) lt = refl
-held_spelled (ops.FcPlain code) lt = refl
-held_spelled (ops.Simd code) lt = refl
-held_spelled (ops.SimdBytes code bytes) lt = refl
-held_spelled (ops.SimdLane code lane) lt = refl
-held_spelled (ops.Block code ty) lt = absurd (omega (arith, lt))
-held_spelled (ops.Tag code tag) lt = absurd (omega (arith, lt))
-held_spelled (ops.BrTable labels label) lt = absurd (omega (arith, lt))
-held_spelled (ops.Func code func) lt = absurd (omega (arith, lt))
-held_spelled (ops.Indirect code ty table) lt = absurd (omega (arith, lt))
-held_spelled (ops.Select types) lt = absurd (omega (arith, lt))
-held_spelled (ops.TryTable ty clauses) lt = absurd (omega (arith, lt))
-held_spelled (ops.Global code global) lt = absurd (omega (arith, lt))
-held_spelled (ops.Table code table) lt = absurd (omega (arith, lt))
-held_spelled (ops.Mem code arg) lt = absurd (omega (arith, lt))
-held_spelled (ops.Memory code memory) lt = absurd (omega (arith, lt))
-held_spelled (ops.MemoryInit segment memory) lt = absurd (omega (arith, lt))
-held_spelled (ops.DataDrop segment) lt = absurd (omega (arith, lt))
-held_spelled (ops.MemoryCopy to from) lt = absurd (omega (arith, lt))
-held_spelled (ops.MemoryFill memory) lt = absurd (omega (arith, lt))
-held_spelled (ops.TableInit elem table) lt = absurd (omega (arith, lt))
-held_spelled (ops.ElemDrop elem) lt = absurd (omega (arith, lt))
-held_spelled (ops.TableCopy to from) lt = absurd (omega (arith, lt))
-held_spelled (ops.FcTable code table) lt = absurd (omega (arith, lt))
-held_spelled (ops.SimdMem code arg) lt = absurd (omega (arith, lt))
-held_spelled (ops.SimdMemLane code arg lane) lt = absurd (omega (arith, lt))
+held_spelled = by_spelled (λ x. held_bytes x ≡ behind_length (spelled_bytes x)) (record {
+  plain = λ code. refl;
+  label = λ code label. refl;
+  local = λ code local. refl;
+  const32 = λ n. refl;
+  const64 = λ n. refl;
+  raw4 = λ bytes. refl;
+  raw8 = λ bytes. refl;
+  ref_null = λ ty. refl;
+  fc_plain = λ code. refl;
+  simd = λ code. refl;
+  simd_bytes = λ code bytes. refl;
+  simd_lane = λ code lane. refl;
+})
 
 spelled_from : (xs : List Op) (number len : ℕ) (rest : List ℕ) (u : Input) → AllByRecursion HasWidths xs → number ∷ len ∷ rest ≡ flat_map packed_bytes xs → number < 12 → u.bytes ≡ drop len rest → IsNextSpelled (Some (take len rest)) xs (ops_of u) × IsPacked u
 spelled_from [] number len rest u all is lt left = absurd (grind (arith, is))
 spelled_from (x ∷ xs) number len rest u all is lt left =
     let same : number ≡ number_of x = ap (λ bytes. get_or bytes 0 0) is in
     let low : number_of x < 12 = rw (← same) lt in
-    let behind : len ∷ rest ≡ length (spelled_bytes x) ∷ (spelled_bytes x ++ flat_map packed_bytes xs) = ap (λ bytes. drop 1 bytes) is ∙ ap (λ bytes. bytes ++ flat_map packed_bytes xs) (held_spelled x low) in
+    let behind : len ∷ rest ≡ length (spelled_bytes x) ∷ (spelled_bytes x ++ flat_map packed_bytes xs) = ap (λ bytes. drop 1 bytes) is ∙ ap (λ bytes. bytes ++ flat_map packed_bytes xs) (held_spelled x (lt-ltb (number_of x) 12 low)) in
     let count : length (spelled_bytes x) ≡ len = sym (ap (λ bytes. get_or bytes 0 0) behind) in
     let others : rest ≡ spelled_bytes x ++ flat_map packed_bytes xs = ap (λ bytes. drop 1 bytes) behind in
     let first : take len rest ≡ spelled_bytes x = rw others (take_at (spelled_bytes x) (flat_map packed_bytes xs) len count) in
@@ -232,7 +214,7 @@ pub spelled_split : (s u : Input) (head rest front : List ℕ) → IsPacked s �
 spelled_split s u head rest front h le first others lt is left = rw is (spelled_walked s u (get_or head 0 0) (get_or head 1 0) rest h (two_first s.bytes head rest le first others) lt left)
 
 begun : (x : Op) (xs : List Op) → number_of x < 12 → flat_map packed_bytes (x ∷ xs) ≡ number_of x ∷ length (spelled_bytes x) ∷ (spelled_bytes x ++ flat_map packed_bytes xs)
-begun x xs lt = rw (held_spelled x lt) refl
+begun x xs lt = rw (held_spelled x (lt-ltb (number_of x) 12 lt)) refl
 
 -- Bytes that hold no number of such an operator and its length don't begin with one.
 not_begun : (xs : List Op) (bytes : List ℕ) → bytes ≡ flat_map packed_bytes xs → ((number len : ℕ) (rest : List ℕ) → bytes ≡ number ∷ len ∷ rest → number < 12 → len ≤ length rest → ⊥) → begins_spelled xs ≡ false
