@@ -2,7 +2,7 @@
 //! passes through memory, through a table of references and through room on the stack, texts of string enums, closures, caught throws, and which parts of the module
 //! each of these needs.
 //!
-//! Stands on `check_inputs` for modules, edits and answers, on `glue_lower` and `glue_shared` for what is lowered, and on `wasm_core` for
+//! Stands on `check_inputs` for modules, edits and answers, on `glue_lower` and `glue_shared` for what is lowered, and on `wasm_collect` for
 //! what is dropped of a module.
 #![tactic(auto)]
 

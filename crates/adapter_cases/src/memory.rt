@@ -8,6 +8,7 @@ use check_inputs::{Case, Edit, Group, Place, fault_told};
 use glue_lower::LowerFault;
 use std::alloc::{AllocError, Global};
 use std::process::Abort;
+use wasm_collect::collect;
 
 /// The types of the arguments and of the results of the export's adapter, whose code passes two integers and gives one.
 const ARGUMENTS: Place = (r#"{"id":0,"args":["s32","s32"]"#, r#"{"id":0,"args":"#);
@@ -225,7 +226,7 @@ const FREED_BY_SPARE: Edit = (
 fn assert_dropped<H: Abort>(rt: &H, alloc: Global, case: &Case) -> Result<(), LowerFault> {
     let (module, edits, want) = case;
     let mut lowered = edited_lowered(rt, alloc, module, edits)?;
-    lowered.module.collect(alloc, &[])?;
+    collect(alloc, &mut lowered.module, &[])?;
     let told = fault_told(alloc, &[], lowered)?;
     assert_case(rt, told.as_str() == *want, &(told.as_str(), *want, *edits));
     Ok(())

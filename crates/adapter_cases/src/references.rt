@@ -6,6 +6,7 @@ use check_inputs::{Asked, fault_told};
 use glue_lower::LowerFault;
 use std::alloc::{AllocError, Global};
 use std::process::Abort;
+use wasm_collect::collect;
 
 /// The code of the export's adapter, which has two arguments; the export takes two integers and gives one.
 const CODE: &str =
@@ -277,7 +278,7 @@ fn dropped_told<H: Abort>(
     let parts = format!(in alloc; "\"version\":1,\"parts\":{{{parts}}}")?;
     let edits = [(CODE, code.as_str()), (PARTS, parts.as_str())];
     let mut lowered = edited_lowered(rt, alloc, WITH_SPARE, &edits)?;
-    lowered.module.collect(alloc, &[])?;
+    collect(alloc, &mut lowered.module, &[])?;
     Ok(fault_told(alloc, &[Asked::Others], lowered)?)
 }
 

@@ -4,7 +4,7 @@ use Rattle.std.specs.List.{list_all}
 use Rattle.std.specs.Char.{is_ascii_alphanumeric}
 use Rattle.wasm_core.specs.Contents.{Contents}
 use Rattle.wasm_core.specs.Parsing.{module_of}
-use Rattle.wasm_core.specs.Collected.{collected}
+use Rattle.wasm_collect.specs.Collected.{collected}
 use Rattle.wasm_core.specs.declared.faults.ParseFault.{ParseFault}
 use Rattle.wasm_core.specs.declared.faults.ParseFault.TheVariants as parse
 use Rattle.wasm_core.specs.declared.types.ParseConfig.{ParseConfig}

@@ -17,6 +17,7 @@ pub use Rattle.glue_faults.specs.Named
 pub use Rattle.glue_prepare.specs.declared.prepared as prepared
 pub use Rattle.glue_prepare.specs.Prepared
 pub use Rattle.wasm_core.specs.Contents
-pub use Rattle.wasm_core.specs.Emission
+pub use Rattle.wasm_emission.specs.Emission
 pub use Rattle.wasm_core.specs.Parsing
 pub use Rattle.wasm_core.specs.declared.faults as faults
+pub use Rattle.wasm_emission.specs.declared.faults as emit_faults

@@ -1,6 +1,6 @@
 -- The planned files.
 use Rattle.std.specs.Prelude.{List, [], ◌∷◌, ◌++◌, codes, true, false}
-use Rattle.wasm_core.specs.Emission.{bytes_of}
+use Rattle.wasm_emission.specs.Emission.{bytes_of}
 use Rattle.glue_ends.specs.declared.plan.PlannedFile.{PlannedFile}
 use Rattle.glue_layout.specs.Layout.{indented}
 use Rattle.cli_support.specs.Generating.{Made}

@@ -140,7 +140,7 @@ fn collect_module(alloc: Global, lowered: &mut Lowered) -> Result<(), AllocError
     ensures collected { OnOk result (lowered.new ≡ spec.collected_description lowered.old) }
 {
     let kept = roots(alloc, lowered)?;
-    lowered.module.collect(alloc, kept.as_slice())
+    wasm_collect::collect(alloc, &mut lowered.module, kept.as_slice())
 }
 
 // The description with nothing left of its module but what can be reached.

@@ -1,6 +1,6 @@
 //! What a call makes, and the files that are planned of it.
 ghost use Rattle.std.specs.Prelude.{◌≡◌, ◌++◌, codes, IfOk, Err, Some, None, true, false, string_bytes};
-ghost use Rattle.wasm_core.specs.Emission.{bytes_of, too_large};
+ghost use Rattle.wasm_emission.specs.Emission.{bytes_of, too_large};
 ghost use Rattle.glue_words.specs.Words.{printed};
 ghost use Rattle.glue_layout.specs.Layout.{indented};
 ghost use Rattle.std.specs.Borrow.{Lends, sem};
@@ -15,7 +15,8 @@ use glue_words::{Item, print};
 use std::alloc::{AllocError, Global};
 use std::marker::Model;
 use values::{Seq, Text};
-use wasm_core::{EmitFault, Module};
+use wasm_core::Module;
+use wasm_emission::{EmitFault, emit};
 
 /// What a call made: the items of the glue file, their text, and the module that goes with it.
 #[derive(Drop)]
@@ -148,7 +149,7 @@ impl Output {
         ensures ok { IfOk result (λ file. (file ≡ record { path = self.now.settings.stem ++ codes "_bg.wasm"; bytes = bytes_of self.now.«module»; is_text = false }) × (too_large self.now.«module» ≡ None)) }
         ensures err { (section : _) → result ≡ Err (EmitFault.TooLarge section) → too_large self.now.«module» ≡ Some section }
     {
-        let bytes = self.module.emit(alloc)?;
+        let bytes = emit(alloc, &self.module)?;
         Ok(PlannedFile {
             path: path_of(alloc, &self.settings.stem, "_bg.wasm")?,
             bytes: Seq::from_vec(bytes),

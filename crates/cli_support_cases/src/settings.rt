@@ -6,6 +6,7 @@ use glue_inputs::{EMPTY, MARKED, TABLE, TABLE_WITHOUT};
 use glue_shared::EncodeInto;
 use std::alloc::{AllocError, Global};
 use std::test::Fail;
+use wasm_emission::emit;
 
 // A function that is exported, with the name that Rust gives it.
 const NAMED: &[u8] =
@@ -65,7 +66,7 @@ fn turn<'a>(generator: &'a mut Bindgen, switch: &Switch, enable: bool) -> &'a mu
 fn length_told(alloc: Global, made: Result<Output, Fault>) -> Result<String, Fail> {
     match made {
         Ok(output) => {
-            let bytes = output.wasm().emit(alloc);
+            let bytes = emit(alloc, output.wasm());
             drop(output);
             Ok(format!(in alloc; "{}", bytes?.len())?)
         }

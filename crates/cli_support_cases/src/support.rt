@@ -1,11 +1,10 @@
 use crate::compare::{assert_told, shown_fault};
 use crate::settings::TARGET;
-use cli_support::{Bindgen, Fault, JsonLowering, Output, SetFault};
+use cli_support::{Bindgen, EmitFault, Fault, JsonLowering, Output, SetFault};
 use glue_ends::PlannedFile;
 use glue_inputs::EMPTY;
 use std::alloc::{AllocError, Global};
 use std::test::Fail;
-use wasm_core::EmitFault;
 
 #[test]
 fn deno_is_chosen_once(rt: HostRuntime) {

@@ -1,13 +1,12 @@
 //! Whole glue files for Deno, each by what stands in the places of the frame and of loading, which stand here once.
 use crate::compare::assert_case;
-use cli_support::{Bindgen, Fault, JsonLowering, Output};
+use cli_support::{Bindgen, EmitFault, Fault, JsonLowering, Output};
 pub use glue_inputs::Edit;
 use glue_inputs::{EMPTY, edited, shown_fault, with_custom};
 use std::alloc::{AllocError, Global};
 use std::process::Abort;
 use std::test::Fail;
 use values::Seq;
-use wasm_core::EmitFault;
 
 /// A module with a description, and what its glue file has in each place.
 #[derive(Clone, Copy)]

@@ -3,7 +3,7 @@
 //! writes.
 //!
 //! Stands on `cli_support` for the calls, on `glue_ends` for the files, on `glue_inputs` for the module's section, edits and how a fault is
-//! shown, and on `wasm_core` and `values`.
+//! shown, and on `values`.
 #![tactic(auto)]
 
 #[cfg(test)]

@@ -1,11 +1,10 @@
 //! What is made of a description for Deno: the part of the glue file before its frame, or the fault.
-use cli_support::{Bindgen, Fault, JsonLowering, Output};
+use cli_support::{Bindgen, EmitFault, Fault, JsonLowering, Output};
 use glue_inputs::{shown, with_custom};
 use std::alloc::{AllocError, Global};
 use std::process::Abort;
 use std::test::Fail;
 use values::Seq;
-use wasm_core::EmitFault;
 
 /// Keys of a description, and what is made of it.
 pub type Row = (&'static str, &'static str);

@@ -5,6 +5,7 @@ use glue_shared::{EncodeInto, Settings, Target};
 use std::alloc::{AllocError, Global};
 use std::test::Fail;
 use wasm_core::{Export, Module, ParseFault};
+use wasm_emission::emit;
 
 /// Exports `memory`, `__indirect_function_table`, `__data_end`, `__heap_base` and `default`.
 const LINKED: &[u8] =
@@ -159,7 +160,7 @@ fn written(alloc: Global, bytes: &[u8]) -> Result<Vec<u8>, Fail> {
     let settings = asked(alloc, "deno", "")?;
     let module = Module::parse(alloc, bytes, &CONFIG)?;
     let prepared = prepare(alloc, false, settings, module)?;
-    let written = prepared.module.emit(alloc);
+    let written = emit(alloc, &prepared.module);
     drop(prepared);
     Ok(written?)
 }

@@ -10,8 +10,7 @@ use Rattle.wasm_bytes.specs.Numbers.{number32}
 use Rattle.wasm_bytes.specs.Spelling.{list_bytes}
 use Rattle.wasm_bytes.specs.Reads.{Reads}
 use Rattle.wasm_bytes.proofs.ReadAgain.{reads_pure, reads_bind, reads_end, reads_byte, reads_raw, reads_meant, reads_list, number32_again, number64_again, signed32_again, signed64_again}
-use Rattle.wasm_ops.proofs.Written.{all_more}
-pub use Rattle.wasm_ops.proofs.Written.{all_any}
+use Rattle.wasm_ops.proofs.Written.{all_any, all_more}
 use Rattle.wasm_ops.specs.Spelling.{coded}
 use Rattle.wasm_types.proofs.TypesAgain.{val_type_again}
 use Rattle.packed_ops.proofs.Spelled.{by_spelled}

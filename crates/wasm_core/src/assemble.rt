@@ -5,7 +5,6 @@ ghost use Rattle.std.specs.List.{filter};
 ghost use Rattle.wasm_core.specs.Edits.{func_named};
 ghost use Rattle.wasm_core.specs.Parsing.{imports_behind, places_of, kind_at, brought, imported_func, imported_table, imported_memory, imported_global, imported_tag, own_funcs, table_of, memory_of, global_of, tag_of, joined, all_funcs, names_in, merged, all_names, with_name, with_names, name_given, producers_in, all_producers, is_kept, after};
 
-use crate::numbering::take_next;
 use crate::types::{Func, GlobalVar, Import, ImportKind, Memory, Table, Tag};
 use packed_ops::Ops;
 use std::alloc::{AllocError, Global};
@@ -16,6 +15,15 @@ use wasm_file::{
     read_producers,
 };
 use wasm_types::{FuncId, GlobalId, ImportId, Limits, MemoryId, TableId, TagId, TypeId};
+
+/// The next number, which then is one more. `AllocError` where it is 4,294,967,295: no number comes behind that one.
+pub fn take_next(next: &mut u32) -> Result<u32, AllocError>
+    ensures { IfOk result (λ n. (n ≡ next.old) × (next.new ≡ next.old + 1)) }
+{
+    let number = *next;
+    *next = number.checked_add(1).ok_or(AllocError)?;
+    Ok(number)
+}
 
 /// The next places of items, by their kinds.
 #[derive(Clone, Copy)]

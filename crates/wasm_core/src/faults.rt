@@ -1,9 +1,8 @@
-//! Why a module can't be read or written.
+//! Why a module can't be read.
 
 ghost use Rattle.std.specs.Prelude.{◌≡◌};
 ghost use Rattle.wasm_core.specs.Parsing.{told};
 ghost use Rattle.wasm_core.specs.declared.faults.ParseFault.TheVariants as faults;
-ghost use Rattle.wasm_core.specs.declared.faults.EmitFault.TheVariants as refusals;
 
 use std::alloc::{AllocError, AllocFailed};
 use wasm_bytes::ReadFault;
@@ -41,30 +40,5 @@ impl From<ReadFault> for ParseFault {
             ReadFault::Parse { place } => ParseFault::Parse { place },
             ReadFault::OutOfMemory => ParseFault::OutOfMemory,
         }
-    }
-}
-
-/// Why a module can't be written.
-#[derive(Debug, PartialEq, Eq, Drop)]
-pub enum EmitFault {
-    /// The content of a section has more than 4,294,967,295 bytes: its id.
-    TooLarge { section: u8 },
-    /// Memory ran out.
-    OutOfMemory,
-}
-
-impl From<AllocError> for EmitFault {
-    ghost from_gives = { λ _ e. e ≡ refusals.OutOfMemory };
-
-    fn from(_e: AllocError) -> EmitFault {
-        EmitFault::OutOfMemory
-    }
-}
-
-impl<T: Drop> From<AllocFailed<T>> for EmitFault {
-    ghost from_gives = { λ _ e. e ≡ refusals.OutOfMemory };
-
-    fn from(_e: AllocFailed<T>) -> EmitFault {
-        EmitFault::OutOfMemory
     }
 }

@@ -1,38 +1,24 @@
-//! WebAssembly modules by ids: reading, editing and writing.
+//! WebAssembly modules by ids: reading and editing.
 //!
-//! `Module::parse` gives exactly the module that `module_of` gives, or the place of the first fault, `Module::emit`
-//! exactly the bytes that `bytes_of` gives, or the first section that is too long, and each editing call exactly the
-//! module that its definition in `Edits` gives, unless memory runs out. `Module::collect` keeps exactly what can be
-//! reached (`IsCollected` in `Reach`). It stands on `least_set`, `wasm_reach`, `wasm_file`, `wasm_code`,
-//! `packed_ops`, `wasm_ops`, `wasm_types`, `wasm_bytes` and `values`.
+//! `Module::parse` gives exactly the module that `module_of` gives, or the place of the first fault, and each editing call
+//! exactly the module that its definition in `Edits` gives, unless memory runs out; `Module::keep` leaves what is marked
+//! (`remainder`). It stands on `wasm_reach`, `wasm_file`, `wasm_code`, `packed_ops`, `wasm_ops`, `wasm_types`,
+//! `wasm_bytes` and `values`.
 #![tactic(auto)]
 
 mod added;
 mod assemble;
-mod collect;
-mod content;
-mod declarers;
-mod edges;
 mod edits;
-mod emit;
 mod faults;
 mod fill;
-mod lists;
+mod keep;
 mod lookup;
 mod module;
-mod names;
-mod naming;
-mod numbering;
 mod producers;
-mod roots;
-mod rows;
-mod segments;
 mod types;
 
-pub use collect::collected_module_is_one;
-pub use content::SectionContent;
-pub use emit::emit_sections;
-pub use faults::{EmitFault, ParseFault};
+pub use assemble::take_next;
+pub use faults::ParseFault;
 pub use module::{LONGEST, Module, sections};
 pub use packed_ops::{Ops, Walk};
 pub use types::{Func, GlobalVar, Import, ImportKind, Memory, ParseConfig, Table, Tag};

@@ -130,6 +130,13 @@ impl Module {
         &self.customs
     }
 
+    /// The fields of the producers section.
+    pub fn producers(&self) -> &[ProducerField]
+        ensures { result.now ≡ self.now.producers }
+    {
+        &self.producers
+    }
+
     pub fn start(&self) -> Option<FuncId>
         ensures { result ≡ self.now.start }
     {

@@ -4,6 +4,7 @@ use crate::compare::assert_told;
 use crate::work::{Work, assert_worked, told};
 use std::alloc::{AllocError, Global};
 use std::process::Abort;
+use wasm_collect::collect;
 use wasm_core::{ExportItem, FuncId, Module, ParseFault};
 use wasm_inputs::{extend, joined_behind};
 
@@ -58,7 +59,7 @@ pub fn shown(alloc: Global, module: &Module) -> Result<String, AllocError> {
 
 /// What is left without roots.
 pub fn collected(alloc: Global, module: &mut Module) -> Result<String, AllocError> {
-    module.collect(alloc, &[])?;
+    collect(alloc, module, &[])?;
     shown(alloc, module)
 }
 
@@ -295,7 +296,7 @@ fn shown_with_start(alloc: Global, module: &Module) -> Result<String, AllocError
 
 /// What is left without roots, and the start function.
 pub fn collected_with_start(alloc: Global, module: &mut Module) -> Result<String, AllocError> {
-    module.collect(alloc, &[])?;
+    collect(alloc, module, &[])?;
     shown_with_start(alloc, module)
 }
 
@@ -322,7 +323,7 @@ fn an_import_is_kept_with_its_function(rt: HostRuntime) -> Result<(), ParseFault
 /// Collects with one function as the root, if it is live.
 pub fn collect_from(module: &mut Module, alloc: Global, id: FuncId) -> Result<(), AllocError> {
     match module.funcs().get(id.0 as usize) {
-        Some(Some(_)) => module.collect(alloc, &[ExportItem::Func(id)]),
+        Some(Some(_)) => collect(alloc, module, &[ExportItem::Func(id)]),
         Some(None) | None => Ok(()),
     }
 }

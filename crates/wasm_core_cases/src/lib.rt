@@ -1,4 +1,4 @@
-//! Tests of `wasm_core`: modules that are read, written, collected and edited.
+//! Tests of `wasm_core`, `wasm_emission` and `wasm_collect`: modules that are read and edited, written, and collected.
 #![tactic(auto)]
 
 #[cfg(test)]

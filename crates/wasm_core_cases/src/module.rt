@@ -6,10 +6,8 @@ use crate::work::{Work, assert_worked};
 use std::alloc::{AllocError, Global};
 use std::process::Abort;
 use values::Seq;
-use wasm_core::{
-    EmitFault, ExportId, FuncId, ImportId, Module, ParseConfig, ParseFault, SectionContent,
-    emit_sections, sections,
-};
+use wasm_core::{ExportId, FuncId, ImportId, Module, ParseConfig, ParseFault, sections};
+use wasm_emission::{EmitFault, SectionContent, emit, emit_sections};
 use wasm_inputs::{joined, joined_behind};
 
 /// Types (i32, i32) -> i32 and (i32).
@@ -30,7 +28,7 @@ const PRODUCERS: &[u8] =
 
 /// Whether it is written as these bytes.
 fn is_emitted(alloc: Global, module: &Module, want: &[u8]) -> bool {
-    match module.emit(alloc) {
+    match emit(alloc, module) {
         Ok(got) => got.as_slice() == want,
         Err(_) => false,
     }

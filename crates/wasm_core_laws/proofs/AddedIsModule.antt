@@ -18,7 +18,7 @@ use Rattle.wasm_reach.specs.declared.things.Thing.{Thing}
 use Rattle.wasm_reach.specs.declared.things.Thing.TheVariants as things
 use Rattle.wasm_core.specs.Contents.{Contents}
 use Rattle.wasm_core.specs.Edits.{is_same_type, is_entry_alike, new_func, func_added, with_func}
-use Rattle.wasm_core.specs.Reach.{entry_of, entry_at, passes, places, ops_names}
+use Rattle.wasm_collect.specs.Reach.{entry_of, entry_at, passes, places, ops_names}
 use Rattle.wasm_core.specs.declared.types.Func.{Func}
 use Rattle.wasm_core.specs.declared.types.GlobalVar.{GlobalVar}
 use Rattle.wasm_core.specs.declared.types.Memory.{Memory}

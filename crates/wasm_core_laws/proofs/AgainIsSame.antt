@@ -27,10 +27,11 @@ use Rattle.wasm_core.specs.declared.types.ParseConfig.{ParseConfig}
 use Rattle.wasm_core.specs.declared.types.Table.{Table}
 use Rattle.wasm_core.specs.declared.types.Tag.{Tag}
 use Rattle.wasm_core.specs.Contents.{Contents}
-use Rattle.wasm_core.specs.Emission.{live, file_type, file_start, file_export, file_elem, file_segment}
+use Rattle.wasm_emission.specs.Emission.{live, file_type, file_start, file_export, file_elem, file_segment}
 use Rattle.wasm_core.specs.Parsing.{imports_behind, brought, joined, imported_func, imported_table, imported_memory, imported_global, imported_tag, own_funcs, table_of, memory_of, global_of, tag_of, is_kept, last_name}
-use Rattle.wasm_core.specs.Reach.{entry_at, ops_names, elem_names, segment_names, import_thing, item_thing}
-use Rattle.wasm_core.specs.Renumbering.{never, numbers, numbering}
+use Rattle.wasm_core.specs.Remainder.{import_thing}
+use Rattle.wasm_collect.specs.Reach.{entry_at, ops_names, elem_names, segment_names, item_thing}
+use Rattle.wasm_emission.specs.Renumbering.{never, numbers, numbering}
 use Rattle.wasm_core_laws.specs.Again.{again, in_order, import_numbers, renumbered_import, renumbered_code, func_again, table_again, memory_again, global_again, tag_again, import_again, all_there, if_wanted}
 use Rattle.wasm_core_laws.specs.ModuleFits.{Stands, AllStand, IfThere, AllThere, FitsFunc, FitsCode, FitsInit, FitsGlobalEntry, FitsTagEntry, FitsImportEntry, FitsExportEntry, FitsElemEntry, FitsSegmentEntry, IsStart, IsModule, func_imported, table_imported, memory_imported, global_imported, tag_imported}
 use Rattle.wasm_core_laws.proofs.Everywhere.{all_pairs, all_kept, all_filtered, all_same, all_pass}

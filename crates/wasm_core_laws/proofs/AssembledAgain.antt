@@ -28,10 +28,10 @@ use Rattle.wasm_core.specs.declared.types.Memory.{Memory}
 use Rattle.wasm_core.specs.declared.types.Table.{Table}
 use Rattle.wasm_core.specs.declared.types.Tag.{Tag}
 use Rattle.wasm_core.specs.Contents.{Contents}
-use Rattle.wasm_core.specs.Emission.{live, own, file_type, func_asked, table_asked, memory_asked, global_asked, tag_asked, import_asked, import_of_type, file_import, body_or_empty, own_type, own_body, own_table, own_memory, own_tag, own_global, filed_by, filed}
+use Rattle.wasm_emission.specs.Emission.{live, own, file_type, func_asked, table_asked, memory_asked, global_asked, tag_asked, import_asked, import_of_type, file_import, body_or_empty, own_type, own_body, own_table, own_memory, own_tag, own_global, filed_by, filed}
 use Rattle.wasm_core.specs.Parsing.{asks_func, asks_table, asks_memory, asks_global, asks_tag, places_of, kind_at, imports_behind, brought, imported_func, imported_table, imported_memory, imported_global, imported_tag, own_funcs, table_of, memory_of, global_of, tag_of, joined, all_funcs}
-use Rattle.wasm_core.specs.Reach.{places, entry_of, entry_at}
-use Rattle.wasm_core.specs.Renumbering.{numbers, numbering}
+use Rattle.wasm_collect.specs.Reach.{places, entry_of, entry_at}
+use Rattle.wasm_emission.specs.Renumbering.{numbers, numbering}
 use Rattle.wasm_core_laws.specs.Again.{all_there, in_order, import_numbers, func_again, table_again, memory_again, global_again, tag_again, kind_again, import_again}
 use Rattle.wasm_core_laws.specs.ModuleFits.{IsModule, IsBroughtBy, IsLinked, IsLinkedAt, FitsFunc, FitsCode, FitsInit, FitsGlobalEntry, func_brought, table_brought, memory_brought, global_brought, tag_brought, func_imported, table_imported, memory_imported, global_imported, tag_imported}
 use Rattle.wasm_core_laws.proofs.FiledCounts.{places_found}

@@ -5,8 +5,8 @@ use Rattle.std.specs.List.{filter, filter_map, cons_option}
 use Rattle.std.specs.Option.{option_map}
 use Rattle.std.proofs.lemmas.List.Elements.{filter-append}
 use Rattle.std.proofs.lemmas.Option.{none-some, same_Some}
-use Rattle.wasm_core.specs.Emission.{live}
-use Rattle.wasm_core.specs.Reach.{entry_at, passes, places}
+use Rattle.wasm_emission.specs.Emission.{live}
+use Rattle.wasm_collect.specs.Reach.{entry_at, passes, places}
 use Rattle.wasm_core_laws.proofs.Entries.{altered}
 
 -- what passes stays in front

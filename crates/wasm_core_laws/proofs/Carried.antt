@@ -19,7 +19,8 @@ use Rattle.wasm_file_laws.specs.FileFits.{FitsInitials, FitsElem, FitsSegment}
 use Rattle.wasm_reach.specs.declared.things.Thing.{Thing}
 use Rattle.wasm_reach.specs.declared.things.Thing.TheVariants as things
 use Rattle.wasm_core.specs.Contents.{Contents}
-use Rattle.wasm_core.specs.Reach.{entry_at, ops_names, elem_names, segment_names, item_thing, import_thing}
+use Rattle.wasm_core.specs.Remainder.{import_thing}
+use Rattle.wasm_collect.specs.Reach.{entry_at, ops_names, elem_names, segment_names, item_thing}
 use Rattle.wasm_core.specs.declared.types.Func.{Func}
 use Rattle.wasm_core.specs.declared.types.GlobalVar.{GlobalVar}
 use Rattle.wasm_core.specs.declared.types.Import.{Import}

@@ -16,10 +16,11 @@ use Rattle.wasm_file_laws.specs.FileFits.{FitsFuncType}
 use Rattle.wasm_reach.specs.declared.things.Thing.{Thing}
 use Rattle.wasm_reach.specs.declared.things.Thing.TheVariants as things
 use Rattle.wasm_reach.proofs.Reached.{all_in}
-use Rattle.wasm_core.specs.Collected.{collected}
+use Rattle.wasm_collect.specs.Collected.{collected}
 use Rattle.wasm_core.specs.Contents.{Contents}
-use Rattle.wasm_core.specs.Emission.{live}
-use Rattle.wasm_core.specs.Reach.{entry_at, stands, passes, places, op_names, ops_names, body_op_names, body_names, func_names, tag_names, global_names, elem_names, segment_names, names, refs, taken_func, taken_declarer, item_thing, import_thing, export_things, start_things, table_segments, memory_segments, is_imported_table, is_imported_memory, root_names, IsReached, kept_places, kept_import, remainder}
+use Rattle.wasm_emission.specs.Emission.{live}
+use Rattle.wasm_core.specs.Remainder.{import_thing, kept_places, kept_import, remainder}
+use Rattle.wasm_collect.specs.Reach.{entry_at, stands, passes, places, op_names, ops_names, body_op_names, body_names, func_names, tag_names, global_names, elem_names, segment_names, names, refs, taken_func, taken_declarer, item_thing, export_things, start_things, table_segments, memory_segments, is_imported_table, is_imported_memory, root_names, IsReached}
 use Rattle.wasm_core.specs.declared.types.Func.{Func}
 use Rattle.wasm_core.specs.declared.types.GlobalVar.{GlobalVar}
 use Rattle.wasm_core.specs.declared.types.Import.{Import}
@@ -28,7 +29,7 @@ use Rattle.wasm_core.specs.declared.types.ImportKind.TheVariants as kinds
 use Rattle.wasm_core.specs.declared.types.Memory.{Memory}
 use Rattle.wasm_core.specs.declared.types.Table.{Table}
 use Rattle.wasm_core.specs.declared.types.Tag.{Tag}
-use Rattle.wasm_core.proofs.Collected.{collected_is}
+use Rattle.wasm_collect.proofs.Collected.{collected_is}
 use Rattle.wasm_core_laws.specs.ModuleFits.{id_counts, Stands, AllThere, type_of_func, FitsFunc, FitsTableEntry, FitsMemoryEntry, FitsGlobalEntry, FitsTagEntry, FitsImportEntry, FitsExportEntry, FitsElemEntry, FitsSegmentEntry, func_brought, table_brought, memory_brought, global_brought, tag_brought, func_imported, table_imported, memory_imported, global_imported, tag_imported, IsBroughtBy, IsLinked, IsModule}
 use Rattle.wasm_core_laws.proofs.Brought.{front_kept, front_gone}
 use Rattle.wasm_core_laws.proofs.Carried.{Keep, counts_kept, Carries, code_names, func_things, func_fits, global_fits, tag_fits, import_fits, export_fits, elem_fits, segment_fits, IsAsTyped, start_fits, linked_at, linked_by}

@@ -16,9 +16,9 @@ use Rattle.wasm_file_laws.proofs.CustomsAgain.{names_again as names_read, produc
 use Rattle.wasm_file_laws.proofs.EachItem.{all_apart}
 use Rattle.wasm_core.specs.Contents.{Contents}
 use Rattle.wasm_core.specs.Edits.{is_named}
-use Rattle.wasm_core.specs.Emission.{file_names, has_names, name_customs, producer_customs, file_customs, filed, filed_by, section_contents, first_too_large, longest_content, too_large}
+use Rattle.wasm_emission.specs.Emission.{file_names, has_names, name_customs, producer_customs, file_customs, filed, filed_by, section_contents, first_too_large, longest_content, too_large}
 use Rattle.wasm_core.specs.Parsing.{names_in, merged, no_names, all_names, producers_in, all_producers, is_kept}
-use Rattle.wasm_core.specs.Renumbering.{numbering}
+use Rattle.wasm_emission.specs.Renumbering.{numbering}
 use Rattle.wasm_core_laws.specs.Again.{IsWithinLimits, in_order}
 use Rattle.wasm_core_laws.specs.ModuleFits.{FitsCustomEntry, IsModule, func_imported}
 use Rattle.wasm_core_laws.proofs.NamesAgain.{names_fit, later-none}

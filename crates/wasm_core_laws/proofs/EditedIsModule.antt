@@ -18,7 +18,7 @@ use Rattle.wasm_file_laws.specs.FileFits.{FitsName}
 use Rattle.wasm_reach.specs.declared.things.Thing.TheVariants as things
 use Rattle.wasm_core.specs.Contents.{Contents, IsEntry}
 use Rattle.wasm_core.specs.Edits.{first_changed, with_version, new_field, with_field, with_processed_by, is_named, without_custom, IsLiveItem, with_export, without_export, without_start}
-use Rattle.wasm_core.specs.Reach.{entry_of, entry_at, item_thing}
+use Rattle.wasm_collect.specs.Reach.{entry_of, entry_at, item_thing}
 use Rattle.wasm_core_laws.specs.ModuleFits.{Stands, AllThere, FitsExportEntry, IsStart, FitsCustomEntry, IsModule}
 use Rattle.wasm_core_laws.proofs.Carried.{export_fits, start_fits, type_of_alike, Extends, FitIn, fit_in, alike_same, alike_extends, links_same, still_linked}
 use Rattle.wasm_core_laws.proofs.Everywhere.{all_passing}

@@ -7,9 +7,9 @@ use Rattle.std.proofs.lemmas.Bool.{false≢true}
 use Rattle.std.proofs.lemmas.List.{map-append, length-map, length-append, length-set}
 use Rattle.std.proofs.lemmas.Option.{none-some}
 use Rattle.wasm_file_laws.proofs.EachItem.{all_both}
-use Rattle.wasm_core.specs.Emission.{live}
+use Rattle.wasm_emission.specs.Emission.{live}
 use Rattle.wasm_core.specs.Parsing.{joined}
-use Rattle.wasm_core.specs.Reach.{entry_at, passes, places}
+use Rattle.wasm_collect.specs.Reach.{entry_at, passes, places}
 use Rattle.wasm_core_laws.specs.ModuleFits.{IfThere, AllThere}
 use Rattle.wasm_core_laws.proofs.Everywhere.{all_map, all_kept}
 

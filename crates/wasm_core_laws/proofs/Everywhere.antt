@@ -6,7 +6,7 @@ use Rattle.std.proofs.lemmas.Bool.{cases_Bool}
 use Rattle.std.proofs.lemmas.List.Elements.{filter_agree}
 use Rattle.std.proofs.lemmas.List.Sums.{count_by-le-length, length-filter, sum_by-cons}
 use Rattle.wasm_file_laws.proofs.EachItem.{all_weaker, all_both, all_apart}
-use Rattle.wasm_core.proofs.Filed.{counted}
+use Rattle.wasm_emission.proofs.Filed.{counted}
 use Rattle.wasm_core_laws.specs.ModuleFits.{IfThere}
 
 -- what holds of what is made of each

@@ -25,9 +25,9 @@ use Rattle.wasm_core.specs.declared.types.Memory.{Memory}
 use Rattle.wasm_core.specs.declared.types.Table.{Table}
 use Rattle.wasm_core.specs.declared.types.Tag.{Tag}
 use Rattle.wasm_core.specs.Contents.{Contents}
-use Rattle.wasm_core.specs.Emission.{live, own, own_type, file_type, func_asked, table_asked, memory_asked, global_asked, tag_asked, import_asked, import_of_type, file_import, file_elem, some_count, filed_by}
-use Rattle.wasm_core.specs.Reach.{entry_of, entry_at, passes, places}
-use Rattle.wasm_core.proofs.Filed.{counted}
+use Rattle.wasm_emission.specs.Emission.{live, own, own_type, file_type, func_asked, table_asked, memory_asked, global_asked, tag_asked, import_asked, import_of_type, file_import, file_elem, some_count, filed_by}
+use Rattle.wasm_collect.specs.Reach.{entry_of, entry_at, passes, places}
+use Rattle.wasm_emission.proofs.Filed.{counted}
 use Rattle.wasm_core_laws.specs.Again.{in_order}
 use Rattle.wasm_core_laws.specs.ModuleFits.{AreInOrder, func_brought, table_brought, memory_brought, global_brought, tag_brought, func_imported, table_imported, memory_imported, global_imported, tag_imported}
 

@@ -46,10 +46,10 @@ use Rattle.wasm_core.specs.declared.types.Memory.{Memory}
 use Rattle.wasm_core.specs.declared.types.Table.{Table}
 use Rattle.wasm_core.specs.declared.types.Tag.{Tag}
 use Rattle.wasm_core.specs.Contents.{Contents}
-use Rattle.wasm_core.specs.Emission.{live, own, own_type, own_body, own_table, own_memory, own_tag, own_global, body_or_empty, file_type, file_func, file_item, file_export, file_place, file_elem, file_segment_place, file_segment, file_start, func_asked, table_asked, memory_asked, global_asked, tag_asked, import_asked, import_of_type, file_import, file_customs, name_customs, producer_customs, file_names, has_names, filed_by, filed}
-use Rattle.wasm_core.specs.Reach.{item_thing, entry_of, entry_at, ops_names, func_thing, content_names, elem_place_names, segment_place_names}
-use Rattle.wasm_core.specs.Renumbering.{never, numbers, numbering}
-use Rattle.wasm_core.proofs.Filed.{counted}
+use Rattle.wasm_emission.specs.Emission.{live, own, own_type, own_body, own_table, own_memory, own_tag, own_global, body_or_empty, file_type, file_func, file_item, file_export, file_place, file_elem, file_segment_place, file_segment, file_start, func_asked, table_asked, memory_asked, global_asked, tag_asked, import_asked, import_of_type, file_import, file_customs, name_customs, producer_customs, file_names, has_names, filed_by, filed}
+use Rattle.wasm_collect.specs.Reach.{item_thing, entry_of, entry_at, ops_names, func_thing, content_names, elem_place_names, segment_place_names}
+use Rattle.wasm_emission.specs.Renumbering.{never, numbers, numbering}
+use Rattle.wasm_emission.proofs.Filed.{counted}
 use Rattle.wasm_core_laws.specs.Again.{in_order}
 use Rattle.wasm_core_laws.specs.ModuleFits.{id_counts, Stands, AllStand, IfThere, type_of_func, FitsCode, FitsFunc, FitsTableEntry, FitsMemoryEntry, FitsInit, FitsGlobalEntry, FitsTagEntry, FitsImportEntry, FitsExportEntry, FitsElemEntry, FitsSegmentEntry, IsStart, FitsCustomEntry, func_imported, table_imported, memory_imported, global_imported, tag_imported, IsModule}
 use Rattle.wasm_core_laws.specs.Renumbered.{IsNumber}

@@ -26,7 +26,7 @@ use Rattle.wasm_file_laws.proofs.EntriesAgain.{no_exprs}
 use Rattle.wasm_file_laws.proofs.EachItem.{all_weaker, all_both}
 use Rattle.wasm_reach.specs.declared.things.Thing.TheVariants as things
 use Rattle.wasm_core.specs.Contents.{Contents}
-use Rattle.wasm_core.specs.Reach.{block_names, catch_names, op_names, ops_names, func_thing, content_names, elem_place_names, elem_names, segment_place_names, segment_names, item_thing}
+use Rattle.wasm_collect.specs.Reach.{block_names, catch_names, op_names, ops_names, func_thing, content_names, elem_place_names, elem_names, segment_place_names, segment_names, item_thing}
 use Rattle.wasm_core_laws.specs.ModuleFits.{Stands, AllStand}
 use Rattle.wasm_core_laws.proofs.Everywhere.{all_flat, all_map}
 

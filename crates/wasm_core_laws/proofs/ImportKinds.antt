@@ -25,7 +25,7 @@ use Rattle.wasm_core.specs.declared.types.Memory.{Memory}
 use Rattle.wasm_core.specs.declared.types.Table.{Table}
 use Rattle.wasm_core.specs.declared.types.Tag.{Tag}
 use Rattle.wasm_core.specs.Contents.{Contents}
-use Rattle.wasm_core.specs.Emission.{live, own, func_asked, table_asked, memory_asked, global_asked, tag_asked, import_asked, import_of_type, file_import}
+use Rattle.wasm_emission.specs.Emission.{live, own, func_asked, table_asked, memory_asked, global_asked, tag_asked, import_asked, import_of_type, file_import}
 use Rattle.wasm_core.specs.Parsing.{asks_func, asks_table, asks_memory, asks_global, asks_tag, places_of, kind_at, joined, imported_func, imported_table, imported_memory, imported_global, imported_tag}
 use Rattle.wasm_core_laws.specs.ModuleFits.{IfThere, func_brought, table_brought, memory_brought, global_brought, tag_brought}
 use Rattle.wasm_core_laws.proofs.Everywhere.{counted_same, kept_few, counted_more}

@@ -10,9 +10,9 @@ use Rattle.wasm_file.specs.declared.entries.FileImport.{FileImport}
 use Rattle.wasm_file.specs.declared.entries.ImportType.{ImportType}
 use Rattle.wasm_file_laws.proofs.EachItem.{all_weaker}
 use Rattle.wasm_core.specs.declared.types.Import.{Import}
-use Rattle.wasm_core.specs.Emission.{live}
+use Rattle.wasm_emission.specs.Emission.{live}
 use Rattle.wasm_core.specs.Parsing.{places_of, kind_at, imports_behind, brought, joined}
-use Rattle.wasm_core.specs.Reach.{entry_at}
+use Rattle.wasm_collect.specs.Reach.{entry_at}
 use Rattle.wasm_core_laws.specs.ModuleFits.{IfThere, IsBroughtBy}
 use Rattle.wasm_core_laws.proofs.Everywhere.{all_kept, counted_more}
 

@@ -8,8 +8,8 @@ use Rattle.wasm_types.specs.declared.ids.ImportId.{ImportId}
 use Rattle.wasm_reach.specs.declared.things.Thing.TheVariants as things
 use Rattle.wasm_core.specs.Contents.{Contents}
 use Rattle.wasm_core.specs.Edits.{tag_of, imported_tag, own_tag, tag_localized, localized}
-use Rattle.wasm_core.specs.Emission.{live}
-use Rattle.wasm_core.specs.Reach.{entry_of, entry_at}
+use Rattle.wasm_emission.specs.Emission.{live}
+use Rattle.wasm_collect.specs.Reach.{entry_of, entry_at}
 use Rattle.wasm_core.specs.declared.types.Import.{Import}
 use Rattle.wasm_core.specs.declared.types.ImportKind.{ImportKind}
 use Rattle.wasm_core.specs.declared.types.ImportKind.TheVariants as kinds

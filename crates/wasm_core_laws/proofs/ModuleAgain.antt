@@ -5,7 +5,7 @@ use Rattle.wasm_file_laws.specs.FileFits.{file_bytes}
 use Rattle.wasm_file_laws.proofs.FileAgain.{file_again}
 use Rattle.wasm_core.specs.declared.types.ParseConfig.{ParseConfig}
 use Rattle.wasm_core.specs.Contents.{Contents}
-use Rattle.wasm_core.specs.Emission.{filed, section_contents, bytes_of}
+use Rattle.wasm_emission.specs.Emission.{filed, section_contents, bytes_of}
 use Rattle.wasm_core.specs.Parsing.{longest, module_of}
 use Rattle.wasm_core_laws.specs.Again.{again, IsWithinLimits}
 use Rattle.wasm_core_laws.specs.ModuleFits.{IsModule}

@@ -5,9 +5,9 @@ use Rattle.wasm_file.specs.declared.entries.Names.{Names}
 use Rattle.wasm_file_laws.specs.FileFits.{joined_file}
 use Rattle.wasm_core.specs.declared.types.ParseConfig.{ParseConfig}
 use Rattle.wasm_core.specs.Contents.{Contents}
-use Rattle.wasm_core.specs.Emission.{filed_by, filed, file_names}
+use Rattle.wasm_emission.specs.Emission.{filed_by, filed, file_names}
 use Rattle.wasm_core.specs.Parsing.{all_funcs, all_names, with_names, no_names, assembled}
-use Rattle.wasm_core.specs.Renumbering.{numbering}
+use Rattle.wasm_emission.specs.Renumbering.{numbering}
 use Rattle.wasm_core_laws.specs.Again.{all_there, in_order, func_again, if_wanted, again, IsWithinLimits}
 use Rattle.wasm_core_laws.specs.ModuleFits.{IsModule, func_imported}
 use Rattle.wasm_core_laws.proofs.AssembledAgain.{func_unnamed, funcs_again, tables_again, memories_again, globals_again, tags_again, imports_again}

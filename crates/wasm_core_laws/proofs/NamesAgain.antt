@@ -11,10 +11,10 @@ use Rattle.wasm_file_laws.specs.CustomFits.{IsName, FitsFuncName, FitsNames}
 use Rattle.wasm_file_laws.proofs.EachItem.{all_both, all_weaker}
 use Rattle.wasm_core.specs.declared.types.Func.{Func}
 use Rattle.wasm_core.specs.Contents.{Contents}
-use Rattle.wasm_core.specs.Emission.{live, with_number, is_asked, name_at, func_names, file_names}
+use Rattle.wasm_emission.specs.Emission.{live, with_number, is_asked, name_at, func_names, file_names}
 use Rattle.wasm_core.specs.Parsing.{later, last_name, with_name, with_names, no_names}
-use Rattle.wasm_core.specs.Reach.{entry_of}
-use Rattle.wasm_core.specs.Renumbering.{is_first, is_other, numbers, numbering}
+use Rattle.wasm_collect.specs.Reach.{entry_of}
+use Rattle.wasm_emission.specs.Renumbering.{is_first, is_other, numbers, numbering}
 use Rattle.wasm_core_laws.specs.Again.{IsWithinLimits, in_order, all_there, func_again, if_wanted}
 use Rattle.wasm_core_laws.specs.ModuleFits.{FitsFunc, IsModule, func_imported}
 use Rattle.wasm_core_laws.proofs.FiledCounts.{counts_are}

@@ -6,9 +6,9 @@ use Rattle.std.proofs.lemmas.List.{length-append}
 use Rattle.std.proofs.lemmas.List.Filters.{length-filter_both}
 use Rattle.std.proofs.lemmas.Option.{none-some, same_Some, slice_get_within}
 use Rattle.wasm_ops.specs.Numbers.{or_zero, number_at}
-use Rattle.wasm_core.specs.Emission.{live}
-use Rattle.wasm_core.specs.Reach.{entry_of, entry_at}
-use Rattle.wasm_core.specs.Renumbering.{is_first, is_other, number_of, numbers, never}
+use Rattle.wasm_emission.specs.Emission.{live}
+use Rattle.wasm_collect.specs.Reach.{entry_of, entry_at}
+use Rattle.wasm_emission.specs.Renumbering.{is_first, is_other, number_of, numbers, never}
 use Rattle.wasm_core_laws.specs.Again.{in_order}
 use Rattle.wasm_core_laws.proofs.Everywhere.{counted_more}
 

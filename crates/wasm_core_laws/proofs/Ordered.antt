@@ -5,9 +5,9 @@ use Rattle.std.specs.List.{filter}
 use Rattle.std.proofs.lemmas.Bool.{cases_Bool}
 use Rattle.std.proofs.lemmas.List.{take_at, map-append}
 use Rattle.wasm_ops.specs.Numbers.{number_at}
-use Rattle.wasm_core.specs.Emission.{live}
-use Rattle.wasm_core.specs.Reach.{entry_of, places}
-use Rattle.wasm_core.specs.Renumbering.{is_first, is_other, numbers, never}
+use Rattle.wasm_emission.specs.Emission.{live}
+use Rattle.wasm_collect.specs.Reach.{entry_of, places}
+use Rattle.wasm_emission.specs.Renumbering.{is_first, is_other, numbers, never}
 use Rattle.wasm_core_laws.specs.Again.{in_order, all_there}
 use Rattle.wasm_core_laws.proofs.Everywhere.{counted_more}
 use Rattle.wasm_core_laws.proofs.Numbers.{at_end, number_is, passing_counted, none_first, all_others}

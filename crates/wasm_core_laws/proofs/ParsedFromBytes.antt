@@ -5,7 +5,7 @@ use Rattle.wasm_file.specs.declared.entries.Parts.{Parts}
 use Rattle.wasm_file_laws.specs.FileFits.{AreFewEntries, FitsFile, AreJoined}
 use Rattle.wasm_file_laws.proofs.FileFits.{file_found}
 use Rattle.wasm_core.specs.Contents.{Contents}
-use Rattle.wasm_core.specs.Emission.{filed, too_large, bytes_of}
+use Rattle.wasm_emission.specs.Emission.{filed, too_large, bytes_of}
 use Rattle.wasm_core.specs.Parsing.{longest, module_of}
 use Rattle.wasm_core.specs.declared.types.ParseConfig.{ParseConfig}
 use Rattle.wasm_core_laws.specs.Again.{again}

@@ -45,10 +45,11 @@ use Rattle.wasm_core.specs.declared.types.ParseConfig.{ParseConfig}
 use Rattle.wasm_core.specs.declared.types.Table.{Table}
 use Rattle.wasm_core.specs.declared.types.Tag.{Tag}
 use Rattle.wasm_core.specs.Contents.{Contents}
-use Rattle.wasm_core.specs.Emission.{live, filed, filed_by, file_import, file_type, file_export, file_elem, file_segment}
+use Rattle.wasm_emission.specs.Emission.{live, filed, filed_by, file_import, file_type, file_export, file_elem, file_segment}
 use Rattle.wasm_core.specs.Parsing.{places_of, kind_at, imports_behind, asks_func, asks_table, asks_memory, asks_global, asks_tag, brought, joined, imported_func, imported_table, imported_memory, imported_global, imported_tag, own_funcs, table_of, memory_of, global_of, tag_of, all_funcs, all_producers, is_kept, assembled, longest, made, module_of}
-use Rattle.wasm_core.specs.Reach.{entry_at, import_thing}
-use Rattle.wasm_core.specs.Renumbering.{numbering}
+use Rattle.wasm_core.specs.Remainder.{import_thing}
+use Rattle.wasm_collect.specs.Reach.{entry_at}
+use Rattle.wasm_emission.specs.Renumbering.{numbering}
 use Rattle.wasm_core_laws.specs.ModuleFits.{id_counts, Stands, IfThere, AllThere, type_of_func, FitsFunc, FitsTableEntry, FitsMemoryEntry, FitsGlobalEntry, FitsTagEntry, FitsImportEntry, FitsExportEntry, FitsElemEntry, FitsSegmentEntry, IsStart, FitsCustomEntry, IsBroughtBy, IsLinked, IsLinkedAt, AreInOrder, IsModule, func_brought, table_brought, memory_brought, global_brought, tag_brought, func_imported, table_imported, memory_imported, global_imported, tag_imported}
 use Rattle.wasm_core_laws.proofs.Everywhere.{all_map, all_kept, all_filtered, all_placed, kept_few}
 use Rattle.wasm_core_laws.proofs.FitsStand.{HasCounted, body_stands, initials_stand, item_stands, elem_stands, segment_stands}

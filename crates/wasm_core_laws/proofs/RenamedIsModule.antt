@@ -7,7 +7,7 @@ use Rattle.wasm_file_laws.specs.FileFits.{FitsName}
 use Rattle.wasm_reach.specs.declared.things.Thing.TheVariants as things
 use Rattle.wasm_core.specs.Contents.{Contents}
 use Rattle.wasm_core.specs.Edits.{renamed, with_import, func_named, with_func_name}
-use Rattle.wasm_core.specs.Reach.{entry_of, entry_at}
+use Rattle.wasm_collect.specs.Reach.{entry_of, entry_at}
 use Rattle.wasm_core.specs.declared.types.Func.{Func}
 use Rattle.wasm_core.specs.declared.types.GlobalVar.{GlobalVar}
 use Rattle.wasm_core.specs.declared.types.Import.{Import}

@@ -16,7 +16,7 @@ use Rattle.wasm_ops.specs.declared.ops.BlockType.{BlockType}
 use Rattle.wasm_ops.specs.declared.ops.BlockType.TheVariants as blocks
 use Rattle.wasm_ops_laws.specs.Fits.{IsIndex, FitsBlockType, FitsCatch, FitsOp, FitsOps, FitsInitial, FitsBody}
 use Rattle.wasm_file_laws.proofs.EachItem.{all_apart}
-use Rattle.wasm_core.specs.Reach.{block_names, catch_names, op_names, ops_names}
+use Rattle.wasm_collect.specs.Reach.{block_names, catch_names, op_names, ops_names}
 use Rattle.wasm_core_laws.specs.Renumbered.{IsNumber, TagFits, NumbersFit}
 
 -- a clause fits

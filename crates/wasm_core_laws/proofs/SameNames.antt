@@ -24,8 +24,9 @@ use Rattle.wasm_reach.specs.declared.things.Thing.{Thing}
 use Rattle.wasm_reach.specs.declared.things.Thing.TheVariants as things
 use Rattle.wasm_core.specs.declared.types.ImportKind.{ImportKind}
 use Rattle.wasm_core.specs.declared.types.ImportKind.TheVariants as kinds
-use Rattle.wasm_core.specs.Emission.{file_func, file_item, file_export, file_place, file_elem, file_segment_place, file_segment}
-use Rattle.wasm_core.specs.Reach.{block_names, catch_names, op_names, ops_names, func_thing, content_names, elem_place_names, elem_names, segment_place_names, segment_names, item_thing, import_thing}
+use Rattle.wasm_emission.specs.Emission.{file_func, file_item, file_export, file_place, file_elem, file_segment_place, file_segment}
+use Rattle.wasm_core.specs.Remainder.{import_thing}
+use Rattle.wasm_collect.specs.Reach.{block_names, catch_names, op_names, ops_names, func_thing, content_names, elem_place_names, elem_names, segment_place_names, segment_names, item_thing}
 use Rattle.wasm_core_laws.specs.Again.{kind_again}
 use Rattle.wasm_core_laws.proofs.Everywhere.{all_flattened, all_same}
 

@@ -8,10 +8,10 @@ use Rattle.std.proofs.lemmas.List.{append-nil, length-map, length-take-le, take-
 use Rattle.std.proofs.lemmas.List.Elements.{filter-append}
 use Rattle.std.proofs.lemmas.List.Sums.{sum_by-append}
 use Rattle.wasm_ops.specs.Numbers.{number_at}
-use Rattle.wasm_core.specs.Emission.{live}
+use Rattle.wasm_emission.specs.Emission.{live}
 use Rattle.wasm_core.specs.Parsing.{joined}
-use Rattle.wasm_core.specs.Reach.{entry_of, places}
-use Rattle.wasm_core.specs.Renumbering.{is_first, is_other, number_of, never, numbers}
+use Rattle.wasm_collect.specs.Reach.{entry_of, places}
+use Rattle.wasm_emission.specs.Renumbering.{is_first, is_other, number_of, never, numbers}
 use Rattle.wasm_core_laws.specs.Again.{in_order}
 use Rattle.wasm_core_laws.proofs.Everywhere.{all_map, all_taken, all_counted, none_counted, all_pass, none_pass}
 use Rattle.wasm_core_laws.proofs.Numbers.{get_left, get_right, number_is}

@@ -18,9 +18,9 @@ use Rattle.wasm_core.specs.declared.types.ParseConfig.{ParseConfig}
 use Rattle.wasm_core.specs.declared.types.Table.{Table}
 use Rattle.wasm_core.specs.declared.types.Tag.{Tag}
 use Rattle.wasm_core.specs.Contents.{Contents}
-use Rattle.wasm_core.specs.Emission.{live, file_type, file_export, file_elem, file_segment, file_start, filed, too_large, bytes_of}
+use Rattle.wasm_emission.specs.Emission.{live, file_type, file_export, file_elem, file_segment, file_start, filed, too_large, bytes_of}
 use Rattle.wasm_core.specs.Parsing.{is_kept, longest}
-use Rattle.wasm_core.specs.Renumbering.{never, numbers, numbering}
+use Rattle.wasm_emission.specs.Renumbering.{never, numbers, numbering}
 use Rattle.wasm_core_laws.specs.ModuleFits.{func_imported, table_imported, memory_imported, global_imported, tag_imported}
 
 -- the live entries in the order in which they are written: those that pass the test first

@@ -27,9 +27,10 @@ use Rattle.wasm_core.specs.declared.types.Memory.{Memory}
 use Rattle.wasm_core.specs.declared.types.Table.{Table}
 use Rattle.wasm_core.specs.declared.types.Tag.{Tag}
 use Rattle.wasm_core.specs.Contents.{Contents}
-use Rattle.wasm_core.specs.Emission.{live}
+use Rattle.wasm_emission.specs.Emission.{live}
 use Rattle.wasm_core.specs.Parsing.{is_kept}
-use Rattle.wasm_core.specs.Reach.{entry_at, stands, places, ops_names, elem_names, segment_names, item_thing, import_thing}
+use Rattle.wasm_core.specs.Remainder.{import_thing}
+use Rattle.wasm_collect.specs.Reach.{entry_at, stands, places, ops_names, elem_names, segment_names, item_thing}
 
 -- ---- what is named
 

@@ -2,7 +2,7 @@
 
 ghost use Rattle.std.specs.Prelude.{◌≡◌};
 ghost use Rattle.wasm_core.specs.Contents.{Contents};
-ghost use Rattle.wasm_core.specs.Emission.{filed};
+ghost use Rattle.wasm_emission.specs.Emission.{filed};
 ghost use Rattle.wasm_core.specs.Parsing.{assembled};
 ghost use Rattle.wasm_core.specs.declared.types.ParseConfig.{ParseConfig};
 ghost use Rattle.wasm_core_laws.specs.Again.{IsWithinLimits, again};

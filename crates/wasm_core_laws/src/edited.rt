@@ -3,7 +3,7 @@
 ghost use Rattle.std.specs.Prelude.{ℕ, List, length};
 ghost use Rattle.wasm_core.specs.Contents.{Contents};
 ghost use Rattle.wasm_core.specs.Edits.{IsLiveItem, with_export, without_export, with_import, with_func_name, without_start, without_custom, with_processed_by, localized, with_func};
-ghost use Rattle.wasm_core.specs.Reach.{ops_names};
+ghost use Rattle.wasm_collect.specs.Reach.{ops_names};
 ghost use Rattle.wasm_core_laws.specs.ModuleFits.{IsModule, AllStand, id_counts};
 ghost use Rattle.wasm_file.specs.declared.entries.ExportItem.{ExportItem};
 ghost use Rattle.wasm_file_laws.specs.FileFits.{FitsName, FitsFuncType};

@@ -2,7 +2,7 @@
 
 ghost use Rattle.wasm_file_laws.specs.FileFits.{AreFewEntries, FitsFile};
 ghost use Rattle.wasm_core.specs.Contents.{Contents};
-ghost use Rattle.wasm_core.specs.Emission.{filed};
+ghost use Rattle.wasm_emission.specs.Emission.{filed};
 ghost use Rattle.wasm_core_laws.specs.ModuleFits.{IsModule};
 
 /// The lists that a file has of a module fit the grammar, where no kind has too many entries.

@@ -2,7 +2,7 @@
 
 ghost use Rattle.std.specs.Prelude.{◌≡◌, Ok};
 ghost use Rattle.wasm_core.specs.Contents.{Contents};
-ghost use Rattle.wasm_core.specs.Emission.{bytes_of};
+ghost use Rattle.wasm_emission.specs.Emission.{bytes_of};
 ghost use Rattle.wasm_core.specs.Parsing.{module_of};
 ghost use Rattle.wasm_core.specs.declared.types.ParseConfig.{ParseConfig};
 ghost use Rattle.wasm_core_laws.specs.Again.{IsWithinLimits, again};

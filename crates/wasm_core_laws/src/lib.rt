@@ -2,8 +2,8 @@
 //!
 //! Each law is the contract of a function without a body: a module whose entries fit the grammar and name what is there, once
 //! it is written, is read as the same live entries, renumbered in the order of emission; what is read is such a module, and
-//! what is left of one by collecting or editing is one again. It stands on `wasm_core`, `wasm_file_laws`, `wasm_reach`,
-//! `wasm_file`, `wasm_code`, `packed_ops`, `wasm_ops`, `wasm_types`, `wasm_bytes` and `values`.
+//! what is left of one by collecting or editing is one again. It stands on `wasm_core`, `wasm_emission`, `wasm_collect`,
+//! `wasm_file_laws`, `wasm_reach`, `wasm_file`, `wasm_code`, `packed_ops`, `wasm_ops`, `wasm_types`, `wasm_bytes` and `values`.
 #![tactic(auto)]
 
 mod assembled;

@@ -3,7 +3,7 @@
 ghost use Rattle.std.specs.Prelude.{◌≡◌, ℕ, ◌≤◌, true, length, List, None, Ok};
 ghost use Rattle.wasm_bytes.specs.Reads.{AreBytes};
 ghost use Rattle.wasm_core.specs.Contents.{Contents};
-ghost use Rattle.wasm_core.specs.Emission.{filed, too_large, bytes_of};
+ghost use Rattle.wasm_emission.specs.Emission.{filed, too_large, bytes_of};
 ghost use Rattle.wasm_core.specs.Parsing.{longest, module_of};
 ghost use Rattle.wasm_core.specs.declared.types.ParseConfig.{ParseConfig};
 ghost use Rattle.wasm_core_laws.specs.Again.{again};

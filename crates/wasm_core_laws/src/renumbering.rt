@@ -2,9 +2,9 @@
 
 ghost use Rattle.std.specs.Prelude.{◌≡◌, ◌<◌, ℕ, Bool, List, Option, Some, length, slice_get};
 ghost use Rattle.wasm_ops.specs.Numbers.{number_at};
-ghost use Rattle.wasm_core.specs.Emission.{live};
-ghost use Rattle.wasm_core.specs.Reach.{entry_at};
-ghost use Rattle.wasm_core.specs.Renumbering.{numbers, never};
+ghost use Rattle.wasm_emission.specs.Emission.{live};
+ghost use Rattle.wasm_collect.specs.Reach.{entry_at};
+ghost use Rattle.wasm_emission.specs.Renumbering.{numbers, never};
 ghost use Rattle.wasm_core_laws.specs.Again.{in_order};
 
 /// The entry at a place stands at the place's number in the list that is written, which has as many as are there.

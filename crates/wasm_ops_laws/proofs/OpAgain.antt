@@ -13,7 +13,7 @@ use Rattle.wasm_bytes.specs.Spelling.{list_bytes}
 use Rattle.wasm_bytes.specs.Reads.{Reads}
 use Rattle.wasm_bytes.proofs.ReadAgain.{reads_pure, reads_bind, reads_end, reads_byte, reads_raw, reads_allowed, reads_meant, reads_entries, reads_list, number32_again, number64_again, signed32_again, signed33_again, signed64_again}
 use Rattle.wasm_types.proofs.TypesAgain.{val_type_again}
-use Rattle.packed_ops.proofs.PackedAgain.{all_any}
+use Rattle.wasm_ops.proofs.Written.{all_any}
 use Rattle.wasm_types.specs.Types.{val_type_of, code_of, is_reference}
 use Rattle.wasm_types.specs.declared.types.ValType.{ValType}
 use Rattle.wasm_types.specs.declared.types.ValType.TheVariants.{I32, I64, F32, F64, V128, FuncRef, ExternRef, ExnRef}

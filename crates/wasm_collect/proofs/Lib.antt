@@ -1,0 +1,5 @@
+pub mod Places
+pub mod Declared
+pub mod Kept
+pub mod Collected
+pub mod Nameless

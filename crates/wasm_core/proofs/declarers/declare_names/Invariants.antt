@@ -1,6 +1,0 @@
-use Rattle.std.proofs.Common.{take}
-use Rattle.wasm_core.specs.Edges.{Fills, named_by}
-use Rattle.wasm_core.proofs.declarers.declare_names.Given as goal
-
-abbrev pub invariant-loop-name : goal.invariant-loop-name
-invariant-loop-name l = Fills (named_by l.thing (take l.name-index l.names)) l.fn.declarers.items l.declarers.items

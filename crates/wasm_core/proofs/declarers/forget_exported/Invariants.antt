@@ -1,6 +1,0 @@
-use Rattle.std.proofs.Common.{take}
-use Rattle.wasm_core.specs.Edges.{AreForgotten}
-use Rattle.wasm_core.proofs.declarers.forget_exported.Given as goal
-
-abbrev pub invariant-loop-entry : goal.invariant-loop-entry
-invariant-loop-entry l = AreForgotten (take l.entry-index l.exports) l.fn.declarers.items l.declarers.items

@@ -1,6 +1,0 @@
-use Rattle.std.proofs.Common.{arith}
-use Rattle.std.proofs.lemmas.Grind.{common_steps}
-use Rattle.wasm_core.proofs.naming.push_catches.Goals as goal
-
-pub loop-clause-preserved : goal.loop-clause-preserved
-loop-clause-preserved c = grind (arith, common_steps)

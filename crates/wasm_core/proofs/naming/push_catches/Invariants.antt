@@ -1,7 +1,0 @@
-use Rattle.std.proofs.Common.{◌≡◌, ◌++◌, take}
-use Rattle.std.specs.List.{flat_map}
-use Rattle.wasm_core.specs.Reach.{catch_names}
-use Rattle.wasm_core.proofs.naming.push_catches.Given as goal
-
-abbrev pub invariant-loop-clause : goal.invariant-loop-clause
-invariant-loop-clause l = l.out.items ≡ l.fn.out.items ++ flat_map catch_names (take l.clause-index l.clauses)

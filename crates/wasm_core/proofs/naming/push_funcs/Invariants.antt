@@ -1,6 +1,0 @@
-use Rattle.std.proofs.Common.{◌≡◌, ◌++◌, take, map}
-use Rattle.wasm_core.specs.Reach.{func_thing}
-use Rattle.wasm_core.proofs.naming.push_funcs.Given as goal
-
-abbrev pub invariant-loop-func : goal.invariant-loop-func
-invariant-loop-func l = l.out.items ≡ l.fn.out.items ++ map func_thing (take l.func-index l.funcs)

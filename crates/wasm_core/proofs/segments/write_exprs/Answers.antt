@@ -1,6 +1,0 @@
-use Rattle.std.proofs.Common.{arith}
-use Rattle.std.proofs.lemmas.Grind.{common_steps}
-use Rattle.wasm_core.proofs.segments.write_exprs.Goals as goal
-
-pub loop-expr-preserved : goal.loop-expr-preserved
-loop-expr-preserved c = grind (arith, common_steps)
