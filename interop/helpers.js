@@ -7,10 +7,10 @@ const vm = require("node:vm");
 
 const cases = JSON.parse(fs.readFileSync(0, "utf8"));
 
-// The text of a helper, of its only form or of the one whose name begins so.
-function text(key, form = "") {
-  const found = cases.filter((c) => c.key === key && c.form.startsWith(form));
-  assert.strictEqual(found.length, 1, `one text of ${key} ${form}`);
+// The text of a helper, of its only form or of the one that depends on these parts; a part that isn't there is false.
+function text(key, parts = {}) {
+  const found = cases.filter((c) => c.key === key && Object.keys(parts).every((part) => (c.parts[part] ?? false) === parts[part]));
+  assert.strictEqual(found.length, 1, `one text of ${key} ${JSON.stringify(parts)}`);
   return found[0].text;
 }
 
@@ -172,12 +172,12 @@ function memory() {
 }
 
 // Passes a string, by `encode` where nothing can be moved, and compares the bytes.
-function passes(encoder, Encoder, place, form, moves, string, want) {
+function passes(encoder, Encoder, place, moves, string, want) {
   const { bytes, malloc, realloc } = memory();
   const view = `getUint8ArrayMemory${place}`;
   const pass = `passStringToWasm${place}`;
   const outside = { [view]: () => bytes, TextEncoder: Encoder };
-  const texts = [text("text_encoder", encoder), text("wasm_vector_len"), text(pass, form)];
+  const texts = [text("text_encoder", { encoder }), text("wasm_vector_len"), text(pass)];
   const all = bound([...texts, "const length = () => WASM_VECTOR_LEN;\n"], [pass, "length"], outside);
   const ptr = all[pass](string, malloc, moves ? realloc : undefined);
   assert.strictEqual(all.length(), want.length);
@@ -185,15 +185,15 @@ function passes(encoder, Encoder, place, form, moves, string, want) {
 }
 
 for (const [encoder, Encoder, title] of [
-  ["Plain(PlainHelper::TextEncoder)", TextEncoder, "encodeInto"],
-  ["Plain(PlainHelper::TestedTextEncoder)", TextEncoder, "encodeInto, where it is there"],
-  ["Plain(PlainHelper::TestedTextEncoder)", BareEncoder, "copies, where it isn't there"],
-  ["Plain(PlainHelper::CopyingTextEncoder)", TextEncoder, "copies"],
+  ["own", TextEncoder, "encodeInto"],
+  ["tested", TextEncoder, "encodeInto, where it is there"],
+  ["tested", BareEncoder, "copies, where it isn't there"],
+  ["copying", TextEncoder, "copies"],
 ]) {
   run(`passStringToWasm by ${title}`, STRINGS, (string, want) => {
     for (const moves of [true, false]) {
-      passes(encoder, Encoder, 0, "PassString(0, false)", moves, string, want);
-      passes(encoder, Encoder, 3, "PassString(3, true)", moves, string, want);
+      passes(encoder, Encoder, 0, moves, string, want);
+      passes(encoder, Encoder, 3, moves, string, want);
     }
   });
 }
@@ -203,12 +203,15 @@ run("passStringToWasm of a number", [["expected a string argument, found number"
   assert.strictEqual(thrown(() => all.passStringToWasm3(1)), want);
 });
 
-for (const form of ["Plain(PlainHelper::TextDecoder)", "Plain(PlainHelper::BrowserTextDecoder)"]) {
-  const { decodeText } = bound([text("text_decoder", form)], ["decodeText"]);
+for (const [browser, title] of [
+  [false, "TextDecoder"],
+  [true, "BrowserTextDecoder"],
+]) {
+  const { decodeText } = bound([text("text_decoder", { browser })], ["decodeText"]);
   const rows = STRINGS.filter(([string]) => string.isWellFormed?.() ?? !/\p{Surrogate}/u.test(string));
   // A byte order mark stays, and a byte that begins no character is U+FFFD.
   rows.push(["\ufeffa", [0xef, 0xbb, 0xbf, 0x61]], ["\ufffda", [0xff, 0x61]]);
-  run(`decodeText, ${form.slice(19, -1)}`, rows, (want, bytes) => {
+  run(`decodeText, ${title}`, rows, (want, bytes) => {
     assert.strictEqual(decodeText(new Uint8Array(bytes)), want);
   });
 }
@@ -220,7 +223,7 @@ const ADDRESS = 2147483648;
 const answers = () => NEGATIVE;
 
 // The places that a helper reaches in the view of this name, and the address that it answers, if it does.
-function reached(helper, form, view, args) {
+function reached(helper, parts, view, args) {
   const places = [];
   const reach = (place) => {
     places.push(place);
@@ -244,28 +247,28 @@ function reached(helper, form, view, args) {
     takeObject: () => null,
     wasm: { __wbindgen_externrefs: { get: () => null }, __externref_drop_slice: () => {} },
   };
-  const answer = bound([text("wasm_vector_len"), text(helper, form)], [helper], outside)[helper](...args);
+  const answer = bound([text("wasm_vector_len"), text(helper, parts)], [helper], outside)[helper](...args);
   return typeof answer === "number" ? [...places, answer] : places;
 }
 
 run(
   "addresses from 2 GiB on",
   [
-    ["getStringFromWasm0", "", "getUint8ArrayMemory0", [NEGATIVE, 3], [ADDRESS, ADDRESS + 3]],
-    ["getArrayU8FromWasm0", "", "getUint8ArrayMemory0", [NEGATIVE, 3], [ADDRESS, ADDRESS + 3]],
-    ["getArrayU64FromWasm0", "", "getBigUint64ArrayMemory0", [NEGATIVE, 3], [ADDRESS / 8, ADDRESS / 8 + 3]],
-    ["getArrayJsValueFromWasm0", "Array(ArrayForm::GetValuesByTable", "getDataViewMemory0", [NEGATIVE, 1], [ADDRESS]],
-    ["getArrayJsValueFromWasm0", "Array(ArrayForm::GetValuesByHeap", "getDataViewMemory0", [NEGATIVE, 1], [ADDRESS]],
-    ["passArray32ToWasm0", "", "getUint32ArrayMemory0", [[1], answers], [ADDRESS / 4, ADDRESS]],
-    ["passArrayJsValueToWasm0", "Array(ArrayForm::PassValuesByTable", "getDataViewMemory0", [[1], answers], [ADDRESS, ADDRESS]],
-    ["passArrayJsValueToWasm0", "Array(ArrayForm::PassValuesByHeap", "getDataViewMemory0", [[1], answers], [ADDRESS, ADDRESS]],
+    ["getStringFromWasm0", {}, "getUint8ArrayMemory0", [NEGATIVE, 3], [ADDRESS, ADDRESS + 3]],
+    ["getArrayU8FromWasm0", {}, "getUint8ArrayMemory0", [NEGATIVE, 3], [ADDRESS, ADDRESS + 3]],
+    ["getArrayU64FromWasm0", {}, "getBigUint64ArrayMemory0", [NEGATIVE, 3], [ADDRESS / 8, ADDRESS / 8 + 3]],
+    ["getArrayJsValueFromWasm0", { externref: true }, "getDataViewMemory0", [NEGATIVE, 1], [ADDRESS]],
+    ["getArrayJsValueFromWasm0", { externref: false }, "getDataViewMemory0", [NEGATIVE, 1], [ADDRESS]],
+    ["passArray32ToWasm0", {}, "getUint32ArrayMemory0", [[1], answers], [ADDRESS / 4, ADDRESS]],
+    ["passArrayJsValueToWasm0", { externref: true }, "getDataViewMemory0", [[1], answers], [ADDRESS, ADDRESS]],
+    ["passArrayJsValueToWasm0", { externref: false }, "getDataViewMemory0", [[1], answers], [ADDRESS, ADDRESS]],
     ...["0", "3"].flatMap((place) => [
-      [`passStringToWasm${place}`, "", `getUint8ArrayMemory${place}`, ["a", answers], [ADDRESS, ADDRESS + 1, ADDRESS]],
-      [`passStringToWasm${place}`, "", `getUint8ArrayMemory${place}`, ["a", answers, answers], [ADDRESS]],
-      [`passStringToWasm${place}`, "", `getUint8ArrayMemory${place}`, ["\u00e9", answers, answers], [ADDRESS, ADDRESS + 3, ADDRESS]],
+      [`passStringToWasm${place}`, {}, `getUint8ArrayMemory${place}`, ["a", answers], [ADDRESS, ADDRESS + 1, ADDRESS]],
+      [`passStringToWasm${place}`, {}, `getUint8ArrayMemory${place}`, ["a", answers, answers], [ADDRESS]],
+      [`passStringToWasm${place}`, {}, `getUint8ArrayMemory${place}`, ["\u00e9", answers, answers], [ADDRESS, ADDRESS + 3, ADDRESS]],
     ]),
   ],
-  (helper, form, view, args, want) => assert.deepStrictEqual(reached(helper, form, view, args), want),
+  (helper, parts, view, args, want) => assert.deepStrictEqual(reached(helper, parts, view, args), want),
 );
 
 process.exit(wrong === 0 ? 0 : 1);

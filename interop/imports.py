@@ -1,12 +1,11 @@
 #!/usr/bin/env python3
 """Compares the statements that imports become with texts that were typed from those of the original.
 
-imports.json has for each kind of import and each operation how it is called, whether each operand is read as signed (`i`)
-or unsigned (`u`), and the statements for Deno. Each import that begins with the global `Thing` is tried twice more, with a
-name of a module and with a vendor's name in its place, but where the name can be the import itself. Where a property of a
-name of a module is only handed on to, its definition is an expression, which is compared in place of the statements. All
-imports that are built are put into one module, whose glue file is made by the program; then each member is compared, and
-the lines that bind the two names. Imports that the program names as not built are counted.
+The rows of `crates/text_rows/data/import_texts.jsonl` say for imports of each kind and each operation how it is called, how each operand is
+read (`i` as signed, `u` as unsigned, `b` as a truth, `n` as a truth that is read as an unsigned number), and the statements that are wanted,
+or the expression, where a property of a module's name is only handed on to. Those for Deno are put into one module, whose glue file is made
+by the program; then each member is compared, and the lines that bind names that aren't of the global scope. Imports that the program names
+as not built are counted, and rows that ask for another target, another setting, or a name that isn't drawn here are left out.
 
 The program is the one that the environment variable GLUE names, or else the one that the script glue runs. Needs Python
 3.9. It is no part of the gate.
@@ -14,7 +13,6 @@ The program is the one that the environment variable GLUE names, or else the one
 
 import json
 import os
-import re
 import subprocess
 import sys
 from pathlib import Path
@@ -46,53 +44,42 @@ def section(number, content):
     return bytes([number]) + leb128(len(content)) + content
 
 
-# Names that stand in place of the global, those that are drawn for them, and the lines that bind these.
-OTHERS = [
-    (
-        {"module": "./m.js", "name": "Widget"},
-        "Widget",
-        'import { Widget } from "./m.js";',
-    ),
-    (
-        {"vendor": "Gadget", "prefixes": ["webkit"]},
-        "lGadget",
-        'const lGadget = (typeof Gadget !== "undefined" ? Gadget : '
-        '(typeof webkitGadget !== "undefined" ? webkitGadget : undefined));',
-    ),
-]
+# The names that are drawn, and the lines that bind them.
+DRAWN = {
+    "Widget": 'import { Widget } from "./m.js";',
+    "lAudio": 'const lAudio = (typeof Audio !== "undefined" ? Audio : '
+    '(typeof webkitAudio !== "undefined" ? webkitAudio : undefined));',
+    "lGadget": 'const lGadget = (typeof Gadget !== "undefined" ? Gadget : '
+    '(typeof webkitGadget !== "undefined" ? webkitGadget : undefined));',
+}
+
+# The names of the exports of items.
+EXPORTED = ["memory", "table"]
+
+# What makes an operand of a 32-bit integer, by the letter that says how it is read.
+MADE = {
+    "i": [["WasmToInt32", False]],
+    "u": [["WasmToInt32", True]],
+    "b": [["BoolFromI32"]],
+    "n": [["BoolFromI32"], ["I32FromBool"], ["WasmToInt32", True]],
+}
 
 
-def only_hands_on(case, name):
-    """Whether a name of a module is called with nothing changed: it is the import itself, and a property of it a definition."""
-    plain = case["kind"] == "normal" and not case["variadic"] and "u" not in case["args"]
-    return "module" in name and case["what"][0] == "Bare" and plain
+def is_plain(row):
+    """Whether the import of a row can stand in the module that is made here."""
+    if any(key in row for key in ("target", "split", "references", "slots")):
+        return False
+    return row.get("drawn", "Widget") in DRAWN and row.get("export", "memory") in EXPORTED
 
 
-def definition(text):
-    """The expression that defines an import which only hands on, told by the statements of a function that calls the same."""
-    access = re.match(r"(?:const ret = )?(.*?)\(", text)[1]
-    return f'typeof {access} == "function" ? {access} : notDefined({json.dumps(access)})'
-
-
-def with_others(cases):
-    """The cases, and those that begin with the global again, with each of the other names."""
-    more = list(cases)
-    for name, drawn, _ in OTHERS:
-        for case in cases:
-            named = [part for part in case["what"] if isinstance(part, dict) and part.get("global") == "Thing"]
-            handed = only_hands_on(case, name)
-            if named and (named[0]["fields"] or not handed):
-                what = [{**name, "fields": part["fields"]} if part in named else part for part in case["what"]]
-                text = case["text"].replace("Thing", drawn)
-                text = definition(text) if handed else text
-                more.append({**case, "name": f"{case['name']} by {drawn}", "what": what, "text": text})
-    return more
+def read_rows():
+    with (HERE.parent / "crates/text_rows/data/import_texts.jsonl").open(encoding="utf-8") as lines:
+        return [json.loads(line) for line in lines]
 
 
 def adapters(case, place):
     """The adapter that stands for the import at a place, and the one that it calls."""
-    operands = [["WasmToInt32", letter == "u"] for letter in case["args"]]
-    code = [step for number, read in enumerate(operands) for step in (["ArgGet", number], read)]
+    code = [step for number, letter in enumerate(case["args"]) for step in [["ArgGet", number], *MADE[letter]]]
     code.append(["CallAdapter", 2 * place + 1])
     types = ["s32"] * len(case["args"])
     results = ["s32"] if case["result"] else []
@@ -141,20 +128,23 @@ def member(text, place):
 
 def main():
     command = [os.environ.get("GLUE", str(HERE.parent / "glue"))]
-    cases = with_others(json.loads((HERE / "imports.json").read_text(encoding="utf-8")))
+    rows = read_rows()
+    cases = [row for row in rows if is_plain(row)]
     told = [listing(command, [case]) for case in cases]
     built = [case for case, text in zip(cases, told) if not text.startswith("fault")]
     refused = [text for text in told if text.startswith("fault")]
     if any(text != "fault NotBuilt\n" for text in refused):
         sys.exit(f"refused in another way: {sorted(set(refused))}")
     text = listing(command, built)
-    front = text[text.index("\nfile out.js") :].split("\n")[2 : 2 + len(OTHERS)]
-    if front != [line for _, _, line in OTHERS]:
+    front = text[text.index("\nfile out.js") :].split("\n")[2 : 2 + len(DRAWN)]
+    if sorted(front) != sorted(DRAWN.values()):
         sys.exit(f"the names are bound by {front}")
-    wrong = [case for place, case in enumerate(built) if member(text, place) != case["text"]]
-    for case in wrong:
-        print(f"{case['name']}: {member(text, built.index(case))!r} in place of {case['text']!r}")
-    print(f"{len(built) - len(wrong)} of {len(cases)} texts are the same, {len(refused)} aren't built, {len(wrong)} differ")
+    wrong = [(case, member(text, place)) for place, case in enumerate(built)]
+    wrong = [(case, got) for case, got in wrong if got != case["text"]]
+    for case, got in wrong:
+        print(f"{case['name']}: {got!r} in place of {case['text']!r}")
+    same = len(built) - len(wrong)
+    print(f"{same} of {len(cases)} texts are the same, {len(refused)} aren't built, {len(wrong)} differ, {len(rows) - len(cases)} are left out")
     sys.exit(bool(wrong))
 
 

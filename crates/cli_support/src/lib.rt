@@ -6,7 +6,7 @@
 //! keys of the description are listed in order of bytes, each once; the module is the one that was read, made fit for the call's
 //! settings, with nothing kept but what can be reached, its own imports moved and its start function exported.
 //!
-//! Stands on `wasm_core`, `wasm_emission`, `wasm_collect`, `glue_prepare`, `glue_lower`, `glue_check`, `claimed_modules`, `printed_adapters`, `glue_names`, `glue_faults`,
+//! Stands on `wasm_core`, `wasm_emission`, `wasm_collect`, `glue_prepare`, `glue_lower`, `glue_check`, `glue_names`, `glue_faults`,
 //! `glue_naming`, `glue_context`, `glue_targets`, `glue_steps`, `glue_scope`, `glue_words`, `glue_shared`, `glue_layout` and `glue_ends`.
 #![tactic(auto)]
 

@@ -1,17 +1,10 @@
-//! Tests of whole calls of `cli_support`: which targets and settings can be asked for, what becomes of the input, and the faults in their
-//! order. Lengths of files were worked out by hand. Files of modules with descriptions stand in `described_cases`, what is published of
-//! them in `export_cases`.
+//! Tests of calls of `cli_support` that no row of `run_rows` makes: the use of the library that README.md shows, and a module that is
+//! changed where an output has it.
+//!
+//! Stands on `cli_support` for the calls, on `glue_ends` for files, and on `values`.
 #![tactic(auto)]
 
 #[cfg(test)]
-mod choices;
-#[cfg(test)]
-mod compare;
-#[cfg(test)]
-mod inputs;
-#[cfg(test)]
 mod library;
 #[cfg(test)]
-mod settings;
-#[cfg(test)]
-mod support;
+mod output;

@@ -1,11 +1,13 @@
-use crate::compare::{assert_told, shown};
+use crate::compare::assert_told;
 use glue_ends::{
-    MemSink, MemSource, PlannedFile, ReadEnd, Sink, Source, Stop, WriteEnd, WriteFault, read_whole,
+    MemSink, MemSource, PlannedFile, ReadEnd, Sink, Source, WriteEnd, WriteFault, read_whole,
     write_files,
 };
+use glue_inputs::shown;
 use std::alloc::{AllocError, Global};
 use std::io;
 use std::io::Read;
+use std::process::Abort;
 use values::{Seq, Text};
 
 /// What is read, at most `limit` bytes, of a source that gives two bytes a call and fails at one call.
@@ -28,11 +30,30 @@ const READS: &[(&[u8], u64, usize, &str)] = &[
     (b"a", 0, 0, "Err(TooLong)"),
 ];
 
+/// A reader whose reads fail.
+#[derive(Drop)]
+struct Broken;
+
+impl Read for Broken {
+    fn read(&mut self, _buf: &mut [u8]) -> io::Result<usize> {
+        Err(io::Error::from(io::ErrorKind::Other))
+    }
+}
+
+/// What is read of a reader over three bytes.
+fn reader_told(alloc: Global) -> Result<String, AllocError> {
+    let text: &[u8] = b"abc";
+    shown(alloc, read_whole(alloc, &mut ReadEnd::new(text), 3, 2))
+}
+
 #[test]
 fn a_source_is_read_to_its_end(rt: HostRuntime) -> Result<(), AllocError> {
     for (bytes, fail, limit, want) in READS {
         assert_told(&rt, source_told(rt.alloc(), bytes, *fail, *limit), want)?;
     }
+    assert_told(&rt, reader_told(rt.alloc()), "Ok([97, 98, 99])")?;
+    let mut buf = [0u8; 2];
+    assert!(rt; ReadEnd::new(Broken).read(&mut buf).is_err());
     Ok(())
 }
 
@@ -98,47 +119,24 @@ const LISTINGS: &[(u64, &[u8])] = &[
     ),
 ];
 
-#[test]
-fn two_files_are_listed(rt: HostRuntime) -> Result<(), AllocError> {
-    let files = two_files(rt.alloc())?;
-    for (fail, taken) in LISTINGS {
-        // Six calls write the listing.
-        let is_written = is_listed(rt.alloc(), files.as_slice(), *fail, taken)?;
-        assert!(rt; is_written == Some(*fail == 7), "at {fail}");
-    }
-    Ok(())
-}
-
-#[derive(Drop)]
-struct Broken;
-
-impl Read for Broken {
-    fn read(&mut self, _buf: &mut [u8]) -> io::Result<usize> {
-        Err(io::Error::from(io::ErrorKind::Other))
-    }
-}
-
-#[test]
-fn a_reader_is_a_source(rt: HostRuntime) -> Result<(), Stop> {
-    let text: &[u8] = b"abc";
-    let all = read_whole(rt.alloc(), &mut ReadEnd::new(text), 3, 2)?;
-    assert!(rt; all.as_slice() == text);
-    Ok(())
-}
-
-#[test]
-fn a_reader_may_fail(rt: HostRuntime) {
-    let mut buf = [0u8; 2];
-    assert!(rt; ReadEnd::new(Broken).read(&mut buf).is_err());
-}
-
-#[test]
-fn writers_are_sinks(rt: HostRuntime) {
-    // A slice with no room takes none of the bytes.
+/// A slice with no room takes none of the bytes.
+fn assert_written<H: Abort>(rt: &H) {
     let mut kept = [0u8; 4];
     let mut sink = WriteEnd::new(kept.as_mut_slice());
     assert!(rt; sink.write_all(b"abc").is_ok());
     assert!(rt; sink.write_all(b"de") == Err(WriteFault::Failed));
     drop(sink);
     assert!(rt; kept.as_slice() == b"abcd".as_slice());
+}
+
+#[test]
+fn files_are_listed_to_a_sink(rt: HostRuntime) -> Result<(), AllocError> {
+    let files = two_files(rt.alloc())?;
+    for (fail, taken) in LISTINGS {
+        // Six calls write the listing.
+        let is_written = is_listed(rt.alloc(), files.as_slice(), *fail, taken)?;
+        assert!(rt; is_written == Some(*fail == 7), "at {fail}");
+    }
+    assert_written(&rt);
+    Ok(())
 }

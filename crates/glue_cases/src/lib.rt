@@ -1,6 +1,6 @@
-//! Tests of what stands beside adapters: names, words and items (`glue_scope`), the marked notation (`glue_marked`), indentation
-//! (`glue_layout`), sources and sinks (`glue_ends`), names of hosts and own imports (`glue_shared`), and what is done to a module before
-//! it is lowered (`glue_prepare`). Texts, files and lengths were worked out by hand; modules are those that `wat2wasm` of wabt writes.
+//! Tests of what no row of data reaches beside adapters: sources and sinks that fail, readers and writers of std (`glue_ends`), words and items
+//! that are put together and copied (`glue_words`), and what a lowered module gives whose adapter names entries that aren't there
+//! (`glue_shared`). Texts, files and lengths were worked out by hand.
 #![tactic(auto)]
 
 #[cfg(test)]
@@ -8,12 +8,6 @@ mod compare;
 #[cfg(test)]
 mod ends;
 #[cfg(test)]
-mod layout;
-#[cfg(test)]
-mod marked;
-#[cfg(test)]
-mod prepare;
-#[cfg(test)]
-mod scope;
+mod items;
 #[cfg(test)]
 mod shared;

@@ -1,81 +1,12 @@
-use crate::compare::{assert_case, assert_told, shown};
-use glue_inputs::{CONFIG, settings};
+use crate::compare::assert_told;
+use glue_inputs::{CONFIG, settings, shown};
 use glue_shared::{
     Adapter, AdapterId, AdapterKind, EncodeInto, Instruction, Lowered, NonstandardWitSection,
-    Target, WasmBindgenAux, is_fixed_name, is_host_name, live_count, own_imports, roots,
+    Target, WasmBindgenAux, live_count, own_imports, roots,
 };
 use std::alloc::{AllocError, Global};
-use std::process::Abort;
 use values::{Map, Seq};
 use wasm_core::{FuncId, ImportId, MemoryId, Module, ParseFault};
-
-/// The name; whether Deno, whether Emscripten has it; whether it is fixed.
-const NAMES: &[(&str, bool, bool, bool)] = &[
-    ("Array", true, true, false),
-    ("console", true, true, false),
-    ("HEAP8", false, true, false),
-    ("wasm", false, false, true),
-    ("getObject", false, false, true),
-    ("import0", false, false, true),
-    ("import1", false, false, false),
-    ("import", false, false, false),
-    ("add", false, false, false),
-    ("Arra", false, false, false),
-    ("", false, false, false),
-];
-
-/// Whether a target has the name.
-fn has_host(
-    alloc: Global,
-    target: Target,
-    aux: &WasmBindgenAux,
-    name: &str,
-) -> Result<bool, AllocError> {
-    let settings = settings(alloc, target, EncodeInto::Test)?;
-    Ok(is_host_name(name, &settings, aux))
-}
-
-/// Which of the names the targets have.
-fn assert_hosts<H: Abort>(rt: &H, alloc: Global, aux: &WasmBindgenAux) -> Result<(), AllocError> {
-    for (name, on_deno, on_emscripten, _) in NAMES {
-        let is_of_deno = has_host(alloc, Target::Deno, aux, name)?;
-        let is_of_emscripten = has_host(alloc, Target::Emscripten, aux, name)?;
-        assert_case(rt, is_of_deno == *on_deno, name);
-        assert_case(rt, is_of_emscripten == *on_emscripten, name);
-    }
-    Ok(())
-}
-
-#[test]
-fn names_are_told_from_hosts(rt: HostRuntime) -> Result<(), AllocError> {
-    let aux = WasmBindgenAux::empty(rt.alloc());
-    let done = assert_hosts(&rt, rt.alloc(), &aux);
-    drop(aux);
-    done
-}
-
-/// Which of the names helpers or texts may bind in the module.
-fn assert_fixed<H: Abort>(rt: &H, alloc: Global, module: &Module) -> Result<(), AllocError> {
-    let settings = settings(alloc, Target::Deno, EncodeInto::Test)?;
-    for (name, _, _, fixed) in NAMES {
-        assert_case(rt, is_fixed_name(name, &settings, module) == *fixed, name);
-    }
-    Ok(())
-}
-
-#[test]
-fn names_are_told_from_fixed_ones(rt: HostRuntime) -> Result<(), ParseFault> {
-    let module = Module::parse(rt.alloc(), b"\0asm\x01\0\0\0", &CONFIG)?;
-    let done = assert_fixed(&rt, rt.alloc(), &module);
-    drop(module);
-    Ok(done?)
-}
-
-#[test]
-fn entries_that_stand_are_counted(rt: HostRuntime) {
-    assert!(rt; live_count(&[Some(1u8), None, Some(2)]) == 2);
-    assert!(rt; live_count::<u8>(&[]) == 0);
-}
 
 /// An adapter that names function 1 and a memory that isn't there.
 fn adapter(alloc: Global) -> Result<Adapter, AllocError> {
@@ -140,15 +71,6 @@ fn roots_told(alloc: Global) -> Result<String, ParseFault> {
     Ok(shown(alloc, found?)?)
 }
 
-#[test]
-fn roots_are_what_is_named_and_there(rt: HostRuntime) -> Result<(), ParseFault> {
-    assert_told(
-        &rt,
-        roots_told(rt.alloc()),
-        "[Func(FuncId(1)), Func(FuncId(0)), Memory(MemoryId(0))]",
-    )
-}
-
 /// The own imports of that module: the one that an adapter implements.
 fn own_told(alloc: Global) -> Result<String, ParseFault> {
     let lowered = lowered(alloc)?;
@@ -164,7 +86,13 @@ fn own_told(alloc: Global) -> Result<String, ParseFault> {
     Ok(shown(alloc, own?.into_vec())?)
 }
 
+/// Roots are what is named and there, and own imports those that adapters implement.
 #[test]
-fn own_imports_are_those_that_adapters_implement(rt: HostRuntime) -> Result<(), ParseFault> {
-    assert_told(&rt, own_told(rt.alloc()), "[ImportId(0)]")
+fn what_is_named_and_there_is_told(rt: HostRuntime) -> Result<(), ParseFault> {
+    let roots = "[Func(FuncId(1)), Func(FuncId(0)), Memory(MemoryId(0))]";
+    assert_told(&rt, roots_told(rt.alloc()), roots)?;
+    assert_told(&rt, own_told(rt.alloc()), "[ImportId(0)]")?;
+    assert!(rt; live_count(&[Some(1u8), None, Some(2)]) == 2);
+    assert!(rt; live_count::<u8>(&[]) == 0);
+    Ok(())
 }

@@ -16,7 +16,7 @@
 //! Where all is built, each own import brings in a function or a memory (`memory_of`), and `proofs/OwnPairs.antt` says what it is defined by.
 //!
 //! Stands on `claimed_modules`, `printed_adapters`, `glue_names`, `glue_published`, `glue_exports`, `glue_adapters`, `glue_steps`,
-//! `glue_imports`, `glue_faults`, `glue_scope`, `glue_words`, `glue_shared` and `wasm_core`.
+//! `glue_imports`, `glue_faults`, `glue_words`, `glue_shared` and `wasm_core`.
 #![tactic(auto)]
 
 mod classes;

@@ -35,8 +35,6 @@ mod printed;
 mod qualified;
 mod runs;
 mod statements;
-#[cfg(test)]
-mod tests;
 mod top;
 mod tree;
 

@@ -26,8 +26,6 @@ mod naming;
 pub mod objects;
 mod plain;
 pub mod strings;
-#[cfg(test)]
-mod tests;
 pub mod views;
 
 pub use element::{ElementKind, Width};

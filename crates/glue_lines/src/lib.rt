@@ -23,8 +23,6 @@
 mod form;
 mod grouped;
 mod lines;
-#[cfg(test)]
-mod tests;
 mod texts;
 mod vendor;
 

@@ -7,8 +7,8 @@
 //! `specs/Publishing.antt`). Of each condition, what it says of members of classes and of names that Node and a bundler give is missing: no
 //! description that is built can meet it. Nothing but want of memory fails.
 //!
-//! Stands on `printed_adapters`, `glue_published`, `glue_exports`, `glue_steps`, `glue_imports`, `glue_faults`, `glue_scope`, `glue_words`,
-//! `glue_shared`, `name_set` and `wasm_core`. It knows no stack of operands, and not what is built.
+//! Stands on `printed_adapters`, `glue_published`, `glue_exports`, `glue_steps`, `glue_faults`, `glue_scope`, `glue_words`,
+//! `glue_shared` and `wasm_core`. It knows no stack of operands, and not what is built.
 #![tactic(auto)]
 
 mod brought;

@@ -23,8 +23,8 @@
 //!
 //! The map of names also has those of the exports that give items of the module, which `item_names` draws in a scope of their own.
 //!
-//! Stands on `glue_check`, `glue_names`, `claimed_modules`, `printed_adapters`, `taken_items`, `glue_published`, `glue_exports`,
-//! `glue_imports`, `glue_steps`, `glue_scope`, `glue_words`, `glue_shared` and `wasm_core`. It knows no item.
+//! Stands on `glue_check`, `glue_names`, `taken_items`, `glue_published`, `glue_exports`,
+//! `glue_scope`, `glue_words`, `glue_shared` and `wasm_core`. It knows no item.
 #![tactic(auto)]
 
 mod asked;
@@ -37,8 +37,6 @@ mod named;
 mod naming;
 mod pairs;
 mod reexported;
-#[cfg(test)]
-mod tests;
 
 pub use asked::wanted;
 pub use drawing::name_all;

@@ -19,8 +19,6 @@ mod entry;
 mod order;
 mod places;
 mod ranks;
-#[cfg(test)]
-mod tests;
 mod walks;
 
 pub use entry::{ExportEntry, ExportedNamespace};

@@ -7,9 +7,6 @@
 //! Stands on `glue_run`. Trusted are standard input and output, of whose bytes nothing is known.
 #![tactic(auto)]
 
-#[cfg(test)]
-mod tests;
-
 use glue_run::run_process;
 use std::process::ExitCode;
 

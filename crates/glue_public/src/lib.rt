@@ -22,8 +22,6 @@
 
 mod definitions;
 mod items;
-#[cfg(test)]
-mod tests;
 mod tree;
 
 pub use definitions::{PublicDefinition, described, lone_functions};

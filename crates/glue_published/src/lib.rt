@@ -24,8 +24,6 @@ mod name_set;
 mod named;
 mod reexports;
 mod roots;
-#[cfg(test)]
-mod tests;
 mod things;
 
 pub use clash::thing_clash;

@@ -1,357 +1,246 @@
-//! Where operands stand in parentheses: forms of expressions in each position, beside the text that ECMAScript's grammar
-//! asks for.
+//! Where operands stand in parentheses: expressions in each position, beside the text that ECMAScript's grammar asks for.
 use crate::compare::assert_told;
+use crate::form::{Form, expr_of};
 use glue_inputs::printed;
-use glue_tree::{BinaryOperator, Expr, Stmt, UnaryOperator, words_of};
+use glue_tree::{BinaryOperator, Stmt, UnaryOperator, words_of};
 use std::alloc::{AllocError, Global};
-use std::process::Abort;
-use values::{Boxed, Seq, Text};
+use std::slice;
 
-// What an operand is.
-#[derive(Clone, Copy)]
-enum Form {
-    Name,
-    Number,
-    Negative,
-    Big,
-    Call,
-    OfCall,
-    Object,
-    Counted,
-    Not,
-    Two(BinaryOperator),
-    Choice,
-    Record,
-}
+const X: Form = Form::Local("x");
 
-// Where it stands.
-#[derive(Clone, Copy)]
-enum Position {
-    BeforeDot,
-    BeforeIndex,
-    Called,
-    Made,
-    Counted,
-    Not,
-    Left(BinaryOperator),
-    Right(BinaryOperator),
-    Test,
-    First,
-    Second,
-}
+const Y: Form = Form::Local("y");
 
-fn local(alloc: Global, name: &str) -> Result<Expr, AllocError> {
-    Ok(Expr::Local(Text::from_str(alloc, name)?))
-}
+const A: Form = Form::Local("a");
 
-fn boxed(alloc: Global, name: &str) -> Result<Boxed<Expr>, AllocError> {
-    Boxed::new(alloc, local(alloc, name)?)
-}
+const B: Form = Form::Local("b");
+
+const C: Form = Form::Local("c");
+
+const FIVE: Form = Form::Number(5);
+
+const MINUS_FIVE: Form = Form::Number(-5);
+
+// `-5n`
+const BIG: Form = Form::Big(-5);
 
 // `f(a)`
-fn call(alloc: Global) -> Result<Expr, AllocError> {
-    let mut arguments = Seq::new(alloc);
-    arguments.push(local(alloc, "a")?)?;
-    Ok(Expr::Call(boxed(alloc, "f")?, arguments))
-}
+const CALL: Form = Form::Call(&Form::Local("f"), &[A]);
 
 // `f(a).b`
-fn of_call(alloc: Global) -> Result<Expr, AllocError> {
-    let object = Boxed::new(alloc, call(alloc)?)?;
-    Ok(Expr::Member(object, Text::from_str(alloc, "b")?))
-}
+const OF_CALL: Form = Form::Member(&CALL, "b");
+
+// `new C()`
+const OBJECT: Form = Form::New(&Form::Local("C"));
+
+// `a++`
+const COUNTED: Form = Form::Unary(UnaryOperator::Increment, &A);
+
+// `!a`
+const NOT: Form = Form::Unary(UnaryOperator::Not, &A);
 
 // `a ? b : c`
-fn choice(alloc: Global) -> Result<Expr, AllocError> {
-    let test = boxed(alloc, "a")?;
-    let first = boxed(alloc, "b")?;
-    Ok(Expr::Cond(test, first, boxed(alloc, "c")?))
-}
+const CHOICE: Form = Form::Cond(&A, &B, &C);
 
 // `{ k: a }`
-fn record(alloc: Global) -> Result<Expr, AllocError> {
-    let mut fields = Seq::new(alloc);
-    fields.push((Text::from_str(alloc, "k")?, local(alloc, "a")?))?;
-    Ok(Expr::Record(fields))
-}
+const RECORD: Form = Form::Record("k", &A);
 
-// `a` and `b` round an operator
-fn two(alloc: Global, op: BinaryOperator) -> Result<Expr, AllocError> {
-    let left = boxed(alloc, "a")?;
-    Ok(Expr::Binary(op, left, boxed(alloc, "b")?))
-}
+// `a * b`
+const PRODUCT: Form = Form::Binary(BinaryOperator::Multiply, &A, &B);
 
-fn operand(alloc: Global, form: Form) -> Result<Expr, AllocError> {
-    match form {
-        Form::Name => local(alloc, "a"),
-        Form::Number => Ok(Expr::Num(5)),
-        Form::Negative => Ok(Expr::Num(-5)),
-        Form::Big => Ok(Expr::Big(-5)),
-        Form::Call => call(alloc),
-        Form::OfCall => of_call(alloc),
-        Form::Object => Ok(Expr::New(boxed(alloc, "C")?, Seq::new(alloc))),
-        Form::Counted => Ok(Expr::Unary(UnaryOperator::Increment, boxed(alloc, "a")?)),
-        Form::Not => Ok(Expr::Unary(UnaryOperator::Not, boxed(alloc, "a")?)),
-        Form::Two(op) => two(alloc, op),
-        Form::Choice => choice(alloc),
-        Form::Record => record(alloc),
-    }
-}
+// `a / b`
+const QUOTIENT: Form = Form::Binary(BinaryOperator::Divide, &A, &B);
 
-fn placed(alloc: Global, position: Position, form: Form) -> Result<Expr, AllocError> {
-    let e = Boxed::new(alloc, operand(alloc, form)?)?;
-    match position {
-        Position::BeforeDot => Ok(Expr::Member(e, Text::from_str(alloc, "x")?)),
-        Position::BeforeIndex => Ok(Expr::At(e, boxed(alloc, "x")?)),
-        Position::Called => Ok(Expr::Call(e, Seq::new(alloc))),
-        Position::Made => Ok(Expr::New(e, Seq::new(alloc))),
-        Position::Counted => Ok(Expr::Unary(UnaryOperator::Increment, e)),
-        Position::Not => Ok(Expr::Unary(UnaryOperator::Not, e)),
-        Position::Left(op) => Ok(Expr::Binary(op, e, boxed(alloc, "x")?)),
-        Position::Right(op) => Ok(Expr::Binary(op, boxed(alloc, "x")?, e)),
-        Position::Test => Ok(Expr::Cond(e, boxed(alloc, "x")?, boxed(alloc, "y")?)),
-        Position::First => Ok(Expr::Cond(boxed(alloc, "x")?, e, boxed(alloc, "y")?)),
-        Position::Second => Ok(Expr::Cond(boxed(alloc, "x")?, boxed(alloc, "y")?, e)),
-    }
-}
+// `a + b`
+const SUM: Form = Form::Binary(BinaryOperator::Add, &A, &B);
 
-fn told(alloc: Global, position: Position, form: Form) -> Result<String, AllocError> {
-    let body = [Stmt::Do(placed(alloc, position, form)?)];
-    printed(alloc, words_of(alloc, &body)?)
-}
+// `a && b`
+const BOTH: Form = Form::Binary(BinaryOperator::And, &A, &B);
 
-// what is taken of an expression, called and made
-const TAKEN: &[(Position, Form, &str)] = &[
-    (Position::BeforeDot, Form::Number, "(5).x;"),
-    (Position::BeforeDot, Form::Negative, "(-5).x;"),
-    (Position::BeforeDot, Form::Big, "(-5n).x;"),
-    (Position::BeforeDot, Form::OfCall, "f(a).b.x;"),
-    (Position::BeforeDot, Form::Object, "new C().x;"),
-    (Position::BeforeDot, Form::Counted, "(a++).x;"),
-    (Position::BeforeDot, Form::Record, "({ k: a }.x);"),
-    (Position::BeforeIndex, Form::Number, "5[x];"),
-    (Position::BeforeIndex, Form::Negative, "(-5)[x];"),
-    (Position::BeforeIndex, Form::Big, "(-5n)[x];"),
-    (Position::BeforeIndex, Form::Call, "f(a)[x];"),
-    (Position::BeforeIndex, Form::Not, "(!a)[x];"),
-    (Position::Called, Form::Call, "f(a)();"),
-    (Position::Called, Form::OfCall, "f(a).b();"),
-    (Position::Called, Form::Object, "new C()();"),
-    (Position::Called, Form::Choice, "(a ? b : c)();"),
-    (Position::Called, Form::Record, "({ k: a }());"),
-    (Position::Made, Form::Name, "new a();"),
-    (Position::Made, Form::Call, "new (f(a))();"),
-    (Position::Made, Form::OfCall, "new (f(a).b)();"),
-    (Position::Made, Form::Object, "new new C()();"),
-    (Position::Made, Form::Not, "new (!a)();"),
-    (Position::Made, Form::Record, "new { k: a }();"),
-];
+// `a || b`
+const EITHER: Form = Form::Binary(BinaryOperator::Or, &A, &B);
 
-// operators of one operand
-const ALONE: &[(Position, Form, &str)] = &[
-    (Position::Counted, Form::Name, "a++;"),
-    (Position::Counted, Form::OfCall, "f(a).b++;"),
-    (Position::Not, Form::Call, "!f(a);"),
-    (Position::Not, Form::Not, "!!a;"),
-    (Position::Not, Form::Negative, "!-5;"),
-    (Position::Not, Form::Counted, "!a++;"),
+// `a | b`
+const BITS: Form = Form::Binary(BinaryOperator::BitOr, &A, &B);
+
+// `a ?? b`
+const COALESCED: Form = Form::Binary(BinaryOperator::Coalesce, &A, &B);
+
+// An expression, and the text of the statement that it is.
+const EXPRESSIONS: &[(Form, &str)] = &[
+    // of operands that are operators, those that bind more loosely
     (
-        Position::Not,
-        Form::Two(BinaryOperator::Multiply),
-        "!(a * b);",
+        Form::Binary(BinaryOperator::Multiply, &SUM, &C),
+        "(a + b) * c;",
     ),
-    (Position::Not, Form::Record, "!{ k: a };"),
-];
-
-// operators of two operands
-const BESIDE: &[(Position, Form, &str)] = &[
     (
-        Position::Left(BinaryOperator::Multiply),
-        Form::Negative,
+        Form::Binary(
+            BinaryOperator::Subtract,
+            &A,
+            &Form::Binary(BinaryOperator::Subtract, &B, &C),
+        ),
+        "a - (b - c);",
+    ),
+    (
+        Form::Binary(
+            BinaryOperator::StrictEqual,
+            &Form::Unary(UnaryOperator::TypeOf, &A),
+            &Form::Str("number"),
+        ),
+        "typeof a === \"number\";",
+    ),
+    (
+        Form::Member(&Form::Cond(&A, &Form::Null, &FIVE), "b"),
+        "(a ? null : 5).b;",
+    ),
+    // what is taken of an expression, called and made
+    (Form::Member(&FIVE, "x"), "(5).x;"),
+    (Form::Member(&MINUS_FIVE, "x"), "(-5).x;"),
+    (Form::Member(&BIG, "x"), "(-5n).x;"),
+    (Form::Member(&OF_CALL, "x"), "f(a).b.x;"),
+    (Form::Member(&OBJECT, "x"), "new C().x;"),
+    (Form::Member(&COUNTED, "x"), "(a++).x;"),
+    (Form::Member(&RECORD, "x"), "({ k: a }.x);"),
+    (Form::At(&FIVE, &X), "5[x];"),
+    (Form::At(&MINUS_FIVE, &X), "(-5)[x];"),
+    (Form::At(&BIG, &X), "(-5n)[x];"),
+    (Form::At(&CALL, &X), "f(a)[x];"),
+    (Form::At(&NOT, &X), "(!a)[x];"),
+    (Form::Call(&CALL, &[]), "f(a)();"),
+    (Form::Call(&OF_CALL, &[]), "f(a).b();"),
+    (Form::Call(&OBJECT, &[]), "new C()();"),
+    (Form::Call(&CHOICE, &[]), "(a ? b : c)();"),
+    (Form::Call(&RECORD, &[]), "({ k: a }());"),
+    (Form::New(&A), "new a();"),
+    (Form::New(&CALL), "new (f(a))();"),
+    (Form::New(&OF_CALL), "new (f(a).b)();"),
+    (Form::New(&OBJECT), "new new C()();"),
+    (Form::New(&NOT), "new (!a)();"),
+    (Form::New(&RECORD), "new { k: a }();"),
+    // operators of one operand
+    (Form::Unary(UnaryOperator::Increment, &A), "a++;"),
+    (Form::Unary(UnaryOperator::Increment, &OF_CALL), "f(a).b++;"),
+    (Form::Unary(UnaryOperator::Not, &CALL), "!f(a);"),
+    (Form::Unary(UnaryOperator::Not, &NOT), "!!a;"),
+    (Form::Unary(UnaryOperator::Not, &MINUS_FIVE), "!-5;"),
+    (Form::Unary(UnaryOperator::Not, &COUNTED), "!a++;"),
+    (Form::Unary(UnaryOperator::Not, &PRODUCT), "!(a * b);"),
+    (Form::Unary(UnaryOperator::Not, &RECORD), "!{ k: a };"),
+    // operators of two operands
+    (
+        Form::Binary(BinaryOperator::Multiply, &MINUS_FIVE, &X),
         "-5 * x;",
     ),
     (
-        Position::Left(BinaryOperator::Multiply),
-        Form::Two(BinaryOperator::Divide),
+        Form::Binary(BinaryOperator::Multiply, &QUOTIENT, &X),
         "a / b * x;",
     ),
     (
-        Position::Left(BinaryOperator::Multiply),
-        Form::Two(BinaryOperator::Add),
+        Form::Binary(BinaryOperator::Multiply, &SUM, &X),
         "(a + b) * x;",
     ),
     (
-        Position::Left(BinaryOperator::Add),
-        Form::Record,
+        Form::Binary(BinaryOperator::Add, &RECORD, &X),
         "({ k: a } + x);",
     ),
     (
-        Position::Right(BinaryOperator::Multiply),
-        Form::Two(BinaryOperator::Divide),
+        Form::Binary(BinaryOperator::Multiply, &X, &QUOTIENT),
         "x * (a / b);",
     ),
     (
-        Position::Right(BinaryOperator::Add),
-        Form::Two(BinaryOperator::Divide),
+        Form::Binary(BinaryOperator::Add, &X, &QUOTIENT),
         "x + a / b;",
     ),
     (
-        Position::Right(BinaryOperator::Add),
-        Form::Record,
+        Form::Binary(BinaryOperator::Add, &X, &RECORD),
         "x + { k: a };",
     ),
     (
-        Position::Right(BinaryOperator::Subtract),
-        Form::Negative,
+        Form::Binary(BinaryOperator::Subtract, &X, &MINUS_FIVE),
         "x - -5;",
     ),
+    (Form::Binary(BinaryOperator::And, &BITS, &X), "a | b && x;"),
     (
-        Position::Left(BinaryOperator::And),
-        Form::Two(BinaryOperator::BitOr),
-        "a | b && x;",
-    ),
-    (
-        Position::Left(BinaryOperator::And),
-        Form::Two(BinaryOperator::Or),
+        Form::Binary(BinaryOperator::And, &EITHER, &X),
         "(a || b) && x;",
     ),
     (
-        Position::Right(BinaryOperator::And),
-        Form::Two(BinaryOperator::And),
+        Form::Binary(BinaryOperator::And, &X, &BOTH),
         "x && (a && b);",
     ),
+    (Form::Binary(BinaryOperator::Or, &BOTH, &X), "a && b || x;"),
+    (Form::Binary(BinaryOperator::Or, &X, &BOTH), "x || a && b;"),
     (
-        Position::Left(BinaryOperator::Or),
-        Form::Two(BinaryOperator::And),
-        "a && b || x;",
-    ),
-    (
-        Position::Right(BinaryOperator::Or),
-        Form::Two(BinaryOperator::And),
-        "x || a && b;",
-    ),
-    (
-        Position::Right(BinaryOperator::Or),
-        Form::Choice,
+        Form::Binary(BinaryOperator::Or, &X, &CHOICE),
         "x || (a ? b : c);",
     ),
-];
-
-// `??`, which takes neither `&&` nor `||` beside it
-const COALESCED: &[(Position, Form, &str)] = &[
+    // `??`, which takes neither `&&` nor `||` beside it
     (
-        Position::Left(BinaryOperator::Coalesce),
-        Form::Two(BinaryOperator::And),
+        Form::Binary(BinaryOperator::Coalesce, &BOTH, &X),
         "(a && b) ?? x;",
     ),
     (
-        Position::Left(BinaryOperator::Coalesce),
-        Form::Two(BinaryOperator::Or),
+        Form::Binary(BinaryOperator::Coalesce, &EITHER, &X),
         "(a || b) ?? x;",
     ),
     (
-        Position::Left(BinaryOperator::Coalesce),
-        Form::Two(BinaryOperator::BitOr),
+        Form::Binary(BinaryOperator::Coalesce, &BITS, &X),
         "a | b ?? x;",
     ),
     (
-        Position::Left(BinaryOperator::Coalesce),
-        Form::Two(BinaryOperator::Coalesce),
+        Form::Binary(BinaryOperator::Coalesce, &COALESCED, &X),
         "a ?? b ?? x;",
     ),
     (
-        Position::Right(BinaryOperator::Coalesce),
-        Form::Two(BinaryOperator::And),
+        Form::Binary(BinaryOperator::Coalesce, &X, &BOTH),
         "x ?? (a && b);",
     ),
     (
-        Position::Right(BinaryOperator::Coalesce),
-        Form::Two(BinaryOperator::Or),
+        Form::Binary(BinaryOperator::Coalesce, &X, &EITHER),
         "x ?? (a || b);",
     ),
     (
-        Position::Right(BinaryOperator::Coalesce),
-        Form::Two(BinaryOperator::BitOr),
+        Form::Binary(BinaryOperator::Coalesce, &X, &BITS),
         "x ?? a | b;",
     ),
     (
-        Position::Right(BinaryOperator::Coalesce),
-        Form::Two(BinaryOperator::Coalesce),
+        Form::Binary(BinaryOperator::Coalesce, &X, &COALESCED),
         "x ?? (a ?? b);",
     ),
     (
-        Position::Left(BinaryOperator::Or),
-        Form::Two(BinaryOperator::Coalesce),
+        Form::Binary(BinaryOperator::Or, &COALESCED, &X),
         "(a ?? b) || x;",
     ),
     (
-        Position::Right(BinaryOperator::Or),
-        Form::Two(BinaryOperator::Coalesce),
+        Form::Binary(BinaryOperator::Or, &X, &COALESCED),
         "x || (a ?? b);",
     ),
     (
-        Position::Left(BinaryOperator::And),
-        Form::Two(BinaryOperator::Coalesce),
+        Form::Binary(BinaryOperator::And, &COALESCED, &X),
         "(a ?? b) && x;",
     ),
     (
-        Position::Right(BinaryOperator::And),
-        Form::Two(BinaryOperator::Coalesce),
+        Form::Binary(BinaryOperator::And, &X, &COALESCED),
         "x && (a ?? b);",
     ),
+    // the parts of a choice
+    (Form::Cond(&CHOICE, &X, &Y), "(a ? b : c) ? x : y;"),
+    (Form::Cond(&COALESCED, &X, &Y), "a ?? b ? x : y;"),
+    (Form::Cond(&RECORD, &X, &Y), "({ k: a } ? x : y);"),
+    (Form::Cond(&X, &EITHER, &Y), "x ? a || b : y;"),
+    (Form::Cond(&X, &Y, &RECORD), "x ? y : { k: a };"),
+    (Form::Cond(&X, &CHOICE, &Y), "x ? (a ? b : c) : y;"),
+    (Form::Cond(&X, &Y, &CHOICE), "x ? y : (a ? b : c);"),
 ];
 
-// the parts of a choice
-const CHOSEN: &[(Position, Form, &str)] = &[
-    (Position::Test, Form::Choice, "(a ? b : c) ? x : y;"),
-    (
-        Position::Test,
-        Form::Two(BinaryOperator::Coalesce),
-        "a ?? b ? x : y;",
-    ),
-    (Position::Test, Form::Record, "({ k: a } ? x : y);"),
-    (
-        Position::First,
-        Form::Two(BinaryOperator::Or),
-        "x ? a || b : y;",
-    ),
-    (Position::Second, Form::Record, "x ? y : { k: a };"),
-    (Position::First, Form::Choice, "x ? (a ? b : c) : y;"),
-    (Position::Second, Form::Choice, "x ? y : (a ? b : c);"),
-];
+fn told(alloc: Global, form: &Form) -> Result<String, AllocError> {
+    let stmt = Stmt::Do(expr_of(alloc, form)?);
+    printed(alloc, words_of(alloc, slice::from_ref(&stmt))?)
+}
 
-fn assert_all<H: Abort>(
-    rt: &H,
-    alloc: Global,
-    cases: &[(Position, Form, &str)],
-) -> Result<(), AllocError> {
-    for (position, form, want) in cases {
-        assert_told(rt, told(alloc, *position, *form), want)?;
+#[test]
+fn operands_stand_in_parentheses_where_the_order_asks(rt: HostRuntime) -> Result<(), AllocError> {
+    for (form, text) in EXPRESSIONS {
+        assert_told(&rt, told(rt.alloc(), form), text)?;
     }
     Ok(())
-}
-
-#[test]
-fn what_is_taken_stands_in_parentheses(rt: HostRuntime) -> Result<(), AllocError> {
-    assert_all(&rt, rt.alloc(), TAKEN)
-}
-
-#[test]
-fn operands_of_one_operator(rt: HostRuntime) -> Result<(), AllocError> {
-    assert_all(&rt, rt.alloc(), ALONE)
-}
-
-#[test]
-fn operands_of_operators_of_two(rt: HostRuntime) -> Result<(), AllocError> {
-    assert_all(&rt, rt.alloc(), BESIDE)
-}
-
-#[test]
-fn coalescing_mixes_with_no_logical_operator(rt: HostRuntime) -> Result<(), AllocError> {
-    assert_all(&rt, rt.alloc(), COALESCED)
-}
-
-#[test]
-fn parts_of_choices(rt: HostRuntime) -> Result<(), AllocError> {
-    assert_all(&rt, rt.alloc(), CHOSEN)
 }

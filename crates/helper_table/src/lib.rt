@@ -22,8 +22,6 @@ mod kinds;
 mod parts;
 mod reading;
 mod table;
-#[cfg(test)]
-mod tests;
 
 pub use asked::close_over;
 pub use closing::close;

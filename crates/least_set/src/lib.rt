@@ -8,7 +8,5 @@
 
 mod found;
 mod graph;
-#[cfg(test)]
-mod tests;
 
 pub use graph::{Graph, search};

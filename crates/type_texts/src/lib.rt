@@ -11,8 +11,6 @@
 #![tactic(auto)]
 
 mod notes;
-#[cfg(test)]
-mod tests;
 mod texts;
 
 pub use notes::signature_lines;

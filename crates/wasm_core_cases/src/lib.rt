@@ -1,14 +1,9 @@
-//! Tests of `wasm_core`, `wasm_emission` and `wasm_collect`: modules that are read and edited, written, and collected.
+//! Tests of `values` and `packed_ops`: containers, and operators that no file has, which no row of `module_rows` can write.
 #![tactic(auto)]
 
 #[cfg(test)]
-mod collect;
-#[cfg(test)]
 mod compare;
 #[cfg(test)]
-mod edit;
-pub mod inputs;
+mod containers;
 #[cfg(test)]
-mod module;
-#[cfg(test)]
-mod work;
+mod packed;

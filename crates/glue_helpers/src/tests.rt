@@ -1,2 +1,0 @@
-//! Tests of the texts.
-mod helper_texts;

@@ -1,4 +1,0 @@
-mod clashes;
-mod conditions;
-mod described;
-mod namespaces;

@@ -1,5 +1,0 @@
-use Rattle.std.proofs.Common.{rules}
-use Rattle.wasm_inputs.proofs.joined_behind.Goals as goal
-
-pub returns : goal.returns
-returns c = search rules
