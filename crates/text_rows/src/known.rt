@@ -81,14 +81,24 @@ fn described_keys(call: &str) -> &'static [&'static str] {
     }
 }
 
+fn is_one(keys: &[&str], key: &str) -> bool {
+    for known in keys {
+        if *known == key {
+            return true;
+        }
+    }
+    false
+}
+
 fn is_known(call: &str, key: &str) -> bool {
+    if key == "name" || key == "call" {
+        return true;
+    }
+    if is_one(text_keys(call), key) || is_one(tree_keys(call), key) {
+        return true;
+    }
     let described = described_keys(call);
-    key == "name"
-        || key == "call"
-        || text_keys(call).contains(&key)
-        || tree_keys(call).contains(&key)
-        || described.contains(&key)
-        || !described.is_empty() && DESCRIBED.contains(&key)
+    is_one(described, key) || !described.is_empty() && is_one(DESCRIBED, key)
 }
 
 /// The first key of a row that nothing reads in rows of this call.
