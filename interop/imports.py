@@ -11,6 +11,7 @@ The program is the one that the environment variable GLUE names, or else the one
 3.9. It is no part of the gate.
 """
 
+import itertools
 import json
 import os
 import subprocess
@@ -54,7 +55,7 @@ DRAWN = {
 }
 
 # The names of the exports of items.
-EXPORTED = ["memory", "table"]
+EXPORTED = {"memory": "memory", "functions": "table"}
 
 # What makes an operand of a 32-bit integer, by the letter that says how it is read.
 MADE = {
@@ -69,12 +70,21 @@ def is_plain(row):
     """Whether the import of a row can stand in the module that is made here."""
     if any(key in row for key in ("target", "split", "references", "slots")):
         return False
-    return row.get("drawn", "Widget") in DRAWN and row.get("export", "memory") in EXPORTED
+    exports = row.get("exports", EXPORTED)
+    return row.get("drawn", "Widget") in DRAWN and all(exports[kind] == EXPORTED[kind] for kind in EXPORTED)
+
+
+def called(row):
+    """The imports that a row is compared with: what only hands on does so with any operands and results."""
+    if row["call"] == "import_text":
+        return [row]
+    calls = itertools.product([[], ["i"], ["i", "i"]], [False, True])
+    return [{**row, "kind": "normal", "variadic": False, "args": args, "result": result} for args, result in calls]
 
 
 def read_rows():
     with (HERE.parent / "crates/text_rows/data/import_texts.jsonl").open(encoding="utf-8") as lines:
-        return [json.loads(line) for line in lines]
+        return [row for line in lines for row in called(json.loads(line))]
 
 
 def adapters(case, place):
