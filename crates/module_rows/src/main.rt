@@ -18,6 +18,9 @@
 //! With `call` it is one of
 //!
 //! - `sections`: the frames of `file`, with `fault`, `sections` (as printed) and `count`.
+//! - `split_debug_info`: `file` without its debugging information, which is told to be at `url`; `describe`: `file` with the description
+//!   `description` (bytes), with `fault` or `bytes`: what is left.
+//! - `has_description`: whether `file` has a description, `described`, with `fault`.
 //! - `lists`: the lists of `file`, with `fault` and `lists` (as printed).
 //! - `names`, `producers`: what the content `bytes` of such a custom section holds, `answer` as printed; of names with `funcs` functions.
 //! - `features`: whether the content `bytes` lists `feature` with a plus, `listed`.
@@ -33,7 +36,7 @@
 //! - `value_type`: the `type` of a `code`, as printed, and whether it `is_reference`.
 //! - `emit_sections`: `answer`, as printed, where `sections` (id and content) are written whose content may have `longest` bytes.
 //!
-//! Promised is that it returns. It stands on `rows`, and calls `wasm_core`, `wasm_emission`, `wasm_collect` and the crates of bytes below
+//! Promised is that it returns. It stands on `rows`, and calls `wasm_core`, `wasm_emission`, `wasm_collect`, `wasm_sections` and the crates of bytes below
 //! them.
 #![tactic(auto)]
 
@@ -45,6 +48,7 @@ mod edits;
 mod module;
 mod numbers;
 mod reader;
+mod replaced;
 mod told;
 mod types;
 mod writer;
@@ -62,6 +66,9 @@ impl Judge for ModuleRows {
         match opt_text_at(row, "call")? {
             None => module::difference(alloc, row),
             Some("sections") => contents::sections_difference(alloc, row),
+            Some("split_debug_info") => replaced::split_difference(alloc, row),
+            Some("describe") => replaced::described_difference(alloc, row),
+            Some("has_description") => replaced::has_difference(alloc, row),
             Some("lists") => contents::lists_difference(alloc, row),
             Some("names") => contents::names_difference(alloc, row),
             Some("producers") => contents::producers_difference(alloc, row),

@@ -1,0 +1,3 @@
+mod Symbols
+mod Numbers
+mod Steps

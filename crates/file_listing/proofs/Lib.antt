@@ -1,0 +1,4 @@
+pub mod Lacking
+pub mod Headings
+pub mod Bodies
+pub mod Entries

@@ -1,0 +1,2 @@
+pub mod FramesAgain
+pub mod WrittenFrames
